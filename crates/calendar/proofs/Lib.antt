@@ -1,0 +1,4 @@
+pub mod DateParts
+pub mod Days
+pub mod Lengths
+pub mod YearDays

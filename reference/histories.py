@@ -1,0 +1,1246 @@
+"""Random histories from a seed, and their answers by the reference (reading.py).
+
+    python3 reference/histories.py --out DIR --histories N --seed S
+
+writes DIR/data/h000, h001, .. (a text file for each history) and DIR/stdout (the answers to all of them, in order), and prints how often each
+answer, each refusal and each corner was met. A file is decimal numbers: `START COUNT`, then a line for each call, its kind first:
+
+    0 P ROLE                     admit                  5 P           annual run
+    1 P PLACE AMOUNT             lodge cash             6 DAY BUDGET  advance
+    2 P PLACE AMOUNT FIRST LAST  lodge a letter         7 P           statement
+    3 P PLACE AMOUNT             release                8             the count of calls made
+    4 P MONTH K F1 .. FK         settle
+
+Every history ends with a statement of each participant admitted by then and the question for the count. The answers are those to the text as
+written: `history START`, then six numbers for each call. Corners are counted by what a call met, not by what it was aimed at.
+"""
+import argparse
+import collections
+import os
+import random
+import sys
+import time
+
+sys.dont_write_bytecode = True
+
+from reading import LAST_DAY, MINIMUM, MOST, History, date, day_number, in_annual_days, is_september, month
+
+ANSWERS = {0: 'refused', 1: 'done', 2: 'called', 3: 'covered', 4: 'recorded only', 5: 'annual amount', 6: 'days opened', 7: 'statement',
+           8: 'count of calls'}
+NAMES = {0: 'admit', 1: 'lodge', 2: 'lodge', 3: 'release', 4: 'settle', 5: 'annual', 6: 'advance', 7: 'statement'}
+ORDER = {'admit': (1, 3, 4), 'lodge': (1, 2, 5, 6, 8, 9), 'release': (1, 2, 5, 7, 8, 15, 16), 'settle': (1, 2, 12, 10, 11, 13),
+         'annual': (1, 2, 14), 'advance': (17,), 'statement': (1, 2)}
+MOST_CALLS = 400     # a history stays below each of these three
+MOST_BYTES = 60000
+MOST_FIGURES = 4000
+MOST_DAYS = 1500     # opened in a history of few participants
+WORD, HALF = 2 ** 64 - 1, 2 ** 32 - 1
+
+CORNERS = '''
+start: around 1 September
+start: around 20 September
+start: around 1 October
+start: around a month's end
+start: day 0
+start: days 1 to 70
+start: days 29,200 to 29,219
+advance: a single day
+advance: 100 days and more
+advance: B = 0
+advance: T = t
+advance: T = t on 29,219
+advance: T before t (17)
+advance: T before t and B = 0 (17)
+advance: T above 29,219 (17)
+advance: T above 29,219, B would stop earlier (17)
+advance: stopped by the budget
+advance: B = T - t exactly
+advance: B above T - t
+advance: B of 2^32 and more
+advance: reaches 29,219
+advance: ends on 30 September
+advance: ends on 1 October
+advance: crosses 1 October
+advance: crosses two Octobers
+advance: a month's end is crossed by one day
+opening: one call ends
+opening: several calls end at once
+opening: a call of 20 September ends on 1 October
+opening: next amount takes effect, firm amount higher
+opening: next amount takes effect, firm amount lower
+opening: next amount takes effect, firm amount the same
+opening: next amount 0 takes effect
+opening: next amount takes effect, a second one for the participant
+opening: no next amount on 1 October, firm amount above 0
+opening: a letter lapses
+opening: a letter lapses and a shortfall arises
+opening: a letter begins
+opening: a letter begins and a shortfall ends
+charge: shortfall below 100,000,000
+charge: shortfall of 100,000,000
+charge: shortfall above 100,000,000
+charge: both kinds for one participant
+charge: shortfall of 1
+charge: covered to the cent
+charge: accrued above 2^53
+admit: minimum above 0
+admit: minimum 0
+admit: admitted twice (3)
+admit: role 6 and above (4)
+admit: on 20 or 21 September
+admit: on 1 October
+admit: last free day above 29,219
+lodge: amount 1
+lodge: amount 10^12
+lodge: amount 0 (8)
+lodge: amount 10^12 + 1 (8)
+lodge: position 7
+lodge: position 8 and above (5)
+lodge: at a position emptied by a release
+lodge: at a position emptied by a lapse
+lodge: at a letter on its last day (6)
+lodge: at a letter that has not begun (6)
+lodge: a letter's last day today
+lodge: a letter's last day tomorrow
+lodge: a letter's last day 29,219
+lodge: a letter of one day
+lodge: a letter that begins tomorrow
+lodge: a letter that begins later
+lodge: a letter's first day after its last (9)
+lodge: a letter's last day yesterday (9)
+lodge: a letter's last day above 29,219 (9)
+lodge: ends a shortfall exactly
+lodge: leaves a shortfall of one cent
+release: leaves the limit exactly, set by the firm amount
+release: leaves the limit exactly, set by an open call
+release: leaves the limit exactly, set by the next amount
+release: one cent below the limit, set by the firm amount (16)
+release: one cent below the limit, set by an open call (16)
+release: one cent below the limit, set by the next amount (16)
+release: limit 0
+release: the sum of the open calls would have refused it
+release: cash whole
+release: cash in part
+release: a letter whole
+release: a letter on its last day
+release: a letter that has not begun
+release: a letter that has not begun, cover too small (16)
+release: a letter in part (15)
+release: more than held (15)
+release: one cent more than held (15)
+release: at a lapsed letter (7)
+release: at an empty position (7)
+release: amount 0 (8)
+settle: M = P - 14
+settle: M = P - 15 (12)
+settle: M = P - 2
+settle: M = P - 1 (12)
+settle: P below 2 (12)
+settle: M above 959 (12)
+settle: September, M = P - 2, recorded only
+settle: September, M = P - 2, would have called
+settle: a total replaced
+settle: before the admission's month
+settle: 5 figures
+settle: 16 figures
+settle: 4 figures (10)
+settle: 17 figures (10)
+settle: no figures (10)
+settle: a figure of 10^12 or -10^12
+settle: a figure just beyond (11)
+settle: a figure beyond 2^62 (11)
+settle: figures out of range whose sum is in it (11)
+settle: total above 10^12
+check: E = D
+check: E = D + 1
+check: 20% exactly, called
+check: 20% exactly, not called
+check: one cent below 20%, above D
+check: E = 0
+check: E below 0
+check: D = 0, E = 0 or below
+check: D = 0, E = 1 called
+check: E equal to the firm amount
+check: E one above the firm amount
+check: E equal to an open call
+check: E one above the largest open call, called
+check: only the tolerance keeps from calling
+check: only the firm amount keeps from calling
+check: only an open call keeps from calling
+check: a letter that has not begun would have covered it
+check: fourth open call made
+check: fifth open call refused (13)
+check: four open, covered
+check: four open, recorded only
+check: called again in one day
+check: last free day above 29,219
+check: last free day 29,219
+annual: 1 September
+annual: 10 September
+annual: 31 August (14)
+annual: 11 September (14)
+annual: elsewhere (14)
+annual: 0 months recorded
+annual: 1 month recorded
+annual: 2 to 5 months recorded
+annual: 6 to 11 months recorded
+annual: 12 months recorded
+annual: largest total in P - 14
+annual: largest total in P - 3
+annual: a larger total in P - 2 left out
+annual: a larger total in P - 15 left out
+annual: raised to the minimum
+annual: all totals below 0
+annual: next amount 0
+annual: below the firm amount
+annual: a second run, amount higher
+annual: a second run, amount lower
+annual: September 2020
+people: above 63 (1)
+people: not admitted (2)
+people: participant 63
+people: more than 5 admitted
+people: all 64 admitted
+causes: more than one at once
+'''.strip().split('\n')
+
+
+def apply(book, kind, args):
+    """The reference's answer to a call."""
+    if kind == 0:
+        return book.admit(*args)
+    if kind == 1:
+        p, place, amount = args
+        return book.lodge(p, place, 'cash', amount)
+    if kind == 2:
+        p, place, amount, first, last = args
+        return book.lodge(p, place, 'letter', amount, first, last)
+    if kind == 3:
+        return book.release(*args)
+    if kind == 4:
+        p, m, _, *figures = args
+        return book.settle(p, m, figures)
+    if kind == 5:
+        return book.annual(*args)
+    if kind == 6:
+        return book.advance(*args)
+    if kind == 7:
+        return book.statement(*args)
+    return book.calls_made()
+
+
+def read(text):
+    """The answers to a history's text, as DIR/stdout has them."""
+    lines = [[int(word) for word in line.split(' ')] for line in text.splitlines()]
+    (start, count), calls = lines[0], lines[1:]
+    assert count == len(calls)
+    book = History(start)
+    return f'history {start}\n' + ''.join(' '.join(map(str, apply(book, kind, args))) + '\n' for kind, *args in calls)
+
+
+def causes(book, kind, args):
+    """Every cause of refusal that holds of a call, as far as it can be judged beside the others; the reference gives the first in order."""
+    if kind == 8:
+        return []
+    if kind == 6:
+        return [17] if args[0] > LAST_DAY or args[0] < book.today else []
+    t, p = book.today, args[0]
+    who = book.people.get(p)
+    holds = {1: p > 63, 2: p <= 63 and who is None, 3: who is not None}
+    if kind == 0:
+        holds[4] = args[1] > 5
+    if kind in (1, 2, 3):
+        place, amount = args[1], args[2]
+        held = who.position(place, t) if who and place <= 7 else None
+        holds[5], holds[6], holds[7] = place > 7, held is not None, who is not None and place <= 7 and held is None
+        holds[8] = not 1 <= amount <= MOST
+        if kind == 2:
+            holds[9] = not (args[3] <= args[4] and t <= args[4] <= LAST_DAY)
+        if kind == 3 and held:
+            what, most, first, last = held
+            holds[15] = amount > most or (what == 'letter' and amount < most)
+            counts = what == 'cash' or first <= t <= last
+            holds[16] = who.cover(t) - (amount if counts else 0) < who.release_floor(t)
+    if kind == 4:
+        m, k, figures = args[1], args[2], args[3:]
+        holds[12] = not month(t) - 14 <= m <= month(t) - 2
+        holds[10] = k < 5 or k > 16
+        holds[11] = any(x < -MOST or x > MOST for x in figures)
+        holds[13] = who is not None and len(who.open_calls(t)) > 3 and who.would_call(t, m, figures)
+    if kind == 5:
+        holds[14] = not (date(t).month == 9 and date(t).day <= 10)
+    return [n for n in ORDER[NAMES[kind]] if holds.get(n)]
+
+
+class Full(Exception):
+    """The history has as many calls, bytes or figures as it may."""
+
+
+class Recorder:
+    """A history in the making: makes calls on the reference, keeps their text, and counts what they met."""
+
+    def __init__(self, start, calls):
+        self.start, self.calls = start, calls
+        self.book = History(start)
+        self.lines, self.bytes, self.figures = [], 0, 0
+        self.kinds, self.refusals, self.pairs, self.corners = (collections.Counter() for _ in range(4))
+        self.met_start()
+
+    @property
+    def t(self):
+        return self.book.today
+
+    def met(self, corner, when=True):
+        if when:
+            self.corners[corner] += 1
+
+    def call(self, kind, *args):
+        """Makes a call that adds nothing to watch for; the methods below watch."""
+        line = ' '.join(map(str, (kind,) + args))
+        if len(self.lines) >= self.calls or self.bytes + len(line) + 1 > MOST_BYTES - 2000 \
+                or (kind == 4 and self.figures + args[2] >= MOST_FIGURES):
+            raise Full()
+        held = causes(self.book, kind, args)
+        answer = apply(self.book, kind, args)
+        assert (answer[0] == 0) == (held != []) and (held == [] or answer[1] == held[0]), (line, answer, held)
+        self.lines.append(line)
+        self.bytes += len(line) + 1
+        self.figures += args[2] if kind == 4 else 0
+        self.kinds[answer[0]] += 1
+        if held:
+            self.refusals[held[0]] += 1
+            self.met('people: above 63 (1)', held[0] == 1)
+            self.met('people: not admitted (2)', held[0] == 2)
+            self.met('causes: more than one at once', len(held) > 1)
+            for other in held[1:]:
+                self.pairs[NAMES[kind], held[0], other] += 1
+        return answer
+
+    def text(self):
+        return f'{self.start} {len(self.lines)}\n' + ''.join(line + '\n' for line in self.lines)
+
+    def finish(self):
+        """The closing statements and count."""
+        self.met('people: more than 5 admitted', len(self.book.people) > 5)
+        self.met('people: all 64 admitted', len(self.book.people) == 64)
+        self.calls = MOST_CALLS - 1
+        for p in sorted(self.book.people):
+            self.call(7, p)
+        self.call(8)
+
+    # -- the calls, with what they met -----------------------------------------------------------------------------------------------------
+
+    def met_start(self):
+        t = self.start
+        d = date(t)
+        self.met('start: around 1 September', (d.month, d.day) in ((8, 30), (8, 31), (9, 1), (9, 2)))
+        self.met('start: around 20 September', d.month == 9 and 18 <= d.day <= 22)
+        self.met('start: around 1 October', (d.month, d.day) in ((9, 29), (9, 30), (10, 1), (10, 2)))
+        self.met("start: around a month's end", month(max(t - 1, 0)) != month(min(t + 2, LAST_DAY)))
+        self.met('start: day 0', t == 0)
+        self.met('start: days 1 to 70', 1 <= t <= 70)
+        self.met('start: days 29,200 to 29,219', t >= 29200)
+
+    def admit(self, p, role):
+        ok = self.call(0, p, role)
+        if ok[0] == 0:
+            self.met('admit: admitted twice (3)', ok[1] == 3)
+            self.met('admit: role 6 and above (4)', ok[1] == 4)
+            return ok
+        d = date(self.t)
+        self.met('admit: minimum above 0' if MINIMUM[role] else 'admit: minimum 0')
+        self.met('admit: on 20 or 21 September', d.month == 9 and d.day in (20, 21) and MINIMUM[role] > 0)
+        self.met('admit: on 1 October', d.month == 10 and d.day == 1)
+        self.met('admit: last free day above 29,219', MINIMUM[role] > 0 and self.t + 10 > LAST_DAY)
+        self.met('people: participant 63', p == 63)
+        return ok
+
+    def lodge(self, p, place, amount, first=None, last=None):
+        t, who, letter = self.t, self.book.people.get(p), first is not None
+        before = who and [args for _, kind, args in who.acts if kind == 'lodge' and args[0] == place]
+        held = who and place <= 7 and who.position(place, t)
+        short = who and who.firm(t) - who.cover(t)
+        ok = self.call(2, p, place, amount, first, last) if letter else self.call(1, p, place, amount)
+        if ok[0] == 0:
+            self.met('lodge: amount 0 (8)', ok[1] == 8 and amount == 0)
+            self.met('lodge: amount 10^12 + 1 (8)', ok[1] == 8 and amount == MOST + 1)
+            self.met('lodge: position 8 and above (5)', ok[1] == 5)
+            if ok[1] == 6:
+                self.met('lodge: at a letter on its last day (6)', held[0] == 'letter' and held[3] == t)
+                self.met('lodge: at a letter that has not begun (6)', held[0] == 'letter' and held[2] > t)
+            if ok[1] == 9:
+                self.met("lodge: a letter's first day after its last (9)", first > last and t <= last <= LAST_DAY)
+                self.met("lodge: a letter's last day yesterday (9)", first <= last == t - 1)
+                self.met("lodge: a letter's last day above 29,219 (9)", first <= last and last > LAST_DAY)
+            return ok
+        self.met('lodge: amount 1', amount == 1)
+        self.met('lodge: amount 10^12', amount == MOST)
+        self.met('lodge: position 7', place == 7)
+        if before:
+            lapsed = before[-1][1] == 'letter' and before[-1][4] < t
+            self.met('lodge: at a position emptied by a lapse' if lapsed else 'lodge: at a position emptied by a release')
+        left = who.firm(t) - who.cover(t)
+        self.met('lodge: ends a shortfall exactly', short > 0 and left == 0)
+        self.met('lodge: leaves a shortfall of one cent', short > 1 and left == 1)
+        if letter:
+            self.met("lodge: a letter's last day today", last == t)
+            self.met("lodge: a letter's last day tomorrow", last == t + 1)
+            self.met("lodge: a letter's last day 29,219", last == LAST_DAY)
+            self.met('lodge: a letter of one day', first == last)
+            self.met('lodge: a letter that begins tomorrow', first == t + 1)
+            self.met('lodge: a letter that begins later', first > t + 1)
+        return ok
+
+    def release(self, p, place, amount):
+        t, who = self.t, self.book.people.get(p)
+        if not who or place > 7:
+            return self.call(3, p, place, amount)
+        lodged = [args for _, kind, args in who.acts if kind == 'lodge' and args[0] == place]
+        held, cover, floor = who.position(place, t), who.cover(t), who.release_floor(t)
+        firm, coming, calls = who.firm(t), who.next_amount(t), who.open_calls(t)
+        ok = self.call(3, p, place, amount)
+        ahead = held and held[0] == 'letter' and held[2] > t
+        left = cover - (0 if ahead else amount)
+        by = ('the firm amount' if firm == floor else 'an open call' if floor in calls else 'the next amount')
+        alone = (firm, coming or 0, max(calls, default=0)).count(floor) == 1 and floor > 0
+        if ok[0] == 0:
+            self.met(f'release: one cent below the limit, set by {by} (16)', ok[1] == 16 and left == floor - 1 and alone)
+            self.met('release: a letter that has not begun, cover too small (16)', ok[1] == 16 and ahead)
+            self.met('release: a letter in part (15)', ok[1] == 15 and held[0] == 'letter' and amount < held[1])
+            self.met('release: more than held (15)', ok[1] == 15 and amount > held[1])
+            self.met('release: one cent more than held (15)', ok[1] == 15 and amount == held[1] + 1)
+            if ok[1] == 7:
+                lapsed = lodged and lodged[-1][1] == 'letter' and lodged[-1][4] < t
+                self.met('release: at a lapsed letter (7)' if lapsed else 'release: at an empty position (7)')
+            self.met('release: amount 0 (8)', ok[1] == 8 and amount == 0)
+            return ok
+        self.met(f'release: leaves the limit exactly, set by {by}', left == floor and alone)
+        self.met('release: limit 0', floor == 0)
+        self.met('release: the sum of the open calls would have refused it', sum(calls) > left)
+        if held[0] == 'cash':
+            self.met('release: cash whole' if amount == held[1] else 'release: cash in part')
+        else:
+            self.met('release: a letter whole')
+            self.met('release: a letter on its last day', held[3] == t)
+            self.met('release: a letter that has not begun', ahead)
+        return ok
+
+    def settle(self, p, m, figures):
+        t, who, k, e, month_now = self.t, self.book.people.get(p), len(figures), sum(figures), month(self.t)
+        if not who:
+            return self.call(4, p, m, k, *figures)
+        d, firm, calls, old = who.cover(t), who.firm(t), who.open_calls(t), who.total(m)
+        ahead = sum(held[1] for held in (who.position(place, t) for place in range(8)) if held and held[0] == 'letter' and held[2] > t)
+        ok = self.call(4, p, m, k, *figures)
+        if ok[0] == 0:
+            self.met('settle: M = P - 15 (12)', ok[1] == 12 and m == month_now - 15)
+            self.met('settle: M = P - 1 (12)', ok[1] == 12 and m == month_now - 1)
+            self.met('settle: P below 2 (12)', ok[1] == 12 and month_now < 2)
+            self.met('settle: M above 959 (12)', ok[1] == 12 and m > 959)
+            self.met('settle: 4 figures (10)', ok[1] == 10 and k == 4)
+            self.met('settle: 17 figures (10)', ok[1] == 10 and k == 17)
+            self.met('settle: no figures (10)', ok[1] == 10 and k == 0)
+            self.met('settle: a figure just beyond (11)', ok[1] == 11 and max(abs(x) for x in figures) == MOST + 1)
+            self.met('settle: a figure beyond 2^62 (11)', ok[1] == 11 and max(abs(x) for x in figures) > 2 ** 62)
+            self.met('settle: figures out of range whose sum is in it (11)', ok[1] == 11 and abs(e) <= MOST)
+            self.met('check: fifth open call refused (13)', ok[1] == 13)
+            return ok
+        self.met('settle: M = P - 14', m == month_now - 14)
+        self.met('settle: M = P - 2', m == month_now - 2)
+        self.met('settle: a total replaced', old is not None)
+        self.met("settle: before the admission's month", m < month(who.day))
+        self.met('settle: 5 figures', k == 5)
+        self.met('settle: 16 figures', k == 16)
+        self.met('settle: a figure of 10^12 or -10^12', MOST in figures or -MOST in figures)
+        self.met('settle: total above 10^12', abs(e) > MOST)
+        rules = (5 * e >= 6 * d, e > firm, all(e > amount for amount in calls))
+        if m == month_now - 2 and is_september(month_now):
+            self.met('settle: September, M = P - 2, recorded only')
+            self.met('settle: September, M = P - 2, would have called', e > d and all(rules))
+        if ok[0] == 4:
+            self.met('check: four open, recorded only', len(calls) == 4)
+            return ok
+        made = ok[0] == 2
+        self.met('check: E = D', e == d)
+        self.met('check: E = D + 1', e == d + 1)
+        if 5 * e == 6 * d and d > 0:
+            self.met('check: 20% exactly, called' if made else 'check: 20% exactly, not called')
+        self.met('check: one cent below 20%, above D', d < e and 5 * e < 6 * d <= 5 * (e + 1))
+        self.met('check: E = 0', e == 0)
+        self.met('check: E below 0', e < 0)
+        self.met('check: D = 0, E = 0 or below', d == 0 and e <= 0)
+        self.met('check: D = 0, E = 1 called', d == 0 and e == 1 and made)
+        self.met('check: E equal to the firm amount', e == firm)
+        self.met('check: E one above the firm amount', e == firm + 1)
+        self.met('check: E equal to an open call', e in calls)
+        self.met('check: E one above the largest open call, called', calls != [] and e == max(calls) + 1 and made)
+        self.met('check: only the tolerance keeps from calling', rules == (False, True, True))
+        self.met('check: only the firm amount keeps from calling', rules == (True, False, True))
+        self.met('check: only an open call keeps from calling', rules == (True, True, False))
+        self.met('check: a letter that has not begun would have covered it', made and d + ahead >= e)
+        self.met('check: fourth open call made', made and len(calls) == 3)
+        self.met('check: four open, covered', not made and len(calls) == 4)
+        again = [day for day, kind, args in who.acts[:-1] if kind == 'settle' and args[2]]
+        self.met('check: called again in one day', made and again != [] and again[-1] == t)
+        self.met('check: last free day above 29,219', made and t + 10 > LAST_DAY)
+        self.met('check: last free day 29,219', made and t + 10 == LAST_DAY)
+        return ok
+
+    def annual(self, p):
+        t, who, d = self.t, self.book.people.get(p), date(self.t)
+        before = who and who.next_amount(t)
+        ok = self.call(5, p)
+        if ok[0] == 0:
+            if ok[1] == 14:
+                near = {(8, 31): '31 August', (9, 11): '11 September'}.get((d.month, d.day), 'elsewhere')
+                self.met(f'annual: {near} (14)')
+            return ok
+        amount, months, here = ok[1], ok[2], month(t)
+        totals = {m: who.total(m) for m in range(max(here - 15, 0), here - 1)}
+        totals = {m: e for m, e in totals.items() if e is not None}
+        window = {m: e for m, e in totals.items() if here - 14 <= m <= here - 3}
+        self.met('annual: 1 September', d.day == 1)
+        self.met('annual: 10 September', d.day == 10)
+        self.met('annual: ' + ('0 months' if months == 0 else '1 month' if months == 1 else '2 to 5 months' if months < 6 else
+                               '6 to 11 months' if months < 12 else '12 months') + ' recorded')
+        for back in (14, 3):
+            others = [e for m, e in window.items() if m != here - back]
+            self.met(f'annual: largest total in P - {back}', window.get(here - back) == amount and amount > max(others + [MINIMUM[who.role]]))
+        for back in (2, 15):
+            self.met(f'annual: a larger total in P - {back} left out', here - back in totals and totals[here - back] > amount)
+        self.met('annual: raised to the minimum', months > 0 and max(window.values()) < amount)
+        self.met('annual: all totals below 0', months > 0 and max(window.values()) < 0)
+        self.met('annual: next amount 0', amount == 0)
+        self.met('annual: below the firm amount', amount < who.firm(t))
+        self.met('annual: a second run, amount higher', before is not None and amount > before)
+        self.met('annual: a second run, amount lower', before is not None and amount < before)
+        self.met('annual: September 2020', here == 8)
+        return ok
+
+    def advance(self, day, budget):
+        t, people = self.t, self.book.people
+        known = {p: (who.firm(t), who.next_amount(t), [held for held in (who.position(place, t) for place in range(8)) if held])
+                 for p, who in people.items()}
+        ok = self.call(6, day, budget)
+        if ok[0] == 0:
+            self.met('advance: T before t (17)', day < t)
+            self.met('advance: T before t and B = 0 (17)', day < t and budget == 0)
+            self.met('advance: T above 29,219 (17)', day > LAST_DAY)
+            self.met('advance: T above 29,219, B would stop earlier (17)', day > LAST_DAY and t + budget <= LAST_DAY)
+            return ok
+        now, n = self.t, ok[1]
+        self.met('advance: a single day', n == 1)
+        self.met('advance: 100 days and more', n >= 100)
+        self.met('advance: B = 0', budget == 0 and day > t)
+        self.met('advance: T = t', day == t)
+        self.met('advance: T = t on 29,219', day == t == LAST_DAY)
+        self.met('advance: stopped by the budget', 0 < budget < day - t)
+        self.met('advance: B = T - t exactly', 0 < budget == day - t)
+        self.met('advance: B above T - t', budget > day - t > 0)
+        self.met('advance: B of 2^32 and more', budget > HALF)
+        if n == 0:
+            return ok
+        d = date(now)
+        octobers = [o for o in (day_number(y, 10, 1) for y in range(date(t).year, d.year + 1)) if t < o <= now]
+        self.met('advance: reaches 29,219', now == LAST_DAY)
+        self.met('advance: ends on 30 September', (d.month, d.day) == (9, 30))
+        self.met('advance: ends on 1 October', (d.month, d.day) == (10, 1))
+        self.met('advance: crosses 1 October', len(octobers) > 0)
+        self.met('advance: crosses two Octobers', len(octobers) > 1)
+        self.met("advance: a month's end is crossed by one day", n == 1 and month(t) != month(now))
+        for p, who in people.items():
+            self.met_openings(who, t, *known[p], octobers)
+        return ok
+
+    def met_openings(self, who, t, firm, coming, held, octobers):
+        """What the opened days after t met, for one participant."""
+        now = self.t
+        short = dict(who.openings[-(now - t):])
+        ended = collections.Counter(last + 1 for _, last in who.calls() if t <= last < now)
+        self.met('opening: one call ends', 1 in ended.values())
+        self.met('opening: several calls end at once', max(ended.values(), default=0) > 1)
+        self.met('opening: a call of 20 September ends on 1 October', any(o in ended for o in octobers))
+        if octobers:
+            o = octobers[0]
+            if coming is not None:
+                was = max(who.firm(o - 1), max((amount for amount, last in who.calls() if last == o - 1), default=0))
+                self.met('opening: next amount takes effect, firm amount ' +
+                         ('higher' if coming > was else 'lower' if coming < was else 'the same'))
+                self.met('opening: next amount 0 takes effect', coming == 0)
+                self.met('opening: next amount takes effect, a second one for the participant', len(set(r for r, _ in who.periods())) > 2)
+            else:
+                self.met('opening: no next amount on 1 October, firm amount above 0', firm > 0)
+        for what, amount, first, last in held:
+            if what == 'letter':
+                self.met('opening: a letter lapses', last < now)
+                self.met('opening: a letter lapses and a shortfall arises', t < last < now and short[last] == 0 and short[last + 1] > 0)
+                self.met('opening: a letter begins', t < first <= now)
+                self.met('opening: a letter begins and a shortfall ends', t + 1 < first <= now and short[first] == 0 and short[first - 1] > 0)
+        values = set(short.values())
+        self.met('charge: shortfall below 100,000,000', any(0 < s < 10 ** 8 for s in values))
+        self.met('charge: shortfall of 100,000,000', 10 ** 8 in values)
+        self.met('charge: shortfall above 100,000,000', any(s > 10 ** 8 for s in values))
+        every = set(s for _, s in who.openings)
+        self.met('charge: both kinds for one participant', any(0 < s < 10 ** 8 for s in every) and any(s > 10 ** 8 for s in every))
+        self.met('charge: shortfall of 1', 1 in values)
+        self.met('charge: covered to the cent', who.firm(now) > 0 and who.cover(now) == who.firm(now))
+        self.met('charge: accrued above 2^53', who.accrued() > 2 ** 53)
+
+    def statement(self, p):
+        return self.call(7, p)
+
+    def count(self):
+        return self.call(8)
+
+
+class Maker(Recorder):
+    """Makes a history by scenes of a few calls each, aimed at corners with the help of the reference's readings."""
+
+    def __init__(self, rng, theme, start, calls, names):
+        self.rng, self.theme = rng, theme
+        self.names = names                       # the participants to admit
+        self.days = MOST_DAYS if len(names) <= 5 else 300 if len(names) <= 20 else 150
+        self.scale = {p: rng.choice((1, 1, 10, 100, 1000, 10 ** 4, 10 ** 5, 10 ** 6, 10 ** 6, 2 * 10 ** 7, 10 ** 8, 10 ** 8, 10 ** 9, 10 ** 11))
+                      for p in range(64)}
+        super().__init__(start, calls)
+
+    def likely(self, chance):
+        return self.rng.random() < chance
+
+    def among(self, *values):
+        return self.rng.choice(values)
+
+    # -- arguments -------------------------------------------------------------------------------------------------------------------------
+
+    def stranger(self):
+        """A participant that is not admitted, or none that could be."""
+        absent = [p for p in range(64) if p not in self.book.people]
+        if absent and self.likely(0.5):
+            return self.rng.choice(absent)
+        known = self.rng.choice(sorted(self.book.people) or [0])
+        return self.among(64, 64, 65, 127, 128, 255, 256, known + 64, known + 256, known + 2 ** 16, known + 2 ** 32, HALF, 2 ** 63, WORD)
+
+    def anyone(self, odd=0.01):
+        """An admitted participant; now and then somebody else."""
+        if not self.book.people:
+            self.scene_admit()
+        if self.likely(odd) or not self.book.people:
+            return self.stranger()
+        return self.rng.choice(sorted(self.book.people))
+
+    def who(self):
+        p = self.anyone(0)
+        while p not in self.book.people:
+            self.admit(p % 64, self.rng.randrange(6))
+            p = self.anyone(0)
+        return p, self.book.people[p]
+
+    def amount(self, p):
+        """An amount at the participant's scale, mostly one that 6/5 goes into evenly."""
+        n = self.scale[p % 64] * self.rng.randint(1, 9)
+        return min(max(n * 5 if self.likely(0.5) else n + self.among(-1, 0, 1), 1), MOST)
+
+    def wrong_amount(self):
+        return self.among(0, 0, MOST + 1, MOST + 1, 2 ** 32 * 1000, 2 ** 63, 2 ** 63 - 1, WORD, self.rng.randrange(MOST + 1, WORD))
+
+    def place(self, who, filled):
+        """A filled or an empty position, or None."""
+        places = [x for x in range(8) if (who.position(x, self.t) is not None) == filled]
+        return self.rng.choice(places) if places else None
+
+    def wrong_place(self):
+        return self.among(8, 8, 9, 15, 16, 64, 255, 256, 257, 2 ** 32, 2 ** 32 + 1, WORD)
+
+    def letter(self):
+        """A letter's days, against no rule: often soon over, of one day, or not begun."""
+        t, end = self.t, LAST_DAY
+        first = self.among(0, t - 1, t, t, t, t + 1, t + 1, t + 2, t + self.rng.randint(1, 15), t - self.rng.randint(1, 400))
+        first = min(max(first, 0), end)
+        at = max(first, t)
+        last = self.among(t, t + 1, t + 2, first, at, at, at + 1, t + 9, t + 10, t + 11, at + self.rng.randint(1, 40),
+                          at + self.rng.randint(20, 300), end)
+        return first, min(max(last, at), end)
+
+    def wrong_letter(self):
+        t = self.t
+        return self.among((t + 1, t), (t + 2, t + 1), (0, t - 1), (t - 1, t - 1), (t, LAST_DAY + 1), (LAST_DAY, LAST_DAY + 1), (t, HALF),
+                          (HALF, HALF), (HALF, t), (LAST_DAY + 1, LAST_DAY), (t + 30, t + 3), (1, 0), (0, 2 ** 31), (t, 65536 + t)) \
+            if t > 0 else self.among((1, 0), (0, LAST_DAY + 1), (HALF, 0), (0, HALF))
+
+    def figures_of(self, e):
+        """5 to 16 figures, within 10^12, with the sum e."""
+        rng = self.rng
+        if abs(e) > MOST:
+            sign = 1 if e > 0 else -1
+            parts = [sign * MOST] * (abs(e) // MOST)
+            parts += [e - sum(parts)]
+            parts += [0] * (5 - len(parts))
+            return parts[:16] if sum(parts[:16]) == e else [sign * MOST] * 16
+        style = rng.random()
+        if style < 0.62:
+            parts = [0] * 4
+        elif style < 0.8:
+            parts = [rng.randint(-9, 9) for _ in range(self.among(4, 4, 5, 6))]
+        elif style < 0.88:
+            parts = [rng.randint(-9, 9) for _ in range(15)]
+        elif style < 0.93:
+            parts = [rng.randint(-9, 9) for _ in range(rng.randint(4, 15))]
+        elif style < 0.97:
+            part = rng.randint(0, abs(e))
+            parts = [part, -part, rng.randint(0, 99), 0]
+        else:
+            parts = [MOST, -MOST, 0, 0]
+        rest = e - sum(parts)
+        if abs(rest) > MOST:
+            parts, rest = [0] * 4, e
+        parts.insert(rng.randrange(len(parts) + 1), rest)
+        return parts
+
+    def wrong_figures(self, e):
+        """Too few, too many, or out of range; sometimes two of these."""
+        rng = self.rng
+        bad = self.among(MOST + 1, -MOST - 1, MOST + 1, -MOST - 1, 2 ** 63 - 1, 1 - 2 ** 63, 2 ** 62 + rng.randrange(2 ** 62), -10 ** 13)
+        parts = self.figures_of(e)
+        style = rng.random()
+        if style < 0.35:
+            parts[rng.randrange(len(parts))] = bad
+        elif style < 0.45:
+            parts = [bad, -bad, e, 0, 0] + [0] * rng.randint(0, 2)
+        elif style < 0.7:
+            parts = [e] + [0] * 3
+            parts = parts[:self.among(0, 1, 2, 3, 4, 4, 4)]
+        elif style < 0.9:
+            parts = [e] + [0] * (self.among(17, 17, 17, 18, 19, 20) - 1)
+        elif style < 0.95:
+            parts = [bad] * self.among(1, 2, 4)
+        else:
+            parts = [0] * 16 + [bad]
+        rng.shuffle(parts)
+        return parts
+
+    def total(self, p, who):
+        """A total aimed at the check's corners."""
+        t = self.t
+        d, firm, calls, coming = who.cover(t), who.firm(t), who.open_calls(t), who.next_amount(t)
+        edge = -(-6 * d // 5)
+        top = max(calls + [firm])
+        some = [edge] * 3 + [edge - 1] * 3 + [d, d, d + 1, d - 1, edge + 1, firm, firm, firm + 1, firm + 1, firm - 1, top, top + 1, top + 1, 0, 0,
+                1, -1, -5, 2 * d, top + self.amount(p), top + self.amount(p), self.amount(p), self.amount(p), -self.amount(p)]
+        some += [d + 10 ** 8, d + 10 ** 8 + self.among(-1, 1)] if self.scale[p % 64] >= 10 ** 6 else []
+        some += calls + calls[:-1] + [amount + 1 for amount in calls]
+        some += [] if coming is None else [coming, coming + 1]
+        if self.likely(0.01):
+            some = [16 * MOST, -16 * MOST, MOST, 3 * MOST + 1, -MOST]
+        return self.rng.choice(some)
+
+    def check_month(self):
+        return max(month(self.t) - 2, 0)
+
+    # -- scenes ----------------------------------------------------------------------------------------------------------------------------
+
+    def scene_admit(self):
+        """Somebody new, mostly followed by a first payment."""
+        absent = [p for p in self.names if p not in self.book.people]
+        if not absent:
+            return self.scene_wrong_admit()
+        p = absent[0]
+        self.admit(p, self.among(0, 0, 1, 2, 2, 3, 3, 4, 5))
+        if self.likely(0.55 if len(self.names) <= 5 else 0.2):
+            self.pay(p, self.among(0, 0, 0, -1, 1))
+        elif self.likely(0.2):
+            self.statement(p)
+
+    def scene_wrong_admit(self):
+        p = self.anyone(0) if self.likely(0.4) else self.stranger()
+        if p <= 63 and p not in self.book.people and self.likely(0.8):
+            return self.admit(p, self.among(6, 6, 7, 8, 255, 256, 257, 258, 2 ** 32, 2 ** 32 + 3, WORD))
+        if p <= 63 and p not in self.book.people and (len(self.names) <= 5 and len(self.book.people) >= 5):
+            return None
+        return self.admit(p, self.among(0, 2, 3, 5, 6, 6, 255, WORD))
+
+    def pay(self, p, more=0):
+        """Lodges what is asked for, or a cent more or less, as cash or as a letter."""
+        who, t = self.book.people[p], self.t
+        need = (who.release_floor(t) if self.likely(0.7) else who.firm(t)) - who.cover(t) + more
+        place = self.place(who, False)
+        if place is None:
+            return self.release(p, self.rng.randrange(8), self.amount(p))
+        need = need if 1 <= need <= MOST else self.amount(p)
+        if need > 1 and self.likely(0.15):
+            need = need - 10 ** 8 + self.among(-1, 0, 0, 1) if need > 10 ** 8 + 1 and self.likely(0.7) else need // 2
+        if self.likely(0.65):
+            return self.lodge(p, place, need)
+        if self.likely(0.6):
+            return self.lodge(p, place, need, max(t - self.among(0, 0, 1, 7), 0), min(t + self.rng.randint(5, 200), LAST_DAY))
+        return self.lodge(p, place, need, *self.letter())
+
+    def scene_pay(self):
+        p, _ = self.who()
+        self.pay(p, self.among(0, 0, 0, 0, -1, 1))
+        if self.likely(0.3):
+            self.statement(p)
+
+    def scene_lodge(self):
+        p, who = self.who()
+        place = self.place(who, False)
+        if place is None or self.likely(0.06):
+            place = self.rng.randrange(8)
+        amount = self.among(1, MOST, self.amount(p), self.amount(p), self.amount(p), self.amount(p), self.amount(p)) if self.likely(0.3) \
+            else self.amount(p)
+        if amount == MOST and self.likely(0.7):
+            amount = 5
+        if self.likely(0.05):
+            place = self.wrong_place()
+        if self.likely(0.3):
+            self.lodge(p, place, amount if self.likely(0.95) else self.wrong_amount())
+        else:
+            self.lodge(p, place, amount, *(self.letter() if self.likely(0.85) else self.wrong_letter()))
+
+    def scene_letter(self):
+        """A letter followed over its first and last days."""
+        p, who = self.who()
+        place = self.place(who, False)
+        if place is None:
+            return self.scene_release()
+        first, last = self.letter()
+        self.lodge(p, place, self.amount(p), first, last)
+        for day in sorted({first - 1, first, last, last + 1} - set(range(self.t + 1)) if self.likely(0.8) else {last + 1}):
+            if self.t < day <= min(self.t + 60, LAST_DAY) and day - self.t <= self.days // 3:
+                self.go(day)
+                if self.likely(0.5):
+                    self.statement(p)
+                if self.likely(0.3):
+                    self.lodge(p, place, self.amount(p), *self.letter())
+                if self.likely(0.4):
+                    self.release_at(p, place)
+        return None
+
+    def release_at(self, p, place):
+        """A release aimed at what is held and at the limit."""
+        who, t = self.book.people[p], self.t
+        held = who.position(place, t)
+        limit = who.cover(t) - who.release_floor(t)
+        if held is None:
+            return self.release(p, place, self.among(1, self.amount(p)))
+        what, most, _, _ = held
+        if what == 'letter':
+            amount = self.among(most, most, most, most, most, most, most, most - 1, most + 1, 1)
+        elif 1 <= limit <= most:
+            amount = self.among(limit, limit, limit, limit + 1, limit + 1, limit + 1, limit - 1, most, most, most + 1, most - 1, most // 2)
+        else:
+            amount = self.among(most, most, most, most + 1, most - 1, 1, 1, most // 2, most // 2, limit + 1)
+        return self.release(p, place, max(amount, 1) if self.likely(0.95) else self.wrong_amount())
+
+    def scene_release(self):
+        p, who = self.who()
+        place = self.place(who, self.likely(0.93))
+        if place is not None:
+            self.release_at(p, place)
+            if self.likely(0.25):
+                self.statement(p)
+
+    def scene_limit(self, p=None):
+        """Cover brought to the limit, or a cent from it, and something more that is then taken away."""
+        p = self.who()[0] if p is None else p
+        who = self.book.people[p]
+        self.pay(p, self.among(0, 0, -1))
+        place = self.place(who, False)
+        if place is None:
+            return self.scene_release()
+        amount = self.amount(p)
+        style = self.rng.random()
+        if style < 0.35:
+            self.lodge(p, place, amount)
+            self.release(p, place, amount + self.among(1, 0))
+        elif style < 0.75:
+            self.lodge(p, place, amount, max(self.t - self.among(0, 1), 0), min(self.t + self.among(0, 1, 50), LAST_DAY))
+        else:
+            first = min(self.t + self.among(1, 2, 20), LAST_DAY)
+            self.lodge(p, place, amount, first, min(first + self.among(0, 1, 30), LAST_DAY))
+        self.release(p, place, self.among(amount, amount, amount, amount - 1))
+        for other in self.rng.sample(range(8), 3):
+            if who.position(other, self.t):
+                self.release_at(p, other)
+        return None
+
+    def scene_check(self):
+        """One or two totals of the month that is checked."""
+        p, who = self.who()
+        place, need = self.place(who, False), who.release_floor(self.t) - who.cover(self.t) + self.amount(p)
+        if place is not None and self.t + 1 < LAST_DAY and need > 0 and self.likely(0.1):
+            self.lodge(p, place, min(need, MOST), self.t + 1, min(self.t + self.among(1, 12, 100), LAST_DAY))
+            self.settle(p, self.check_month(), self.figures_of(who.cover(self.t) + need))
+        for _ in range(self.among(1, 1, 2)):
+            self.settle(p, self.check_month(), self.figures_of(self.total(p, who)))
+            if self.likely(0.3):
+                self.pay(p, self.among(0, 0, -1, 1))
+
+    def scene_even(self):
+        """Paid up and evenly divisible, then checked at 20% and below it."""
+        p, who = self.who()
+        self.pay(p)
+        place, d = self.place(who, False), who.cover(self.t)
+        if d % 5 and place is not None:
+            self.lodge(p, place, 5 - d % 5)
+            d = who.cover(self.t)
+        order = [6 * d // 5 - 1, 6 * d // 5]
+        for e in order if self.likely(0.8) else order[::-1]:
+            self.settle(p, self.check_month(), self.figures_of(e))
+        if self.likely(0.5):
+            self.count()
+
+    def scene_rise(self):
+        """Rising totals until four calls are open and a fifth is refused; then what is still taken."""
+        p, who = self.who()
+        apart = self.likely(0.25)
+        if len(who.open_calls(self.t)) == 4 and self.likely(0.7):
+            return self.scene_late(p)
+        for _ in range(self.among(3, 5, 5, 6)):
+            t = self.t
+            top = max(who.open_calls(t) + [who.firm(t), -(-6 * who.cover(t) // 5) - 1])
+            full = len(who.open_calls(t)) >= 4
+            e = top + (1 if self.likely(0.5) else self.amount(p))
+            if full and self.likely(0.25):
+                self.settle(p, self.check_month(), self.wrong_figures(e))
+            if self.settle(p, self.check_month(), self.figures_of(min(e, 16 * MOST)))[0] == 3 and full:
+                break
+            if apart and self.days > 10 and t + 3 <= LAST_DAY:
+                self.go(t + self.among(1, 1, 2, 3))
+        self.settle(p, self.check_month(), self.figures_of(self.total(p, who)))
+        if self.likely(0.5):
+            self.settle(p, max(month(self.t) - self.among(3, 14), 0), self.figures_of(self.total(p, who)))
+        if self.likely(0.3):
+            self.count()
+        if self.likely(0.4):
+            self.scene_late(p)
+        return None
+
+    def scene_late(self, p=None):
+        """Payment on the last free day, or late by some days."""
+        if p is None:
+            p, _ = self.who()
+        who = self.book.people[p]
+        ahead = sorted({last for _, last in who.calls() if last >= self.t})
+        if not ahead:
+            who_total = who.release_floor(self.t) + self.amount(p)
+            self.settle(p, self.check_month(), self.figures_of(max(who_total, -(-6 * who.cover(self.t) // 5))))
+            ahead = sorted({last for _, last in who.calls() if last >= self.t})
+            if not ahead:
+                return None
+        day = ahead[0] + self.among(0, 0, 1, 1, 1, 2, 3, 5)
+        if day > LAST_DAY or day - self.t > self.days // 2:
+            return None
+        self.go(day)
+        if self.likely(0.5):
+            self.statement(p)
+        self.pay(p, self.among(0, 0, 0, -1, 1))
+        if self.likely(0.5):
+            self.statement(p)
+        if day < LAST_DAY and self.days > 1:
+            self.go(day + 1)
+            self.statement(p)
+        return None
+
+    def scene_months(self):
+        """Months at the window's ends and one beyond."""
+        p, who = self.who()
+        here = month(self.t)
+        for _ in range(self.among(1, 2, 3)):
+            m = here - self.among(15, 14, 14, 13, 3, 3, 2, 1, 0, self.rng.randint(2, 14))
+            if m < 0 or self.likely(0.03):
+                m = self.among(0, 1, 957, 958, 959, 960, 65535, 65536 + here - 2, 2 ** 31, HALF - 14, HALF - 13, HALF - 2, HALF - 1, HALF)
+            self.settle(p, m, self.figures_of(self.total(p, who)))
+
+    def scene_wrong_settle(self):
+        p, who = self.who()
+        m = self.check_month() if self.likely(0.6) else max(month(self.t) - self.among(0, 1, 3, 14, 15), 0)
+        self.settle(p if self.likely(0.9) else self.stranger(), m, self.wrong_figures(self.total(p, who)))
+
+    def scene_turn(self):
+        """The last day of a month and the first of the next."""
+        p, who = self.who()
+        t = self.t
+        ends = [d for d in range(t, min(t + 32, LAST_DAY)) if month(d) != month(d + 1)]
+        if not ends or ends[0] + 1 - t > self.days // 4:
+            return None
+        self.go(ends[0])
+        for back in (1, 2):
+            if month(self.t) >= back:
+                self.settle(p, month(self.t) - back, self.figures_of(self.total(p, who)))
+        self.go(self.t + 1)
+        for back in (2, 14, 15):
+            if month(self.t) >= back and self.likely(0.7):
+                self.settle(p, month(self.t) - back, self.figures_of(self.total(p, who)))
+        return None
+
+    def record(self, p, count):
+        """Totals of some months that an annual run looks at."""
+        here = month(self.t)
+        window = list(range(max(here - 14, 0), max(here - 2, 0)))
+        if count == 0:
+            return
+        low, high = self.among((1, 9), (1, 9), (-9, 9), (-9, -1))
+        for m in self.rng.sample(window, min(count, len(window))):
+            self.settle(p, m, self.figures_of(self.scale[p] * self.rng.randint(low, high) + self.among(0, 0, 1)))
+        if self.likely(0.4) and window:
+            self.settle(p, self.among(window[0], window[-1]), self.figures_of(self.scale[p] * 11))
+        if self.likely(0.5) and here >= 2:
+            self.settle(p, here - 2, self.figures_of(self.scale[p] * 12 + MINIMUM[self.book.people[p].role]))
+
+    def scene_annual(self):
+        """Annual runs around the first ten days of September; when far from them, now and then a way to the next ones."""
+        t, d = self.t, date(self.t)
+        september = day_number(d.year, 9, 1)
+        if not september - 5 <= t <= september + 10:
+            if self.likely(0.25):
+                self.annual(self.anyone())
+            if t > september + 10:
+                september = day_number(min(d.year + 1, 2099), 9, 1)
+            day = september + self.among(-1, 0, 0, 3, 8, 9, 10)
+            if not self.t < day <= LAST_DAY or day - t > self.days * 2 // 3 or not self.likely(0.5):
+                return None
+            self.go(day)
+        if self.likely(0.3):
+            self.scene_admit()
+            p = list(self.book.people)[-1]
+        else:
+            p, _ = self.who()
+        who = self.book.people[p]
+        if self.likely(0.2):
+            for m in [m for m in range(max(month(self.t) - 14, 0), max(month(self.t) - 2, 0)) if (who.total(m) or 0) > 0]:
+                self.settle(p, m, self.figures_of(self.among(0, -1, -self.amount(p))))
+        else:
+            self.record(p, self.among(0, 0, 0, 1, 1, 2, 3, 5, 8, 11, 12, 12))
+        self.annual(p)
+        if self.likely(0.5):
+            if self.likely(0.6) and month(self.t) > 2:
+                m = max(month(self.t) - self.rng.randint(3, 14), 0)
+                self.settle(p, m, self.figures_of(self.among(0, -1, self.amount(p), 13 * self.scale[p], (who.next_amount(self.t) or 0) + 1)))
+            else:
+                window = range(max(month(self.t) - 14, 0), max(month(self.t) - 2, 0))
+                for m in [m for m in window if who.total(m) == who.next_amount(self.t)]:
+                    self.settle(p, m, self.figures_of(self.amount(p) if self.likely(0.4) else 0))
+            self.annual(p)
+        if self.likely(0.6):
+            self.scene_limit(p)
+        if self.likely(0.3):
+            self.pay(p, self.among(0, -1, 1))
+        if in_annual_days(self.t) and self.likely(0.35):
+            self.go(day_number(date(self.t).year, 9, self.among(10, 10, 11)))
+            self.annual(self.anyone())
+        if self.likely(0.45):
+            self.scene_october()
+        return None
+
+    def scene_october(self):
+        """30 September, 1 October and the days around them."""
+        october = day_number(date(self.t).year, 10, 1)
+        if not self.t < october <= LAST_DAY or october - self.t > self.days // 2:
+            return None
+        for day in sorted({october + self.among(-11, -10, -1), october - 1, october, october + self.among(1, 2, 10, 11)}):
+            if day > self.t and (self.likely(0.6) or day == october):
+                self.go(day)
+                p, who = self.who()
+                if self.likely(0.6):
+                    self.statement(p)
+                if self.likely(0.3):
+                    self.pay(p, self.among(0, -1))
+                if self.likely(0.3) and self.place(who, True) is not None:
+                    self.release_at(p, self.place(who, True))
+                if self.likely(0.2):
+                    self.scene_admit()
+        return None
+
+    def go(self, day):
+        """Advances to a day; by a budget that allows it, or by one that stops there."""
+        n = day - self.t
+        self.days -= n
+        if self.likely(0.15):
+            return self.advance(self.among(day + 1, day + self.rng.randint(1, 500), LAST_DAY) if day < LAST_DAY - 501 else LAST_DAY, n)
+        return self.advance(day, self.among(n, n, n + 1, n + 1, 2 * n, 1000 + n, 30000, 2 ** 32, 2 ** 32 + n - 1, WORD))
+
+    def landmarks(self):
+        """Days on which something happens."""
+        t, d = self.t, date(self.t)
+        days = [t + 1, t + 9, t + 10, t + 11, t + 12]
+        for who in self.book.people.values():
+            for _, last in who.calls()[-6:]:
+                days += [last, last + 1, last + 2]
+            for held in (who.position(place, t) for place in range(8)):
+                if held and held[0] == 'letter':
+                    days += [held[2] - 1, held[2], held[3], held[3] + 1, held[3] + 2]
+        for year in (d.year, d.year + 1):
+            for mon, dom in ((8, 31), (9, 1), (9, 10), (9, 11), (9, 20), (9, 21), (9, 30), (10, 1), (10, 2)):
+                days.append(day_number(year, mon, dom))
+        days += [LAST_DAY - 11, LAST_DAY - 10, LAST_DAY - 9, LAST_DAY - 1, LAST_DAY]
+        return [day for day in days if t < day <= min(LAST_DAY, t + max(self.days // 3, 1))]
+
+    def scene_advance(self):
+        t, rng = self.t, self.rng
+        room = min(self.days, LAST_DAY - t)
+        style = rng.random()
+        if style < 0.16 or room < 1:
+            return self.scene_still()
+        marks = self.landmarks()
+        if style < 0.45:
+            self.go(t + 1)
+        elif style < 0.8 and marks:
+            near = sorted(set(marks))
+            self.go(rng.choice(near[:6] if self.likely(0.7) else near))
+        elif style < 0.92 or room < 200:
+            self.go(t + rng.randint(1, min(room, 45)))
+        else:
+            self.go(t + (rng.randint(100, min(room, 500)) if room < 800 or self.likely(0.8) else rng.randint(380, 780)))
+        for p in self.rng.sample(sorted(self.book.people), min(len(self.book.people), self.among(0, 1, 1, 2))):
+            self.statement(p)
+        return None
+
+    def scene_still(self):
+        """Advances that open nothing: no budget, no day ahead, or refused."""
+        t = self.t
+        before, ahead = self.rng.randint(0, max(t - 1, 0)), min(t + self.among(1, 1, 10, 400), LAST_DAY)
+        day, budget = self.among((t, 0), (t, 1), (t, WORD), (ahead, 0), (ahead, 0), (LAST_DAY, 0), (max(t - 1, 0), 0), (max(t - 1, 0), 1),
+                                 (before, WORD), (before, 0), (LAST_DAY + 1, 0), (LAST_DAY + 1, 1), (LAST_DAY + 1, WORD), (HALF, 1), (HALF, 0),
+                                 (65536 + t, 1), (2 ** 31, 5), (30000, 2))
+        self.advance(day, budget if day > LAST_DAY or day <= t or budget == 0 else 0)
+
+    def scene_wrong(self):
+        """Refusals, often with several causes at once."""
+        bad = self.likely
+        p, who = self.who()
+        q = self.stranger() if bad(0.25) else p
+        kind = self.among('lodge', 'lodge', 'release', 'release', 'settle', 'admit', 'annual', 'statement')
+        at = self.wrong_place() if bad(0.3) else self.rng.randrange(8)
+        amount = self.wrong_amount() if bad(0.5) else self.amount(p)
+        if kind == 'lodge':
+            filled = self.place(who, True)
+            at = filled if filled is not None and bad(0.4) else at
+            if bad(0.7):
+                self.lodge(q, at, amount, *(self.wrong_letter() if bad(0.7) else self.letter()))
+            else:
+                self.lodge(q, at, self.wrong_amount() if bad(0.6) else amount)
+        elif kind == 'release':
+            filled = self.place(who, True)
+            at = filled if filled is not None and bad(0.6) else at
+            held = who.position(at, self.t) if at <= 7 else None
+            if held and bad(0.6):
+                amount = self.among(held[1] + 1, held[1] + 1, held[1] - 1, held[1] * 2, MOST + 1)
+            self.release(q, at, max(amount, 0))
+        elif kind == 'settle':
+            here = month(self.t)
+            m = self.among(here, here + 1, here - 1, here - 15, here - 16, 960, HALF, HALF - 13) if bad(0.5) else self.check_month()
+            e = self.total(p, who)
+            self.settle(q, max(m, 0), self.wrong_figures(e) if bad(0.7) else self.figures_of(e))
+        elif kind == 'admit':
+            self.scene_wrong_admit()
+        elif kind == 'annual':
+            self.annual(q)
+        else:
+            self.statement(self.stranger())
+        if bad(0.2):
+            self.statement(p)
+
+    def scene_ask(self):
+        if self.likely(0.25):
+            self.count()
+        else:
+            self.statement(self.anyone(0.03))
+
+    SCENES = ('admit', 'pay', 'lodge', 'letter', 'release', 'limit', 'check', 'even', 'rise', 'late', 'months', 'wrong_settle', 'turn', 'annual',
+              'october', 'advance', 'wrong', 'ask')
+    WEIGHTS = {
+        'mixed': (2, 5, 4, 3, 5, 4, 7, 4, 3, 5, 4, 2, 2, 3, 2, 9, 6, 6),
+        'annual': (2, 4, 3, 2, 4, 4, 4, 2, 1, 3, 3, 1, 1, 12, 5, 6, 3, 4),
+        'autumn': (3, 4, 3, 3, 4, 4, 5, 3, 2, 4, 3, 1, 3, 3, 9, 9, 3, 5),
+        'checks': (2, 5, 2, 1, 3, 2, 10, 7, 7, 7, 4, 3, 3, 1, 1, 6, 3, 4),
+        'guarantees': (2, 5, 8, 8, 9, 9, 2, 1, 1, 3, 1, 1, 1, 2, 2, 7, 4, 5),
+        'refusals': (2, 3, 3, 2, 4, 2, 3, 1, 3, 2, 5, 6, 1, 2, 1, 6, 18, 5),
+        'crowd': (26, 4, 3, 1, 3, 3, 5, 2, 2, 2, 3, 1, 1, 4, 2, 6, 4, 6),
+        'end': (4, 5, 5, 3, 5, 4, 7, 4, 5, 3, 3, 2, 1, 2, 1, 6, 4, 5),
+        'begin': (3, 5, 4, 3, 5, 3, 5, 3, 2, 4, 5, 2, 5, 4, 3, 9, 4, 5),
+    }
+
+    def make(self):
+        weights = self.WEIGHTS[self.theme]
+        try:
+            for _ in range(self.among(1, len(self.names)) if self.theme == 'crowd' else self.among(1, 1, 2, len(self.names))):
+                self.scene_admit()
+            while True:
+                getattr(self, 'scene_' + self.rng.choices(self.SCENES, weights)[0])()
+        except Full:
+            pass
+        self.finish()
+
+
+def start_of(theme, rng):
+    """A start day for a theme."""
+    year, last_september = rng.randint(2020, 2099), day_number(2099, 9, 1)
+    autumn = [day_number(year, 9, 1) + rng.randint(-2, 10), day_number(year, 9, 20) + rng.randint(-2, 2), day_number(year, 10, 1) + rng.randint(-2, 1)]
+    if theme == 'end':
+        return rng.choice([rng.randint(29200, 29219)] * 3 + [LAST_DAY - 10, rng.randint(29205, 29211), LAST_DAY - 100, last_september + rng.randint(-3, 10)])
+    if theme == 'begin':
+        return rng.choice((0, 0, 0, 1, rng.randint(2, 29), 30, rng.randint(31, 70), 59, 60, 243, 244, rng.randint(245, 253)))
+    if theme == 'annual':
+        return rng.choice((autumn[0], autumn[0], day_number(year, 7, 1) + rng.randint(0, 60), day_number(year, 8, 31)))
+    if theme == 'autumn':
+        return rng.choice(autumn)
+    first = day_number(rng.randint(2021, 2098), rng.randint(1, 12), 1)
+    leap = day_number(4 * rng.randint(505, 524), 3, 1)
+    return rng.choice((first + rng.randint(-3, 1), first + rng.randint(0, 27), leap - rng.randint(0, 3), rng.choice(autumn)))
+
+
+def make(seed, i):
+    """History number i of a seed; it depends on no other."""
+    rng = random.Random(f'paper 01 history {seed} {i}')
+    theme = ('mixed', 'annual', 'checks', 'guarantees', 'autumn', 'end', 'mixed', 'refusals', 'annual', 'begin', 'checks', 'crowd')[i % 12]
+    many = rng.choice((8, 20, 64)) if theme == 'crowd' else rng.choice((1, 1, 2, 2, 3, 3, 4, 5))
+    names = rng.sample(range(64), many)
+    if many < 64 and rng.random() < 0.3:
+        names[0] = 63 if 0 in names else 0 if 63 in names else rng.choice((0, 63))
+    maker = Maker(rng, theme, start_of(theme, rng), rng.randint(200, 268), names)
+    maker.make()
+    return maker
+
+
+def main():
+    words = argparse.ArgumentParser(description='Random histories and their answers by the reference.')
+    words.add_argument('--out', required=True)
+    words.add_argument('--histories', type=int, default=240)
+    words.add_argument('--seed', type=int, default=1)
+    words = words.parse_args()
+    began = time.time()
+    data = os.path.join(words.out, 'data')
+    os.makedirs(data, exist_ok=True)
+    width = max(3, len(str(words.histories - 1)))
+    kinds, refusals, pairs, corners = (collections.Counter() for _ in range(4))
+    calls = size = largest = most_calls = most_figures = most_days = 0
+    with open(os.path.join(words.out, 'stdout'), 'w') as answers:
+        for i in range(words.histories):
+            made = make(words.seed, i)
+            text = made.text()
+            assert len(text) < MOST_BYTES and len(made.lines) < MOST_CALLS and made.figures < MOST_FIGURES
+            with open(os.path.join(data, f'h{i:0{width}}'), 'w') as file:
+                file.write(text)
+            answers.write(read(text))
+            for sum_, part in ((kinds, made.kinds), (refusals, made.refusals), (pairs, made.pairs), (corners, made.corners)):
+                sum_.update(part)
+            calls, size = calls + len(made.lines), size + len(text)
+            largest, most_calls = max(largest, len(text)), max(most_calls, len(made.lines))
+            most_figures, most_days = max(most_figures, made.figures), max(most_days, made.t - made.start)
+    print(f'{words.histories} histories of seed {words.seed}: {calls} calls, {size} bytes, {os.path.getsize(answers.name)} bytes of answers, '
+          f'{time.time() - began:.0f} s')
+    print(f'largest: {largest} bytes, {most_calls} calls, {most_figures} figures, {most_days} days opened')
+    print('answers: ' + ', '.join(f'{name} {kinds[kind]}' for kind, name in ANSWERS.items()))
+    print('refusals: ' + ', '.join(f'{n}: {refusals[n]}' for n in range(1, 18)))
+    print('first cause + another that held: ' + ', '.join(f'{name} {a}+{b}: {pairs[name, a, b]}' for name, a, b in sorted(pairs)))
+    print('corners:')
+    for corner in CORNERS:
+        print(f'  {corners[corner]:6} {corner}')
+    unknown = set(corners) - set(CORNERS)
+    assert not unknown, unknown
+    missing = [corner for corner in CORNERS if not corners[corner]] + [n for n in range(1, 18) if not refusals[n]]
+    print(f'{len(CORNERS)} corners, {len(missing)} not met')
+
+
+if __name__ == '__main__':
+    main()
