@@ -140,6 +140,7 @@ settle: M above 959 (12)
 settle: September, M = P - 2, recorded only
 settle: September, M = P - 2, would have called
 settle: a total replaced
+settle: a called total replaced by a lower one, its call open
 settle: before the admission's month
 settle: 5 figures
 settle: 16 figures
@@ -195,6 +196,7 @@ annual: next amount 0
 annual: below the firm amount
 annual: a second run, amount higher
 annual: a second run, amount lower
+annual: a larger total was refused with 13
 annual: September 2020
 people: above 63 (1)
 people: not admitted (2)
@@ -283,6 +285,7 @@ class Recorder:
         self.start, self.calls = start, calls
         self.book = History(start)
         self.lines, self.bytes, self.figures = [], 0, 0
+        self.fifths = []                         # what was refused with 13: (participant, month, total)
         self.kinds, self.refusals, self.pairs, self.corners = (collections.Counter() for _ in range(4))
         self.met_start()
 
@@ -444,10 +447,13 @@ class Recorder:
             self.met('settle: a figure beyond 2^62 (11)', ok[1] == 11 and max(abs(x) for x in figures) > 2 ** 62)
             self.met('settle: figures out of range whose sum is in it (11)', ok[1] == 11 and abs(e) <= MOST)
             self.met('check: fifth open call refused (13)', ok[1] == 13)
+            if ok[1] == 13:
+                self.fifths.append((p, m, e))
             return ok
         self.met('settle: M = P - 14', m == month_now - 14)
         self.met('settle: M = P - 2', m == month_now - 2)
         self.met('settle: a total replaced', old is not None)
+        self.met('settle: a called total replaced by a lower one, its call open', old is not None and old in calls and e < old)
         self.met("settle: before the admission's month", m < month(who.day))
         self.met('settle: 5 figures', k == 5)
         self.met('settle: 16 figures', k == 16)
@@ -514,6 +520,7 @@ class Recorder:
         self.met('annual: below the firm amount', amount < who.firm(t))
         self.met('annual: a second run, amount higher', before is not None and amount > before)
         self.met('annual: a second run, amount lower', before is not None and amount < before)
+        self.met('annual: a larger total was refused with 13', any(q == p and m in window and e > amount for q, m, e in self.fifths))
         self.met('annual: September 2020', here == 8)
         return ok
 
@@ -672,10 +679,9 @@ class Maker(Recorder):
         rng = self.rng
         if abs(e) > MOST:
             sign = 1 if e > 0 else -1
-            parts = [sign * MOST] * (abs(e) // MOST)
-            parts += [e - sum(parts)]
-            parts += [0] * (5 - len(parts))
-            return parts[:16] if sum(parts[:16]) == e else [sign * MOST] * 16
+            parts = [sign * MOST] * min(abs(e) // MOST, 16)
+            parts += [e - sum(parts)] * (len(parts) < 16)
+            return parts + [0] * (5 - len(parts))
         style = rng.random()
         if style < 0.62:
             parts = [0] * 4
@@ -758,10 +764,10 @@ class Maker(Recorder):
             return None
         return self.admit(p, self.among(0, 2, 3, 5, 6, 6, 255, WORD))
 
-    def pay(self, p, more=0):
-        """Lodges what is asked for, or a cent more or less, as cash or as a letter."""
+    def pay(self, p, more=0, all_due=0.7):
+        """Lodges what is due now or later, or a cent more or less, as cash or as a letter."""
         who, t = self.book.people[p], self.t
-        need = (who.release_floor(t) if self.likely(0.7) else who.firm(t)) - who.cover(t) + more
+        need = (who.release_floor(t) if self.likely(all_due) else who.firm(t)) - who.cover(t) + more
         place = self.place(who, False)
         if place is None:
             return self.release(p, self.rng.randrange(8), self.amount(p))
@@ -785,16 +791,16 @@ class Maker(Recorder):
         place = self.place(who, False)
         if place is None or self.likely(0.06):
             place = self.rng.randrange(8)
-        amount = self.among(1, MOST, self.amount(p), self.amount(p), self.amount(p), self.amount(p), self.amount(p)) if self.likely(0.3) \
-            else self.amount(p)
-        if amount == MOST and self.likely(0.7):
-            amount = 5
+        amount = 1 if self.likely(0.05) else MOST if self.likely(0.02) else self.amount(p)
         if self.likely(0.05):
             place = self.wrong_place()
-        if self.likely(0.3):
-            self.lodge(p, place, amount if self.likely(0.95) else self.wrong_amount())
+        cash = self.likely(0.3 if amount < MOST else 0.05)
+        if self.likely(0.08):
+            amount = self.wrong_amount()
+        if cash:
+            self.lodge(p, place, amount)
         else:
-            self.lodge(p, place, amount, *(self.letter() if self.likely(0.85) else self.wrong_letter()))
+            self.lodge(p, place, amount, *(self.letter() if self.likely(0.8) else self.wrong_letter()))
 
     def scene_letter(self):
         """A letter followed over its first and last days."""
@@ -843,7 +849,8 @@ class Maker(Recorder):
         """Cover brought to the limit, or a cent from it, and something more that is then taken away."""
         p = self.who()[0] if p is None else p
         who = self.book.people[p]
-        self.pay(p, self.among(0, 0, -1))
+        if who.cover(self.t) < who.release_floor(self.t):
+            self.pay(p, self.among(0, 0, -1), 1)
         place = self.place(who, False)
         if place is None:
             return self.scene_release()
@@ -982,8 +989,9 @@ class Maker(Recorder):
         low, high = self.among((1, 9), (1, 9), (-9, 9), (-9, -1))
         for m in self.rng.sample(window, min(count, len(window))):
             self.settle(p, m, self.figures_of(self.scale[p] * self.rng.randint(low, high) + self.among(0, 0, 1)))
-        if self.likely(0.4) and window:
-            self.settle(p, self.among(window[0], window[-1]), self.figures_of(self.scale[p] * 11))
+        if self.likely(0.5) and window:
+            due = self.book.people[p].release_floor(self.t)
+            self.settle(p, self.among(window[0], window[-1]), self.figures_of(self.among(self.scale[p] * 11, due + 1, due + self.amount(p))))
         if self.likely(0.5) and here >= 2:
             self.settle(p, here - 2, self.figures_of(self.scale[p] * 12 + MINIMUM[self.book.people[p].role]))
 
@@ -1031,6 +1039,34 @@ class Maker(Recorder):
         if self.likely(0.45):
             self.scene_october()
         return None
+
+    def scene_summer(self):
+        """A fifth call refused, then the annual run that looks at its month."""
+        d = date(self.t)
+        year = d.year if d.month < 9 else d.year + 1
+        september = day_number(min(year, 2099), 9, self.among(1, 1, 5, 10))
+        if not self.t < september or september - self.t > self.days * 2 // 3 or self.theme in ('crowd', 'end') or not self.likely(0.6):
+            return self.scene_annual()
+        p, who = self.who()
+        while self.settle(p, self.check_month(), self.figures_of(who.release_floor(self.t) + who.cover(self.t) + self.amount(p)))[0] == 2:
+            pass
+        if self.likely(0.3):
+            self.settle(p, self.check_month(), self.figures_of(self.amount(p)))
+        self.go(september)
+        self.annual(p)
+        return None
+
+    def scene_vast(self):
+        """The largest totals, unpaid for years."""
+        p, who = self.who()
+        for e in (16 * MOST - self.among(0, 1, 3, 7), 16 * MOST):
+            self.settle(p, self.check_month(), self.figures_of(e))
+        n = min(self.days - 100, LAST_DAY - self.t)
+        if n > 20:
+            self.go(self.t + self.among(10, 11))
+            self.lodge(p, 0, self.among(MOST, MOST - 1, 7))
+            self.go(self.t + n - 20)
+            self.statement(p)
 
     def scene_october(self):
         """30 September, 1 October and the days around them."""
@@ -1113,8 +1149,8 @@ class Maker(Recorder):
         at = self.wrong_place() if bad(0.3) else self.rng.randrange(8)
         amount = self.wrong_amount() if bad(0.5) else self.amount(p)
         if kind == 'lodge':
-            filled = self.place(who, True)
-            at = filled if filled is not None and bad(0.4) else at
+            chosen = self.place(who, bad(0.4))
+            at = chosen if chosen is not None and bad(0.7) else at
             if bad(0.7):
                 self.lodge(q, at, amount, *(self.wrong_letter() if bad(0.7) else self.letter()))
             else:
@@ -1147,17 +1183,17 @@ class Maker(Recorder):
             self.statement(self.anyone(0.03))
 
     SCENES = ('admit', 'pay', 'lodge', 'letter', 'release', 'limit', 'check', 'even', 'rise', 'late', 'months', 'wrong_settle', 'turn', 'annual',
-              'october', 'advance', 'wrong', 'ask')
+              'summer', 'october', 'advance', 'wrong', 'ask')
     WEIGHTS = {
-        'mixed': (2, 5, 4, 3, 5, 4, 7, 4, 3, 5, 4, 2, 2, 3, 2, 9, 6, 6),
-        'annual': (2, 4, 3, 2, 4, 4, 4, 2, 1, 3, 3, 1, 1, 12, 5, 6, 3, 4),
-        'autumn': (3, 4, 3, 3, 4, 4, 5, 3, 2, 4, 3, 1, 3, 3, 9, 9, 3, 5),
-        'checks': (2, 5, 2, 1, 3, 2, 10, 7, 7, 7, 4, 3, 3, 1, 1, 6, 3, 4),
-        'guarantees': (2, 5, 8, 8, 9, 9, 2, 1, 1, 3, 1, 1, 1, 2, 2, 7, 4, 5),
-        'refusals': (2, 3, 3, 2, 4, 2, 3, 1, 3, 2, 5, 6, 1, 2, 1, 6, 18, 5),
-        'crowd': (26, 4, 3, 1, 3, 3, 5, 2, 2, 2, 3, 1, 1, 4, 2, 6, 4, 6),
-        'end': (4, 5, 5, 3, 5, 4, 7, 4, 5, 3, 3, 2, 1, 2, 1, 6, 4, 5),
-        'begin': (3, 5, 4, 3, 5, 3, 5, 3, 2, 4, 5, 2, 5, 4, 3, 9, 4, 5),
+        'mixed': (2, 5, 4, 3, 5, 4, 7, 4, 3, 5, 4, 2, 2, 3, 1, 2, 9, 6, 6),
+        'annual': (2, 4, 3, 2, 4, 4, 4, 2, 1, 3, 3, 1, 1, 12, 4, 5, 6, 3, 4),
+        'autumn': (3, 4, 3, 3, 4, 4, 5, 3, 2, 4, 3, 1, 3, 3, 1, 9, 9, 3, 5),
+        'checks': (2, 5, 2, 1, 3, 2, 10, 7, 7, 7, 4, 3, 3, 1, 2, 1, 6, 3, 4),
+        'guarantees': (2, 5, 8, 8, 9, 9, 2, 1, 1, 3, 1, 1, 1, 2, 1, 2, 7, 4, 5),
+        'refusals': (2, 3, 3, 2, 4, 2, 3, 1, 3, 2, 5, 6, 1, 2, 1, 1, 6, 18, 5),
+        'crowd': (26, 4, 3, 1, 3, 3, 5, 2, 2, 2, 3, 1, 1, 4, 1, 2, 6, 4, 6),
+        'end': (4, 5, 5, 3, 5, 4, 7, 4, 5, 3, 3, 2, 1, 2, 1, 1, 6, 4, 5),
+        'begin': (3, 5, 4, 3, 5, 3, 5, 3, 2, 4, 5, 2, 5, 4, 2, 3, 9, 4, 5),
     }
 
     def make(self):
@@ -1165,6 +1201,8 @@ class Maker(Recorder):
         try:
             for _ in range(self.among(1, len(self.names)) if self.theme == 'crowd' else self.among(1, 1, 2, len(self.names))):
                 self.scene_admit()
+            if self.theme == 'mixed' and self.likely(0.15):
+                self.scene_vast()
             while True:
                 getattr(self, 'scene_' + self.rng.choices(self.SCENES, weights)[0])()
         except Full:
@@ -1175,9 +1213,11 @@ class Maker(Recorder):
 def start_of(theme, rng):
     """A start day for a theme."""
     year, last_september = rng.randint(2020, 2099), day_number(2099, 9, 1)
-    autumn = [day_number(year, 9, 1) + rng.randint(-2, 10), day_number(year, 9, 20) + rng.randint(-2, 2), day_number(year, 10, 1) + rng.randint(-2, 1)]
+    autumn = [day_number(year, 9, 1) + rng.randint(-2, 10), day_number(year, 9, 20) + rng.randint(-2, 2),
+              day_number(year, 10, 1) + rng.randint(-2, 1)]
     if theme == 'end':
-        return rng.choice([rng.randint(29200, 29219)] * 3 + [LAST_DAY - 10, rng.randint(29205, 29211), LAST_DAY - 100, last_september + rng.randint(-3, 10)])
+        return rng.choice([rng.randint(29200, 29219)] * 3 + [LAST_DAY - 10, rng.randint(29205, 29211), LAST_DAY - 100,
+                                                             last_september + rng.randint(-3, 10)])
     if theme == 'begin':
         return rng.choice((0, 0, 0, 1, rng.randint(2, 29), 30, rng.randint(31, 70), 59, 60, 243, 244, rng.randint(245, 253)))
     if theme == 'annual':
@@ -1211,6 +1251,9 @@ def main():
     began = time.time()
     data = os.path.join(words.out, 'data')
     os.makedirs(data, exist_ok=True)
+    for name in os.listdir(data):
+        if name[:1] == 'h' and name[1:].isdigit():
+            os.remove(os.path.join(data, name))
     width = max(3, len(str(words.histories - 1)))
     kinds, refusals, pairs, corners = (collections.Counter() for _ in range(4))
     calls = size = largest = most_calls = most_figures = most_days = 0

@@ -61,3 +61,8 @@ pub leb-not-ltb : (a b : ℕ) → leb a b ≡ not (ltb b a)
 leb-not-ltb a b =
     split (leb a b) (λ e. e ∙ sym (ap not (le-ltb b a (leb-true a b e))))
     (λ e. e ∙ sym (ap not (lt-ltb b a (leb-false a b e))))
+
+-- What holds of both choices holds of the choice.
+pub by-test : {A : Type 0} (t : Bool) (x y : A) (P : A → Type 0) → (t ≡ true → P x) → (t ≡ false → P y) → P (cond t x y)
+by-test true x y P f g = f refl
+by-test false x y P f g = g refl

@@ -4,3 +4,6 @@ pub mod Prefixes
 pub mod Tabulated
 pub mod Tables
 pub mod Integers
+pub mod Signed
+pub mod Largest
+pub mod Places

@@ -1,0 +1,74 @@
+-- Lists of a fixed number of places: elements replaced one after another, and places filled from the front with one value behind.
+-- Assumes nothing.
+use Prim.Native.Nat.{ℕ, zero, suc, _+_, _-_, _≤_, _<_}
+use mathlib.Core.Path.{_≡_, refl, sym, _∙_, ap}
+use mathlib.Core.List.{List, [], _∷_, _++_, map, append-assoc}
+use native.Mathlib.Nat.{le-of-suc-le-suc}
+use native.Mathlib.Omega.{arith}
+use native.Mathlib.Numerals.{add-one}
+use lib.ListN.{length, getD, set, take, drop, replicate, length-append, length-replicate, length-map}
+use lib.Seq.{set-append-seam, take-append-seam}
+
+-- ---- each element replaced, one after another
+
+-- The list whose first i elements are replaced by g of them.
+unfoldable pub upTo : {A : Type 0} → (A → A) → ℕ → List A → List A
+upTo g zero l = l
+upTo g (suc i) [] = []
+upTo g (suc i) (x ∷ l) = g x ∷ upTo g i l
+
+module _ {A : Type 0} (g : A → A) where
+  -- with none replaced it is the list
+  pub upTo-none : (l : List A) → upTo g 0 l ≡ l
+  unfolding upTo
+  upTo-none l = refl
+
+  -- the next element is still the list's
+  pub upTo-next : (i : ℕ) (l : List A) (d : A) → getD (upTo g i l) i d ≡ getD l i d
+  unfolding upTo
+  upTo-next zero l d = refl
+  upTo-next (suc i) [] d = refl
+  upTo-next (suc i) (x ∷ l) d = upTo-next i l d
+
+  -- one more is replaced
+  pub upTo-more : (i : ℕ) (l : List A) (d : A) → i < length l → set (upTo g i l) i (g (getD l i d)) ≡ upTo g (suc i) l
+  unfolding upTo
+  upTo-more i [] d h = absurd (omega arith)
+  upTo-more zero (x ∷ l) d h = refl
+  upTo-more (suc i) (x ∷ l) d h = ap (λ (m : List A). g x ∷ m) (upTo-more i l d (le-of-suc-le-suc h))
+
+  -- as many as before
+  pub upTo-long : (i : ℕ) (l : List A) → length (upTo g i l) ≡ length l
+  unfolding upTo
+  upTo-long zero l = refl
+  upTo-long (suc i) [] = refl
+  upTo-long (suc i) (x ∷ l) = ap suc (upTo-long i l)
+
+  -- with all replaced it is g of each
+  pub upTo-all : (i : ℕ) (l : List A) → length l ≤ i → upTo g i l ≡ map g l
+  unfolding upTo
+  upTo-all zero [] h = refl
+  upTo-all zero (x ∷ l) h = absurd (omega arith)
+  upTo-all (suc i) [] h = refl
+  upTo-all (suc i) (x ∷ l) h = ap (λ (m : List A). g x ∷ m) (upTo-all i l (le-of-suc-le-suc h))
+
+  -- a turn of a loop that replaces them: what is stored at i is g of what was read there
+  pub upTo-turn : (s l : List A) (i n : ℕ) (x y d : A) → length l ≡ n → i < n → s ≡ upTo g i l → x ≡ getD s i d → y ≡ g x → set s i y ≡ upTo g (i + 1) l
+  upTo-turn s l i n x y d h k e p q = simp (q, p, e, upTo-next, add-one) (upTo-more i l d (omega arith))
+
+-- ---- places filled from the front
+
+module _ {A : Type 0} (z : A) (n : ℕ) where
+  -- the next place is filled
+  pub fill-next : (l : List A) (x : A) → length l < n → set (l ++ replicate (n - length l) z) (length l) x ≡ (l ++ x ∷ []) ++ replicate (n - length (l ++ x ∷ [])) z
+  fill-next l x h =
+      let e : n - length l ≡ suc (n - (length l + 1)) = omega arith in
+      rw (e, length-append) (set-append-seam l z (replicate (n - (length l + 1)) z) x ∙ sym (append-assoc l (x ∷ []) (replicate (n - (length l + 1)) z)))
+
+  -- what is filled is in front
+  pub fill-take : (l : List A) → take (length l) (l ++ replicate (n - length l) z) ≡ l
+  fill-take l = take-append-seam l (replicate (n - length l) z)
+
+  -- there are n places
+  pub fill-length : (l : List A) → length l ≤ n → length (l ++ replicate (n - length l) z) ≡ n
+  fill-length l h = simp (length-append, length-replicate) (omega arith)

@@ -1,0 +1,11 @@
+pub mod Read
+pub mod Walks
+pub mod Kept
+pub mod Usable
+pub mod Sums
+pub mod Rounding
+pub mod Means
+pub mod Amount
+pub mod Bounds
+pub mod InRange
+pub mod Decided

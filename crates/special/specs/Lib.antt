@@ -1,0 +1,6 @@
+pub mod Ranges
+pub mod Ratio
+pub mod Causes
+pub mod Guarantee
+pub mod Best
+pub mod Examples

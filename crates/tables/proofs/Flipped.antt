@@ -1,0 +1,61 @@
+-- The magnitude of a machine's signed number x, read from its bits: below zero it is one more than -1 - x, which is not negative.
+-- Assumes nothing.
+use Prim.Native.Nat.{ℕ, suc, _+_, _<_}
+use native.Mathlib.Omega.{arith}
+use mathlib.Core.Path.{_≡_, refl, ap, _∙_}
+use mathlib.Core.Bool.{true, false}
+use borrow.Author.Tests.{ltb-true}
+use lib.Dec.{T}
+use lib.IntN.{ℤ, pos, negsuc, _-ℤ_, natAbs, +ℤ-comm, -ℤ-one}
+use lib.Signed.{mag, ltZ, nonNeg}
+use mir.Syntax.{w64}
+use mir.Val.{Fits, SFits, toZ, ofZ}
+use mir.Facts.{toZ-ofZ}
+use Rattle.laws.specs.Integers.{cast-fits, cast-natural}
+
+-- -1 less a number below zero
+minus : (x : ℤ) → ltZ x (pos 0) ≡ true → negsuc 0 -ℤ x ≡ pos (mag x)
+minus (pos a) e = absurd (none a (ltb-true a 0 e))
+  where
+    none : (a : ℕ) → a < 0 → ⊥
+    none a h = omega arith
+minus (negsuc a) e = +ℤ-comm (negsuc 0) (pos (suc a)) ∙ -ℤ-one (pos (suc a))
+
+one-more : (x : ℤ) → ltZ x (pos 0) ≡ true → mag x + 1 ≡ natAbs x
+one-more (pos a) e = absurd (none a (ltb-true a 0 e))
+  where
+    none : (a : ℕ) → a < 0 → ⊥
+    none a h = omega arith
+one-more (negsuc a) e = omega arith
+
+module _ (x : ℤ) (f : SFits w64 x) (below : ltZ (toZ w64 (ofZ w64 x)) (pos 0) ≡ true) where
+  negative : ltZ x (pos 0) ≡ true
+  negative = rw (toZ-ofZ f) at below
+
+  flipped : negsuc 0 -ℤ toZ w64 (ofZ w64 x) ≡ pos (mag x)
+  flipped = ap (λ z. negsuc 0 -ℤ z) (toZ-ofZ f) ∙ minus x negative
+
+  pub fits-flipped : SFits w64 (negsuc 0 -ℤ toZ w64 (ofZ w64 x))
+  fits-flipped = record { sfits = rw flipped (f .sfits) }
+
+  read : toZ w64 (ofZ w64 (negsuc 0 -ℤ toZ w64 (ofZ w64 x))) ≡ pos (mag x)
+  read = toZ-ofZ fits-flipped ∙ flipped
+
+  pub natural-flipped : T (nonNeg (toZ w64 (ofZ w64 (negsuc 0 -ℤ toZ w64 (ofZ w64 x)))))
+  natural-flipped = rw read tt
+
+  pub cast-flipped : Fits w64 (natAbs (toZ w64 (ofZ w64 (negsuc 0 -ℤ toZ w64 (ofZ w64 x)))))
+  cast-flipped = cast-fits (negsuc 0 -ℤ toZ w64 (ofZ w64 x)) fits-flipped
+
+  pub magnitude-below : natAbs (toZ w64 (ofZ w64 (negsuc 0 -ℤ toZ w64 (ofZ w64 x)))) + 1 ≡ natAbs x
+  magnitude-below = ap (λ (z : ℤ). natAbs z + 1) read ∙ one-more x negative
+
+  pub fits-magnitude : Fits w64 (natAbs (toZ w64 (ofZ w64 (negsuc 0 -ℤ toZ w64 (ofZ w64 x)))) + 1)
+  fits-magnitude = record { fits = rw read (omega (arith, f .sfits)) }
+
+module _ (x : ℤ) (f : SFits w64 x) (above : ltZ (toZ w64 (ofZ w64 x)) (pos 0) ≡ false) where
+  pub natural-above : T (nonNeg (toZ w64 (ofZ w64 x)))
+  natural-above = cast-natural x f (rw (toZ-ofZ f) at above)
+
+  pub magnitude-above : natAbs (toZ w64 (ofZ w64 x)) ≡ natAbs x
+  magnitude-above = ap natAbs (toZ-ofZ f)
