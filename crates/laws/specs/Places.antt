@@ -6,7 +6,7 @@ use mathlib.Core.List.{List, [], _∷_, _++_, map, append-assoc}
 use native.Mathlib.Nat.{le-of-suc-le-suc}
 use native.Mathlib.Omega.{arith}
 use native.Mathlib.Numerals.{add-one}
-use lib.ListN.{length, getD, set, take, drop, replicate, length-append, length-replicate, length-map}
+use lib.ListN.{length, getD, set, take, replicate, length-append, length-replicate}
 use lib.Seq.{set-append-seam, take-append-seam}
 
 -- ---- each element replaced, one after another

@@ -1,0 +1,61 @@
+-- An advance equals any advances that open the same days.
+-- Assumes nothing.
+use Prim.Native.Nat.{ℕ, zero, suc, _+_, _-_, _≤_, min}
+use native.Mathlib.Omega.{arith}
+use mathlib.Core.Path.{_≡_, refl, sym, ap, _∙_}
+use mathlib.Core.Bool.{Bool, true, false, cond}
+use mathlib.Core.List.{List, [], _∷_}
+use Rattle.laws.specs.Cases.{split, cond-true, cond-false}
+use Rattle.file.specs.Answer.{accepted}
+use Rattle.book.specs.declared.Book.{Book}
+use Rattle.book.specs.Call.{Call, on, advance, statement, callsMade}
+use Rattle.book.specs.Account.{openDay, openDays, answer, applied, step}
+use Rattle.book.specs.Life.{after, Advances, SameDays}
+
+-- Days opened in two turns.
+pub openDays-sum : (m n : ℕ) (b : Book) → openDays n (openDays m b) ≡ openDays (m + n) b
+unfolding openDays
+openDays-sum zero n b = let e : n ≡ 0 + n = omega arith in ap (λ (k : ℕ). openDays k b) e
+openDays-sum (suc m) n b =
+    let e : suc (m + n) ≡ suc m + n = omega arith in
+    openDays-sum m n (openDay b) ∙ ap (λ (k : ℕ). openDays k b) e
+
+-- The day that opening n days leads to.
+pub openDays-today : (n : ℕ) (b : Book) → openDays n b .today .0 ≡ b .today .0 + n
+unfolding openDays openDay
+openDays-today zero b = omega arith
+openDays-today (suc n) b = let e = openDays-today n (openDay b) in omega arith
+
+-- An advance, refused or not, opens some days.
+advance-days : (b : Book) (day budget : ℕ) → (n : ℕ) × (step b (advance day budget) ≡ openDays n b)
+unfolding step applied openDays
+advance-days b day budget =
+    split (accepted (answer b (advance day budget)))
+    (λ e. (min budget (day - b .today .0), cond-true (accepted (answer b (advance day budget))) (applied b (advance day budget)) b e))
+    (λ e. (0, cond-false (accepted (answer b (advance day budget))) (applied b (advance day budget)) b e))
+
+-- So does a list of advances.
+days-of : (b : Book) (calls : List Call) → Advances calls → (n : ℕ) × (after b calls ≡ openDays n b)
+unfolding after openDays
+days-of b [] a = (0, refl)
+days-of b (on p x ∷ calls) a = absurd a
+days-of b (advance day budget ∷ calls) a =
+    let first = advance-days b day budget in
+    let rest = days-of (step b (advance day budget)) calls a in
+    (first .0 + rest .0, rest .1 ∙ ap (openDays (rest .0)) (first .1) ∙ openDays-sum (first .0) (rest .0) b)
+days-of b (statement p ∷ calls) a = absurd a
+days-of b (callsMade ∷ calls) a = absurd a
+
+pub same-days : (b : Book) (one other : List Call) → Advances one → Advances other → SameDays b one other
+same-days b one other a c =
+    let m = days-of b one a in
+    let n = days-of b other c in
+    record {
+      same = λ e.
+          let t = openDays-today (m .0) b in
+          let u = openDays-today (n .0) b in
+          let here : openDays (m .0) b .today .0 ≡ openDays (n .0) b .today .0
+          = ap (λ (k : Book). k .today .0) (sym (m .1)) ∙ e ∙ ap (λ (k : Book). k .today .0) (n .1) in
+          let same-number : m .0 ≡ n .0 = omega arith in
+          m .1 ∙ ap (λ (k : ℕ). openDays k b) same-number ∙ sym (n .1);
+    }

@@ -1,0 +1,47 @@
+-- A decision that accepts had no cause, and one with no cause gives the answer.
+-- Assumes nothing.
+use Prim.Native.Nat.{ℕ}
+use mathlib.Core.Path.{_≡_, refl, sym, _∙_}
+use mathlib.Core.Bool.{Bool, true, false, cond, false≢true}
+use mathlib.Core.List.{List, [], _∷_}
+use Rattle.laws.specs.Cases.{split, cond-true, cond-false}
+use Rattle.file.specs.Answer.{Answer, refused, Cause, decide, accepted}
+use Rattle.file.specs.KeepsPositions.{none-holds}
+use Rattle.book.specs.Lawful.{NoneHolds}
+
+-- The first cause of a list decides, or else the rest.
+pub decide-true : (c : Cause) (causes : List Cause) (x : Answer) → c .holds ≡ true → decide (c ∷ causes) x ≡ refused (c .number)
+unfolding decide
+decide-true c causes x e = cond-true (c .holds) (refused (c .number)) (decide causes x) e
+
+pub decide-false : (c : Cause) (causes : List Cause) (x : Answer) → c .holds ≡ false → decide (c ∷ causes) x ≡ decide causes x
+unfolding decide
+decide-false c causes x e = cond-false (c .holds) (refused (c .number)) (decide causes x) e
+
+-- A decision with no cause gives the answer.
+pub decide-none : (causes : List Cause) (x : Answer) → NoneHolds causes → decide causes x ≡ x
+unfolding decide
+decide-none [] x n = refl
+decide-none (c ∷ causes) x n = decide-false c causes x (n .0) ∙ decide-none causes x (n .1)
+
+-- An accepted decision gives the answer.
+pub decide-accepted : (causes : List Cause) (x : Answer) → accepted (decide causes x) ≡ true → decide causes x ≡ x
+decide-accepted causes x e = decide-none causes x (none-holds causes x e)
+
+-- A cause before an answer that goes on by further causes is one list of causes.
+pub decide-first : (c : Cause) (causes : List Cause) (x y : Answer) → (c .holds ≡ false → x ≡ decide causes y)
+    → decide (c ∷ []) x ≡ decide (c ∷ causes) y
+unfolding decide
+decide-first c causes x y rest =
+    split (c .holds)
+    (λ e. decide-true c [] x e ∙ sym (decide-true c causes y e))
+    (λ e. decide-false c [] x e ∙ rest e ∙ sym (decide-false c causes y e))
+
+-- Two lists of causes with the same first cause decide the same where the rest does.
+pub decide-same : (c : Cause) (causes others : List Cause) (x y : Answer)
+    → (c .holds ≡ false → decide causes x ≡ decide others y)
+    → decide (c ∷ causes) x ≡ decide (c ∷ others) y
+decide-same c causes others x y rest =
+    split (c .holds)
+    (λ e. decide-true c causes x e ∙ sym (decide-true c others y e))
+    (λ e. decide-false c causes x e ∙ rest e ∙ sym (decide-false c others y e))

@@ -1,0 +1,122 @@
+-- The book's account of paper 01, 'The calls': what each call answers, and the book that it leaves, from the book that it finds.
+-- Assumes nothing.
+use Prim.Native.Nat.{ℕ, zero, suc, _+_, _-_, min}
+use mathlib.Core.Bool.{Bool, true, false, cond, not, _||_}
+use mathlib.Core.List.{List, [], _∷_, map}
+use lib.Dec.{ltb}
+use lib.ListN.{length, getD, set, replicate}
+use lib.IntN.{ℤ}
+use Rattle.file.specs.declared.File.{File}
+use Rattle.file.specs.Answer.{Answer, done, opened, counted, decide, accepted, statementSays}
+use Rattle.file.specs.Admit.{noFile, admittedFile, callsOfAdmission}
+use Rattle.file.specs.Lodge.{lodgeAnswer, lodgedFile}
+use Rattle.file.specs.Release.{releaseAnswer, releasedFile}
+use Rattle.file.specs.Settle.{settleAnswer, settledFile, settlementCalls}
+use Rattle.file.specs.Annual.{annualAnswer, annualFile}
+use Rattle.file.specs.Opening.{openedFile}
+use Rattle.file.specs.Statement.{statementOf}
+use Rattle.book.specs.declared.Book.{Book}
+use Rattle.book.specs.Call.{Act, admit, lodge, release, settle, annualRun, Call, on, advance, statement, callsMade}
+
+-- "Fresh book on a day: no participants."
+unfoldable pub freshBook : ℕ → Book
+freshBook d = record { files = replicate 64 noFile; today = record { 0 = d }; made = 0 }
+
+-- What asking for a fresh book answers. Its only cause is 17.
+unfoldable pub freshAnswer : ℕ → Answer
+freshAnswer d = decide (record { number = 17; holds = ltb 29219 d } ∷ []) done
+
+-- The book beside that answer: "if fresh: a book on day 0 with no participants stands beside the number".
+unfoldable pub freshBookBeside : ℕ → Book
+freshBookBeside d = cond (accepted (freshAnswer d)) (freshBook d) (freshBook 0)
+
+-- A participant's file.
+unfoldable pub fileAt : Book → ℕ → File
+fileAt b p = getD (b .files) p noFile
+
+-- The book with another file for participant p, and n more calls made.
+unfoldable pub withFile : Book → ℕ → File → ℕ → Book
+withFile b p f n = record { files = set (b .files) p f; today = b .today; made = b .made + n }
+
+-- Cause 1, "participant above 63", before the others of a call that names a participant.
+unfoldable pub ifNumbered : ℕ → Answer → Answer
+ifNumbered p answer = decide (record { number = 1; holds = ltb 63 p } ∷ []) answer
+
+-- Cause 2, "participant not admitted", before those of a call on its file.
+unfoldable pub ifAdmitted : File → Answer → Answer
+ifAdmitted f answer = decide (record { number = 2; holds = not (f .admitted) } ∷ []) answer
+
+-- What a call on a file answers on day t, after cause 1. An admission's causes are 3 and 4.
+unfoldable pub fileAnswer : File → ℕ → Act → Answer
+fileAnswer f t (admit role) =
+    decide (record { number = 3; holds = f .admitted } ∷ record { number = 4; holds = ltb 5 role } ∷ []) done
+fileAnswer f t (lodge k h) = ifAdmitted f (lodgeAnswer f t k h)
+fileAnswer f t (release k a) = ifAdmitted f (releaseAnswer f t k a)
+fileAnswer f t (settle m figures) = ifAdmitted f (settleAnswer f t m figures)
+fileAnswer f t annualRun = ifAdmitted f (annualAnswer f t)
+
+-- The file that an accepted call leaves.
+unfoldable pub fileAfter : File → ℕ → Act → File
+fileAfter f t (admit role) = admittedFile t role
+fileAfter f t (lodge k h) = lodgedFile f t k h
+fileAfter f t (release k a) = releasedFile f t k a
+fileAfter f t (settle m figures) = settledFile f t m figures
+fileAfter f t annualRun = annualFile f t
+
+-- How many calls for more an accepted call makes: an admission's minimum, and a settlement's.
+unfoldable pub callsAdded : File → ℕ → Act → ℕ
+callsAdded f t (admit role) = length (callsOfAdmission t role)
+callsAdded f t (lodge k h) = 0
+callsAdded f t (release k a) = 0
+callsAdded f t (settle m figures) = cond (settlementCalls f t m figures) 1 0
+callsAdded f t annualRun = 0
+
+-- 'Advance': "Opening day d, for every admitted participant".
+unfoldable pub openedIfAdmitted : ℕ → File → File
+openedIfAdmitted d f = cond (f .admitted) (openedFile f d) f
+
+-- The book after the day after today was opened.
+unfoldable pub openDay : Book → Book
+openDay b =
+    record {
+      files = map (openedIfAdmitted (suc (b .today .0))) (b .files);
+      today = record { 0 = suc (b .today .0) };
+      made = b .made;
+    }
+
+-- The book after n days were opened in turn.
+unfoldable pub openDays : ℕ → Book → Book
+openDays zero b = b
+openDays (suc n) b = openDays n (openDay b)
+
+-- 'Advance': "the smaller of B and T − t".
+abbrev pub daysToOpen : Book → ℕ → ℕ → ℕ
+daysToOpen b day budget = min budget (day - b .today .0)
+
+-- What each call answers.
+unfoldable pub answer : Book → Call → Answer
+answer b (on p a) = ifNumbered p (fileAnswer (fileAt b p) (b .today .0) a)
+answer b (advance day budget) =
+    decide
+    (record { number = 17; holds = ltb 29219 day || ltb day (b .today .0) } ∷ [])
+    (opened (daysToOpen b day budget))
+answer b (statement p) =
+    ifNumbered p (ifAdmitted (fileAt b p) (statementSays (statementOf (fileAt b p) (b .today .0))))
+answer b callsMade = counted (b .made)
+
+-- The book that an accepted call leaves.
+unfoldable pub applied : Book → Call → Book
+applied b (on p a) =
+    withFile b p (fileAfter (fileAt b p) (b .today .0) a) (callsAdded (fileAt b p) (b .today .0) a)
+applied b (advance day budget) = openDays (daysToOpen b day budget) b
+applied b (statement p) = b
+applied b callsMade = b
+
+-- The book that a call leaves: a refused one leaves it as it was.
+unfoldable pub step : Book → Call → Book
+step b c = cond (accepted (answer b c)) (applied b c) b
+
+-- The book that a list of calls, the newest first, leads to from a fresh book on day s.
+unfoldable pub run : ℕ → List Call → Book
+run s [] = freshBook s
+run s (c ∷ calls) = step (run s calls) c

@@ -1,0 +1,104 @@
+-- Demand 3: the single claim about a whole list of calls from a fresh book on day s, refused ones included; and that an advance equals any
+-- advances that open the same days.
+-- Assumes nothing.
+use Prim.Native.Nat.{ℕ, suc, _+_, _-_, _≤_, _<_}
+use mathlib.Core.Path.{_≡_}
+use mathlib.Core.Bool.{Bool, true, false, cond}
+use mathlib.Core.List.{List, [], _∷_}
+use lib.Dec.{ltb}
+use Rattle.manual.specs.Charge.{dayCharge}
+use Rattle.file.specs.declared.File.{File}
+use Rattle.file.specs.Answer.{Answer}
+use Rattle.file.specs.Fields.{coverOf, shortfallOf}
+use Rattle.book.specs.declared.Book.{Book}
+use Rattle.book.specs.Call.{Call, on, advance, statement, callsMade}
+use Rattle.book.specs.Account.{fileAt, answer, step, run}
+use Rattle.book.specs.Reading.Events.{Event, Own, dayOpened, act, mine, todayOf, admittedIn, roleIn}
+use Rattle.book.specs.Reading.Holdings.{coverIn}
+use Rattle.book.specs.Reading.Calls.{firmIn}
+use Rattle.book.specs.Reading.Charges.{chargedIn, accruedIn}
+use Rattle.book.specs.Reading.Decisions.{callsBelow, decision, eventsOf}
+use Rattle.book.specs.Kept.{bookIn}
+
+-- What the book answered to each call of a list, the newest first.
+unfoldable pub answersOf : ℕ → List Call → List Answer
+answersOf s [] = []
+answersOf s (c ∷ calls) = answer (run s calls) c ∷ answersOf s calls
+
+-- What the reading decides of each, "from its arguments, the fresh day and the operations before it".
+unfoldable pub decisionsOf : ℕ → List Call → List Answer
+decisionsOf s [] = []
+decisionsOf s (c ∷ calls) = decision s (eventsOf s calls) c ∷ decisionsOf s calls
+
+-- A file's figures on day t are the readings of its own calls and the days opened.
+pub record ReadsAs (t : ℕ) (f : File) (own : List Own) : Type 0 where
+  pub admitted : f .admitted ≡ admittedIn own
+  pub role : f .role ≡ roleIn own
+  pub firm : f .firm ≡ firmIn t own
+  pub cover : coverOf f t ≡ coverIn t own
+  pub charged : f .charged ≡ chargedIn own
+  pub accrued : f .accrued ≡ accruedIn own
+
+-- Day d, opened after `own`, added one to the days charged and its day charge to the accrued charge exactly when the cover at that opening
+-- was below the firm amount on that day, and changed neither otherwise.
+pub record ChargedRight (d : ℕ) (own : List Own) : Type 0 where
+  pub charged : chargedIn (dayOpened d ∷ own)
+      ≡ cond (ltb (coverIn d own) (firmIn d (dayOpened d ∷ own))) (suc (chargedIn own)) (chargedIn own)
+  pub accrued : accruedIn (dayOpened d ∷ own)
+      ≡ cond (ltb (coverIn d own) (firmIn d (dayOpened d ∷ own)))
+      (accruedIn own + dayCharge (firmIn d (dayOpened d ∷ own) - coverIn d own))
+      (accruedIn own)
+
+-- Each day opened since the admission was charged right.
+abbrev pub EachDay : List Own → Type 0
+EachDay [] = Unit {0}
+EachDay (dayOpened d ∷ own) = (admittedIn own ≡ true → ChargedRight d own) × EachDay own
+EachDay (act d a ∷ own) = EachDay own
+
+-- A call after which today is still `before`'s, so one that opened no day, left no admitted participant's shortfall higher, and a newly
+-- admitted one began with none.
+pub record NoneHigher (before after : Book) : Type 0 where
+  pub kept : (p : ℕ) → p < 64 → fileAt before p .admitted ≡ true
+      → shortfallOf (fileAt after p) (after .today .0) ≤ shortfallOf (fileAt before p) (before .today .0)
+  pub begun : (p : ℕ) → p < 64 → fileAt before p .admitted ≡ false → fileAt after p .admitted ≡ true
+      → shortfallOf (fileAt after p) (after .today .0) ≡ 0
+
+-- .. each call of a list.
+abbrev pub EachCall : ℕ → List Call → Type 0
+EachCall s [] = Unit {0}
+EachCall s (c ∷ calls) =
+    (run s (c ∷ calls) .today .0 ≡ run s calls .today .0 → NoneHigher (run s calls) (run s (c ∷ calls))) × EachCall s calls
+
+-- The claim about the list of calls as a whole.
+pub record Life (s : ℕ) (calls : List Call) : Type 0 where
+  -- "each answer is what paper 01 decides from the arguments, the fresh day and the calls before"
+  pub answers : answersOf s calls ≡ decisionsOf s calls
+  -- the book is that of the readings, field by field
+  pub kept : run s calls ≡ bookIn s (eventsOf s calls)
+  -- "each participant's firm amount, cover, days charged and accrued charge equal the independent reading of the history"
+  pub figures : (p : ℕ) → p < 64
+      → ReadsAs (todayOf s (eventsOf s calls)) (fileAt (run s calls) p) (mine p (eventsOf s calls))
+  -- "each opened day charged exactly the late participants, once"
+  pub days : (p : ℕ) → EachDay (mine p (eventsOf s calls))
+  -- "a call that opened no day raised no shortfall"
+  pub noneHigher : EachCall s calls
+  -- the count of calls made, and today
+  pub made : run s calls .made ≡ callsBelow 64 (eventsOf s calls)
+  pub today : run s calls .today .0 ≡ todayOf s (eventsOf s calls)
+
+-- The book after a list of calls, the first of them first.
+unfoldable pub after : Book → List Call → Book
+after b [] = b
+after b (c ∷ calls) = after (step b c) calls
+
+-- A list of advances only.
+abbrev pub Advances : List Call → Type 0
+Advances [] = Unit {0}
+Advances (on p a ∷ calls) = ⊥
+Advances (advance day budget ∷ calls) = Advances calls
+Advances (statement p ∷ calls) = ⊥
+Advances (callsMade ∷ calls) = ⊥
+
+-- An advance equals any advances that open the same days: from one book, two lists of advances that come to the same day leave one book.
+pub record SameDays (b : Book) (one other : List Call) : Type 0 where
+  pub same : after b one .today .0 ≡ after b other .today .0 → after b one ≡ after b other

@@ -1,0 +1,68 @@
+-- A list of calls as words in lent slices, and a list of answers as numbers: what `replay` reads and writes.
+-- Assumes nothing.
+use Prim.Native.Nat.{ℕ, zero, suc, _+_, _*_, min}
+use mathlib.Core.Bool.{Bool, cond}
+use mathlib.Core.List.{List, [], _∷_, _++_}
+use lib.Dec.{eqb}
+use lib.ListN.{getD, take, drop}
+use lib.IntN.{ℤ, pos}
+use Rattle.file.specs.declared.Position.{Position}
+use Rattle.file.specs.declared.Position.the-variants.{Cash, Letter}
+use Rattle.file.specs.Answer.{Answer, refused, done, called, covered, recorded, annual, opened, stated, counted}
+use Rattle.book.specs.Call.{Act, admit, lodge, release, settle, annualRun, Call, on, advance, statement, callsMade}
+use Rattle.book.specs.Reading.Decisions.{decision, eventsOf}
+
+-- A day or month number in a word: one too large for the type counts as the type's largest.
+abbrev pub number : ℕ → ℕ
+number w = min w 4294967295
+
+-- The call in six words: its kind and its arguments. A settlement's figures are the e from place d on of the lent figures. A kind above 7 is
+-- the question for the count.
+unfoldable pub callOf : List ℤ → ℕ → ℕ → ℕ → ℕ → ℕ → ℕ → Call
+callOf figures kind a b c d e =
+    cond (eqb kind 0) (on a (admit b))
+    (cond (eqb kind 1) (on a (lodge b (Cash c)))
+    (cond (eqb kind 2) (on a (lodge b (Letter c (record { 0 = number d }) (record { 0 = number e }))))
+    (cond (eqb kind 3) (on a (release b c))
+    (cond (eqb kind 4) (on a (settle (number b) (take d (drop c figures))))
+    (cond (eqb kind 5) (on a annualRun)
+    (cond (eqb kind 6) (advance (number a) b)
+    (cond (eqb kind 7) (statement a) callsMade)))))))
+
+-- The call at place n of the words.
+unfoldable pub callAt : List ℕ → List ℤ → ℕ → Call
+callAt words figures n =
+    callOf figures
+    (getD words (6 * n) 0)
+    (getD words (6 * n + 1) 0)
+    (getD words (6 * n + 2) 0)
+    (getD words (6 * n + 3) 0)
+    (getD words (6 * n + 4) 0)
+    (getD words (6 * n + 5) 0)
+
+-- The first n calls, the newest first.
+unfoldable pub callsUpTo : List ℕ → List ℤ → ℕ → List Call
+callsUpTo words figures zero = []
+callsUpTo words figures (suc n) = callAt words figures n ∷ callsUpTo words figures n
+
+-- An answer as six numbers: which it is, then its values, then zeros.
+abbrev pub six : ℕ → ℤ → ℤ → ℤ → ℤ → ℤ → List ℤ
+six kind a b c d e = pos kind ∷ a ∷ b ∷ c ∷ d ∷ e ∷ []
+
+unfoldable pub numbersOf : Answer → List ℤ
+numbersOf (refused n) = six 0 (pos n) (pos 0) (pos 0) (pos 0) (pos 0)
+numbersOf done = six 1 (pos 0) (pos 0) (pos 0) (pos 0) (pos 0)
+numbersOf (called e asked last) = six 2 (pos e) (pos asked) (pos last) (pos 0) (pos 0)
+numbersOf (covered e) = six 3 e (pos 0) (pos 0) (pos 0) (pos 0)
+numbersOf (recorded e) = six 4 e (pos 0) (pos 0) (pos 0) (pos 0)
+numbersOf (annual a n) = six 5 (pos a) (pos n) (pos 0) (pos 0) (pos 0)
+numbersOf (opened n) = six 6 (pos n) (pos 0) (pos 0) (pos 0) (pos 0)
+numbersOf (stated f c s d a) = six 7 (pos f) (pos c) (pos s) (pos d) (pos a)
+numbersOf (counted n) = six 8 (pos n) (pos 0) (pos 0) (pos 0) (pos 0)
+
+-- The numbers of the reading's decisions on the first n calls from a fresh book on day s, in the calls' order.
+unfoldable pub decided : ℕ → List ℕ → List ℤ → ℕ → List ℤ
+decided s words figures zero = []
+decided s words figures (suc n) =
+    decided s words figures n
+    ++ numbersOf (decision s (eventsOf s (callsUpTo words figures n)) (callAt words figures n))

@@ -1,0 +1,200 @@
+// The calls that name a participant, the statement, and the question for the count (paper 01, 'The calls').
+use crate::Book;
+use crate::BookAnnual;
+use crate::BookOutcome;
+use crate::BookSettled;
+use crate::Stated;
+use calendar::Month;
+use file::AnnualRun;
+use file::File;
+use file::Outcome;
+use file::Position;
+use file::Settled;
+ghost use mathlib.Core.Path.{_≡_};
+ghost use mathlib.Core.Bool.{cond};
+ghost use Rattle.file.specs.Answer.{counted, outcomeSays, settledSays, annualSays};
+ghost use Rattle.book.specs.Call.{admit, lodge, release, settle, annualRun, on, statement, callsMade, isCalled, statedSays};
+ghost use Rattle.book.specs.Reached.{Reached, Given};
+
+// How many calls a settlement made.
+fn calls_of(answer: Settled) -> u64
+    ensures { λ r. ⌜ r ≡ cond (isCalled (settledSays answer)) 1 0 ⌝ }
+{
+    match answer {
+        Settled::Called(_, _, _) => 1,
+        Settled::Covered(_) => 0,
+        Settled::Recorded(_) => 0,
+        Settled::Refused(_) => 0,
+    }
+}
+
+impl Book {
+    // Admits a participant with a role.
+    pub fn admit(mut self, participant: u64, role: u64) -> BookOutcome
+        requires { ⌜ Reached self ⌝ }
+        ensures { λ r. ⌜ Given self (on participant (admit role)) (outcomeSays (r .answer)) (r .book) ⌝ }
+    {
+        if 63 < participant {
+            return BookOutcome {
+                answer: Outcome::Refused(1),
+                book: self,
+            };
+        }
+        let at = participant as usize;
+        let file = self.files[at];
+        if file.admitted {
+            return BookOutcome {
+                answer: Outcome::Refused(3),
+                book: self,
+            };
+        }
+        if 5 < role {
+            return BookOutcome {
+                answer: Outcome::Refused(4),
+                book: self,
+            };
+        }
+        let today = self.today;
+        let admitted = File::admitted(role, today);
+        self.made += admitted.count as u64;
+        self.files[at] = admitted;
+        BookOutcome {
+            answer: Outcome::Done,
+            book: self,
+        }
+    }
+
+    // Lodges cash or a letter at a position of a participant's file.
+    pub fn lodge(mut self, participant: u64, position: u64, holding: Position) -> BookOutcome
+        requires { ⌜ Reached self ⌝ }
+        ensures { λ r. ⌜ Given self (on participant (lodge position holding)) (outcomeSays (r .answer)) (r .book) ⌝ }
+    {
+        if 63 < participant {
+            return BookOutcome {
+                answer: Outcome::Refused(1),
+                book: self,
+            };
+        }
+        let at = participant as usize;
+        let file = self.files[at];
+        if !file.admitted {
+            return BookOutcome {
+                answer: Outcome::Refused(2),
+                book: self,
+            };
+        }
+        let today = self.today;
+        let lodged = file.lodge(today, position, holding);
+        let answer = lodged.answer;
+        let file = lodged.file;
+        self.files[at] = file;
+        BookOutcome { answer, book: self }
+    }
+
+    // Releases an amount at a position of a participant's file.
+    pub fn release(mut self, participant: u64, position: u64, amount: u64) -> BookOutcome
+        requires { ⌜ Reached self ⌝ }
+        ensures { λ r. ⌜ Given self (on participant (release position amount)) (outcomeSays (r .answer)) (r .book) ⌝ }
+    {
+        if 63 < participant {
+            return BookOutcome {
+                answer: Outcome::Refused(1),
+                book: self,
+            };
+        }
+        let at = participant as usize;
+        let file = self.files[at];
+        if !file.admitted {
+            return BookOutcome {
+                answer: Outcome::Refused(2),
+                book: self,
+            };
+        }
+        let today = self.today;
+        let released = file.release(today, position, amount);
+        let answer = released.answer;
+        let file = released.file;
+        self.files[at] = file;
+        BookOutcome { answer, book: self }
+    }
+
+    // Settles a month of a participant by its figures.
+    pub fn settle(mut self, participant: u64, month: Month, figures: &[i64]) -> BookSettled
+        requires { ⌜ Reached self ⌝ }
+        ensures { λ r. ⌜ Given self (on participant (settle (month .0) (now (figures .entry)))) (settledSays (r .answer)) (r .book) ⌝ }
+    {
+        if 63 < participant {
+            return BookSettled {
+                answer: Settled::Refused(1),
+                book: self,
+            };
+        }
+        let at = participant as usize;
+        let file = self.files[at];
+        if !file.admitted {
+            return BookSettled {
+                answer: Settled::Refused(2),
+                book: self,
+            };
+        }
+        let today = self.today;
+        let settled = file.settle(today, month, figures);
+        let answer = settled.answer;
+        let file = settled.file;
+        self.made += calls_of(answer);
+        self.files[at] = file;
+        BookSettled { answer, book: self }
+    }
+
+    // Runs the annual calculation of a participant.
+    pub fn annual_run(mut self, participant: u64) -> BookAnnual
+        requires { ⌜ Reached self ⌝ }
+        ensures { λ r. ⌜ Given self (on participant annualRun) (annualSays (r .answer)) (r .book) ⌝ }
+    {
+        if 63 < participant {
+            return BookAnnual {
+                answer: AnnualRun::Refused(1),
+                book: self,
+            };
+        }
+        let at = participant as usize;
+        let file = self.files[at];
+        if !file.admitted {
+            return BookAnnual {
+                answer: AnnualRun::Refused(2),
+                book: self,
+            };
+        }
+        let today = self.today;
+        let ran = file.annual_run(today);
+        let answer = ran.answer;
+        let file = ran.file;
+        self.files[at] = file;
+        BookAnnual { answer, book: self }
+    }
+
+    // The statement of a participant.
+    pub fn statement(self, participant: u64) -> Stated
+        requires { ⌜ Reached self ⌝ }
+        ensures { λ r. ⌜ Given self (statement participant) (statedSays r) self ⌝ }
+    {
+        if 63 < participant {
+            return Stated::Refused(1);
+        }
+        let at = participant as usize;
+        let file = self.files[at];
+        if !file.admitted {
+            return Stated::Refused(2);
+        }
+        let today = self.today;
+        Stated::Is(file.statement(today))
+    }
+
+    // The count of calls made.
+    pub fn calls_made(self) -> u64
+        requires { ⌜ Reached self ⌝ }
+        ensures { λ r. ⌜ Given self callsMade (counted r) self ⌝ }
+    {
+        self.made
+    }
+}

@@ -1,0 +1,65 @@
+-- `file::opening::emptied_slots` meets its contract. The loop's invariant: the first i slots are emptied as the contract says, the others are
+-- as they came. The measure is the number of slots left.
+-- Assumes nothing.
+use Prim.Native.Nat.{_≤_, _-_}
+use mathlib.Core.Path.{_≡_}
+use borrow.Author.Needs.{needs}
+use lib.ListN.{length}
+use Rattle.laws.specs.Places.{upTo}
+use Rattle.laws.specs.Lists.{length-unmap}
+use Rattle.file.proofs.AtOpening.{slotAt, slots-none, slots-next, slots-all}
+use Rattle.file.proofs.opening.emptied_slots.Statement.{statement}
+use Rattle.file.proofs.opening.emptied_slots.Tie as tie
+
+abbrev Inv-loop : tie.InvT-loop
+Inv-loop day slots₀ i₀ slots i = (i ≤ 8) × (length slots₀ ≡ 8) × (slots ≡ upTo (slotAt (day .0)) i slots₀)
+
+abbrev μ-loop : tie.MeasureT-loop
+μ-loop day slots₀ i₀ slots i = 8 - i
+
+loop-holds : tie.Need-loop-holds Inv-loop μ-loop
+loop-holds c = (search needs, search (length-unmap, needs), search (slots-none, needs))
+
+mul-slot : tie.Need-mul-slot Inv-loop μ-loop
+mul-slot c = search needs
+
+array-copy-out-slot : tie.Need-array-copy-out-slot Inv-loop μ-loop
+array-copy-out-slot c = search needs
+
+emptied-requires : tie.Need-emptied-requires Inv-loop μ-loop
+emptied-requires c κs = search needs
+
+mul-slots : tie.Need-mul-slots Inv-loop μ-loop
+mul-slots c = search needs
+
+array-set-from-slots : tie.Need-array-set-from-slots Inv-loop μ-loop
+array-set-from-slots c = search needs
+
+add-i : tie.Need-add-i Inv-loop μ-loop
+add-i c = search needs
+
+loop-less : tie.Need-loop-less Inv-loop μ-loop
+loop-less c = search needs
+
+loop-again : tie.Need-loop-again Inv-loop μ-loop
+loop-again c = (search needs, search needs, search (slots-next, needs))
+
+returns : tie.Need-returns Inv-loop μ-loop
+returns c = slots-all _ _ (c .before .before .args .day .0) (c .before .loop .i) (c .before .loop .inv .1) (c .loop-test .left) (c .before .loop .inv .2)
+
+pub emptied-slots-spec : {M : Type 1} → statement M
+emptied-slots-spec =
+    tie.close
+    (tie.spec
+    Inv-loop
+    μ-loop
+    loop-holds
+    mul-slot
+    array-copy-out-slot
+    emptied-requires
+    mul-slots
+    array-set-from-slots
+    add-i
+    loop-less
+    loop-again
+    returns)
