@@ -5,5 +5,4 @@ pub mod Kept
 pub mod Lawful
 pub mod Life
 pub mod Reached
-pub mod Words
 pub mod Opened

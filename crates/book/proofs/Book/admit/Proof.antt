@@ -3,7 +3,7 @@
 -- Assumes nothing.
 use borrow.Author.Needs.{needs}
 use Rattle.laws.specs.Lists.{length-unmap}
-use Rattle.book.proofs.Answers.{above, today-in, gave-admitted-already, gave-no-role, left-admit, count-fits, admission-few}
+use Rattle.book.proofs.Functions.Answers.{above, today-in, gave-admitted-already, gave-no-role, left-admit, count-fits, admission-few}
 use Rattle.book.proofs.Book.admit.Statement.{statement}
 use Rattle.book.proofs.Book.admit.Tie as tie
 

@@ -1,7 +1,7 @@
 -- `book::Book::advance` meets its contract: one test is cause 17, and what is opened is the definition's number of days, day by day.
 -- Assumes nothing.
 use borrow.Author.Needs.{needs}
-use Rattle.book.proofs.DaysOpened.{refused-outside, files-sound, not-before, days-within, fits-day, gave-days}
+use Rattle.book.proofs.Functions.DaysOpened.{refused-outside, files-sound, not-before, days-within, fits-day, gave-days}
 use Rattle.book.proofs.Book.advance.Statement.{statement}
 use Rattle.book.proofs.Book.advance.Tie as tie
 

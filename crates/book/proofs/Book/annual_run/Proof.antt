@@ -4,7 +4,7 @@
 use borrow.Author.Needs.{needs}
 use borrow.Author.Tests.{not-true, not-false}
 use Rattle.laws.specs.Lists.{length-unmap}
-use Rattle.book.proofs.Answers.{above, unknown-annual, left-annual}
+use Rattle.book.proofs.Functions.Answers.{above, unknown-annual, left-annual}
 use Rattle.book.proofs.Book.annual_run.Statement.{statement}
 use Rattle.book.proofs.Book.annual_run.Tie as tie
 

@@ -1,7 +1,7 @@
 -- `book::Book::calls_made` meets its contract: the count is the book's own.
 -- Assumes nothing.
 use borrow.Author.Needs.{needs}
-use Rattle.book.proofs.Answers.{gave-count}
+use Rattle.book.proofs.Functions.Answers.{gave-count}
 use Rattle.book.proofs.Book.calls_made.Statement.{statement}
 use Rattle.book.proofs.Book.calls_made.Tie as tie
 

@@ -1,7 +1,7 @@
 -- `book::Book::fresh` meets its contract: the day decides between the two books, and each is a fresh one.
 -- Assumes nothing.
 use borrow.Author.Needs.{needs}
-use Rattle.book.proofs.Begins.{begun-refused, begun-done}
+use Rattle.book.proofs.Functions.Begins.{begun-refused, begun-done}
 use Rattle.book.proofs.Book.fresh.Statement.{statement}
 use Rattle.book.proofs.Book.fresh.Tie as tie
 

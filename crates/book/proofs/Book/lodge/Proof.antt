@@ -4,7 +4,7 @@
 use borrow.Author.Needs.{needs}
 use borrow.Author.Tests.{not-true, not-false}
 use Rattle.laws.specs.Lists.{length-unmap}
-use Rattle.book.proofs.Answers.{above, unknown-lodge, left-lodge}
+use Rattle.book.proofs.Functions.Answers.{above, unknown-lodge, left-lodge}
 use Rattle.book.proofs.Book.lodge.Statement.{statement}
 use Rattle.book.proofs.Book.lodge.Tie as tie
 

@@ -4,7 +4,7 @@
 use borrow.Author.Needs.{needs}
 use borrow.Author.Tests.{not-true, not-false}
 use Rattle.laws.specs.Lists.{length-unmap}
-use Rattle.book.proofs.Answers.{above, sound, unknown-release, left-release}
+use Rattle.book.proofs.Functions.Answers.{above, sound, unknown-release, left-release}
 use Rattle.book.proofs.Book.release.Statement.{statement}
 use Rattle.book.proofs.Book.release.Tie as tie
 

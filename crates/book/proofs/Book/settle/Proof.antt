@@ -4,7 +4,7 @@
 use borrow.Author.Needs.{needs}
 use borrow.Author.Tests.{not-true, not-false}
 use Rattle.laws.specs.Lists.{length-unmap}
-use Rattle.book.proofs.Answers.{above, sound, unknown-settle, left-settle, count-fits, settlement-few}
+use Rattle.book.proofs.Functions.Answers.{above, sound, unknown-settle, left-settle, count-fits, settlement-few}
 use Rattle.book.proofs.Book.settle.Statement.{statement}
 use Rattle.book.proofs.Book.settle.Tie as tie
 

@@ -4,7 +4,7 @@
 use borrow.Author.Needs.{needs}
 use borrow.Author.Tests.{not-true, not-false}
 use Rattle.laws.specs.Lists.{length-unmap}
-use Rattle.book.proofs.Answers.{above-statement, sound, unknown-statement, gave-statement}
+use Rattle.book.proofs.Functions.Answers.{above-statement, sound, unknown-statement, gave-statement}
 use Rattle.book.proofs.Book.statement.Statement.{statement}
 use Rattle.book.proofs.Book.statement.Tie as tie
 

@@ -1,7 +1,7 @@
 -- `book::advance::at_opening` meets its contract: the file's flag decides, as the definition's does.
 -- Assumes nothing.
 use borrow.Author.Needs.{needs}
-use Rattle.book.proofs.DaysOpened.{opened-yes, opened-not}
+use Rattle.book.proofs.Functions.DaysOpened.{opened-yes, opened-not}
 use Rattle.book.proofs.advance.at_opening.Statement.{statement}
 use Rattle.book.proofs.advance.at_opening.Tie as tie
 

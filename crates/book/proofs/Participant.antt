@@ -1,0 +1,23 @@
+-- One participant: each call, each opened day and each figure of a file of the readings.
+pub mod Decide
+pub mod Positions
+pub mod CoverIs
+pub mod Cover
+pub mod OpenCalls
+pub mod Charges
+pub mod Blank
+pub mod Slots
+pub mod Lodging
+pub mod Releasing
+pub mod Admitting
+pub mod Ring
+pub mod Annual
+pub mod Settling
+pub mod Statements
+pub mod Shortfalls
+pub mod Keep
+pub mod OpenCallsNextDay
+pub mod Bases
+pub mod Days
+pub mod Opening
+pub mod DayCharged

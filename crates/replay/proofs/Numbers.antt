@@ -1,0 +1,142 @@
+-- The numbers of an answer: a signed word holds each of them, and what is read back from it is the number.
+-- Assumes nothing.
+use Prim.Native.Nat.{ℕ, _+_, _-_, _*_, _≤_}
+use native.Mathlib.Omega.{arith}
+use mathlib.Core.Path.{_≡_, refl, sym, ap, subst, _∙_}
+use mathlib.Core.Bool.{Bool, true, false, cond, not, _&&_}
+use mathlib.Core.List.{List, [], _∷_}
+use borrow.Author.Needs.{sfits-of}
+use borrow.Author.Tests.{ltb-false}
+use lib.Dec.{ltb}
+use lib.ListN.{length}
+use lib.IntN.{ℤ, pos, natAbs}
+use mir.Syntax.{w64}
+use mir.Val.{SFits, toZ, ofZ}
+use mir.Facts.{toZ-ofZ}
+use Rattle.laws.specs.Cases.{split}
+use Rattle.laws.specs.Tabulated.{length-table}
+use Rattle.calendar.specs.Civil.{monthOf}
+use Rattle.manual.specs.Figures.{sumOf}
+use Rattle.manual.specs.Laws.{summed-total}
+use Rattle.file.specs.declared.File.{File}
+use Rattle.file.specs.Answer.{Answer, done, annual, opened, Cause, decide, statementSays}
+use Rattle.file.specs.Position.{slotOf}
+use Rattle.file.specs.Fields.{shortfallOf}
+use Rattle.file.specs.Totals.{totalAt}
+use Rattle.file.specs.TotalLaws.{totals-length}
+use Rattle.file.specs.Lodge.{lodgeAnswer}
+use Rattle.file.specs.Release.{releaseAnswer}
+use Rattle.file.specs.Settle.{settlementCalls, checkDue, settledAnswer, settleAnswer}
+use Rattle.file.specs.Annual.{annualTotals, annualAmountOf, annualAnswer}
+use Rattle.file.specs.Statement.{statementOf}
+use Rattle.file.specs.Sound.{Sound}
+use Rattle.file.specs.KeepsPositions.{sound-cover}
+use Rattle.file.specs.KeepsCalls.{annual-bound}
+use Rattle.book.specs.declared.Book.{Book}
+use Rattle.book.specs.Call.{Act, admit, lodge, release, settle, annualRun, Call, on, advance, statement, callsMade}
+use Rattle.book.specs.Account.{fileAt, ifNumbered, ifAdmitted, fileAnswer, daysToOpen, answer}
+use Rattle.book.specs.Reading.Events.{mine, todayOf}
+use Rattle.book.specs.Reading.Holdings.{positionIn}
+use Rattle.book.specs.Reading.Decisions.{eventsOf}
+use Rattle.book.specs.Kept.{fileIn}
+use Rattle.book.specs.Lawful.{NoneHolds}
+use Rattle.book.specs.Reached.{Reached, Given}
+use Rattle.replay.specs.Words.{largestSigned, six, WithinSigned}
+use Rattle.book.proofs.Participant.Decide.{decide-true, decide-false}
+use Rattle.book.proofs.History.Lift.{file-at}
+use Rattle.book.proofs.History.Life.{life}
+use Rattle.book.proofs.Functions.SoundBook.{sound-file, reached-sound, reached-made}
+
+-- What a signed word that was made of a number reads.
+abbrev read : ℤ → ℤ
+read z = toZ w64 (ofZ w64 z)
+
+read-back : (n : ℕ) (z : ℤ) → n ≤ largestSigned → z ≡ pos n → read z ≡ pos n
+read-back n z h e = ap read e ∙ toZ-ofZ {w = w64} {z = pos n} (sfits-of (omega arith))
+
+-- Six words.
+pub six-read : (k a b c : ℕ) (w x y z : ℤ) → (k ≤ 8) × (a ≤ largestSigned) × (b ≤ largestSigned) × (c ≤ largestSigned)
+    → w ≡ pos k → x ≡ pos a → y ≡ pos b → z ≡ pos c
+    → read w ∷ read x ∷ read y ∷ read z ∷ pos 0 ∷ pos 0 ∷ [] ≡ six k (pos a) (pos b) (pos c) (pos 0) (pos 0)
+six-read k a b c w x y z h p q r s =
+    simp (read-back k w (omega (arith, h .0)) p, read-back a x (h .1) q, read-back b y (h .2) r, read-back c z (h .3) s)
+
+pub five-read : (a b c d e : ℕ) (v w x y z : ℤ)
+    → (a ≤ largestSigned) × (b ≤ largestSigned) × (c ≤ largestSigned) × (d ≤ largestSigned) × (e ≤ largestSigned)
+    → v ≡ pos a → w ≡ pos b → x ≡ pos c → y ≡ pos d → z ≡ pos e
+    → pos 7 ∷ read v ∷ read w ∷ read x ∷ read y ∷ read z ∷ [] ≡ six 7 (pos a) (pos b) (pos c) (pos d) (pos e)
+five-read a b c d e v w x y z h p q r s t =
+    simp (read-back a v (h .0) p, read-back b w (h .1) q, read-back c x (h .2) r, read-back d y (h .3) s, read-back e z (h .4) t)
+
+-- ---- the bounds of an answer's numbers
+
+-- A decision's numbers are within where those of the answer with no cause are.
+decide-within : (causes : List Cause) (x : Answer) → (NoneHolds causes → WithinSigned x) → WithinSigned (decide causes x)
+unfolding decide
+decide-within [] x h = h tt
+decide-within (c ∷ causes) x h =
+    split (c .holds)
+    (λ e. subst WithinSigned (sym (decide-true c causes x e)) tt)
+    (λ e. subst WithinSigned (sym (decide-false c causes x e)) (decide-within causes x (λ n. h (e, n))))
+
+-- A settlement's.
+settlement-within : (f : File) (t m : ℕ) (figures : List ℤ) → natAbs (sumOf figures) ≤ 16000000000000 → WithinSigned (settledAnswer f t m figures)
+unfolding settledAnswer
+settlement-within f t m figures h =
+    split (settlementCalls f t m figures)
+    (λ e. rw e (omega arith, omega arith))
+    (λ e. rw e (split (checkDue (monthOf t) m) (λ g. rw g tt) (λ g. rw g tt)))
+
+settle-within : (f : File) (t m : ℕ) (figures : List ℤ) → WithinSigned (settleAnswer f t m figures)
+unfolding settleAnswer
+settle-within f t m figures =
+    decide-within _ (settledAnswer f t m figures) (λ n. settlement-within f t m figures (summed-total figures (n .1 .0) (n .1 .1 .0)))
+
+-- An annual run's.
+annual-within : (f : File) (t : ℕ) → Sound t f → WithinSigned (annualAnswer f t)
+unfolding annualAnswer annualTotals
+annual-within f t s =
+    let few = totals-length (totalAt (f .totals)) (monthOf t - 14) (monthOf t - 2 - (monthOf t - 14)) in
+    let low = annual-bound f t s in
+    decide-within _ (annual (annualAmountOf f t) (length (annualTotals f t))) (λ n. (omega arith, omega arith))
+
+-- A statement's.
+statement-within : (f : File) (t : ℕ) → Sound t f → length (f .slots) ≡ 8 → WithinSigned (statementSays (statementOf f t))
+unfolding statementOf shortfallOf
+statement-within f t s n =
+    let cover = sound-cover t t f s n in
+    (omega (arith, s .firm), omega arith, omega (arith, s .firm), omega (arith, s .charged, s .day), omega (arith, s .charged, s .day, s .accrued))
+
+-- A call's on a participant's file.
+file-within : (f : File) (t : ℕ) (a : Act) → Sound t f → WithinSigned (fileAnswer f t a)
+unfolding fileAnswer ifAdmitted lodgeAnswer releaseAnswer
+file-within f t (admit role) s = decide-within _ done (λ n. tt)
+file-within f t (lodge k h) s = decide-within _ (lodgeAnswer f t k h) (λ n. decide-within _ done (λ n. tt))
+file-within f t (release k a) s = decide-within _ (releaseAnswer f t k a) (λ n. decide-within _ done (λ n. tt))
+file-within f t (settle m figures) s = decide-within _ (settleAnswer f t m figures) (λ n. settle-within f t m figures)
+file-within f t annualRun s = decide-within _ (annualAnswer f t) (λ n. annual-within f t s)
+
+-- A participant's file of a reached book has eight positions.
+eight : (b : Book) (p : ℕ) → Reached b → p ≤ 63 → length (fileAt b p .slots) ≡ 8
+unfolding fileIn
+eight b p r h =
+    let events = eventsOf (r .start) (r .calls) in
+    ap (λ (k : Book). length (fileAt k p .slots)) (sym (r .leads) ∙ life (r .start) (r .calls) (r .within) .kept)
+    ∙ ap (λ (f : File). length (f .slots)) (file-at (r .start) p events (omega arith))
+    ∙ length-table 8 (λ k. slotOf (positionIn (todayOf (r .start) events) k (mine p events)))
+
+-- The numbers of every answer of a reached book are within.
+answer-within : (b : Book) (c : Call) → Reached b → WithinSigned (answer b c)
+unfolding answer ifNumbered ifAdmitted
+answer-within b (on p a) r =
+    decide-within _ (fileAnswer (fileAt b p) (b .today .0) a) (λ n. file-within (fileAt b p) (b .today .0) a (sound-file b p (reached-sound b r)))
+answer-within b (advance day budget) r = decide-within _ (opened (daysToOpen b day budget)) (λ n. tt)
+answer-within b (statement p) r =
+    decide-within _ (ifAdmitted (fileAt b p) (statementSays (statementOf (fileAt b p) (b .today .0))))
+    (λ n. decide-within _ (statementSays (statementOf (fileAt b p) (b .today .0)))
+    (λ m. statement-within (fileAt b p) (b .today .0) (sound-file b p (reached-sound b r)) (eight b p r (ltb-false 63 p (n .0)))))
+answer-within b callsMade r = let few = reached-made b r in omega arith
+
+-- .. so those of what a public call gives are.
+pub given-within : (b : Book) (c : Call) (x : Answer) (b′ : Book) → Reached b → Given b c x b′ → WithinSigned x
+given-within b c x b′ r g = subst WithinSigned (sym (g .answered)) (answer-within b c r)

@@ -1,0 +1,73 @@
+-- `replay::history::replay` meets its contract. The loop's invariant: what is written and the book are those of the first i calls, on the day
+-- of the fresh book; each turn adds one call, whose answer is the reading's decision.
+-- Assumes nothing.
+use Prim.Native.Nat.{_-_}
+use borrow.Author.Needs.{needs}
+use Rattle.replay.proofs.Replaying.{Turn, turn-none, turn-first, turn-reached, turn-words, turn-room, turn-next, turn-last}
+use Rattle.replay.proofs.history.replay.Statement.{statement}
+use Rattle.replay.proofs.history.replay.Tie as tie
+
+abbrev Inv-loop : tie.InvT-loop
+Inv-loop words figures out₀ answer book₀ count i₀ out book i = Turn words figures out₀ (book₀ .today .0) count i out book
+
+abbrev μ-loop : tie.MeasureT-loop
+μ-loop words figures out₀ answer book₀ count i₀ out book i = count - i
+
+fresh-requires : tie.Need-fresh-requires Inv-loop μ-loop
+fresh-requires c κs = search needs
+
+returns : tie.Need-returns Inv-loop μ-loop
+returns c = search (turn-none, needs)
+
+call-count-requires : tie.Need-call-count-requires Inv-loop μ-loop
+call-count-requires c κs = search needs
+
+loop-holds : tie.Need-loop-holds Inv-loop μ-loop
+loop-holds c = search (turn-first, needs)
+
+apply-at-requires : tie.Need-apply-at-requires Inv-loop μ-loop
+apply-at-requires c κs = (search (turn-reached, needs), search (turn-words, needs))
+
+mul-put : tie.Need-mul-put Inv-loop μ-loop
+mul-put c = search needs
+
+put-requires : tie.Need-put-requires Inv-loop μ-loop
+put-requires c κs = search (turn-room, needs)
+
+add-i : tie.Need-add-i Inv-loop μ-loop
+add-i c = search needs
+
+loop-less : tie.Need-loop-less Inv-loop μ-loop
+loop-less c = search needs
+
+loop-again : tie.Need-loop-again Inv-loop μ-loop
+loop-again c =
+    turn-next _ _ _ _ _ _ _ _ (c .before .before .before .before .before .before .before .loop .inv) _ _ _
+    (c .before .before .before .before .before .before .loop-test .taken)
+    (c .before .before .before .before .before .apply-at .ensures)
+    (c .before .before .put .ensures)
+
+same-length : tie.Need-same-length Inv-loop μ-loop
+same-length c = search needs
+
+returns-2 : tie.Need-returns-2 Inv-loop μ-loop
+returns-2 c = search (turn-last, needs)
+
+pub replay-spec : {M : Type 1} → statement M
+replay-spec =
+    tie.close
+    (tie.spec
+    Inv-loop
+    μ-loop
+    fresh-requires
+    returns
+    call-count-requires
+    loop-holds
+    apply-at-requires
+    mul-put
+    put-requires
+    add-i
+    loop-less
+    loop-again
+    same-length
+    returns-2)

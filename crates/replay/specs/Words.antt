@@ -1,0 +1,95 @@
+-- A list of calls as words in lent slices, and a list of answers as numbers: what `replay` reads and writes. Paper 01 has the calls and the
+-- answers; how they are spelled as words and numbers is this crate's own choice.
+-- Assumes nothing.
+use Prim.Native.Nat.{ℕ, zero, suc, _+_, _*_, _≤_, min}
+use mathlib.Core.Bool.{Bool, cond}
+use mathlib.Core.List.{List, [], _∷_, _++_}
+use lib.Dec.{eqb}
+use lib.ListN.{getD, take, drop}
+use lib.IntN.{ℤ, pos}
+use Rattle.file.specs.declared.Position.{Position}
+use Rattle.file.specs.declared.Position.the-variants.{Cash, Letter}
+use Rattle.file.specs.Answer.{Answer, refused, done, called, covered, recorded, annual, opened, stated, counted}
+use Rattle.book.specs.Call.{Act, admit, lodge, release, settle, annualRun, Call, on, advance, statement, callsMade}
+use Rattle.book.specs.Reading.Decisions.{decision, eventsOf}
+
+-- A day or month number in a word: one too large for the type counts as the type's largest.
+abbrev pub number : ℕ → ℕ
+number w = min w 4294967295
+
+-- A letter, from its amount, its first and its last day.
+abbrev pub letterOf : ℕ → ℕ → ℕ → Position
+letterOf amount first last = Letter amount (record { 0 = number first }) (record { 0 = number last })
+
+-- The call in six words: its kind and its arguments. A settlement's figures are the d from place c on of the lent figures, or as many of
+-- these as there are. A kind above 7 is the question for the count.
+unfoldable pub callOf : List ℤ → ℕ → ℕ → ℕ → ℕ → ℕ → ℕ → Call
+callOf figures kind a b c d e =
+    cond (eqb kind 0) (on a (admit b))
+    (cond (eqb kind 1) (on a (lodge b (Cash c)))
+    (cond (eqb kind 2) (on a (lodge b (letterOf c d e)))
+    (cond (eqb kind 3) (on a (release b c))
+    (cond (eqb kind 4) (on a (settle (number b) (take d (drop c figures))))
+    (cond (eqb kind 5) (on a annualRun)
+    (cond (eqb kind 6) (advance (number a) b)
+    (cond (eqb kind 7) (statement a) callsMade)))))))
+
+-- The call at place n of the words.
+unfoldable pub callAt : List ℕ → List ℤ → ℕ → Call
+callAt words figures n =
+    callOf figures
+    (getD words (6 * n) 0)
+    (getD words (6 * n + 1) 0)
+    (getD words (6 * n + 2) 0)
+    (getD words (6 * n + 3) 0)
+    (getD words (6 * n + 4) 0)
+    (getD words (6 * n + 5) 0)
+
+-- The first n calls, the newest first.
+unfoldable pub callsUpTo : List ℕ → List ℤ → ℕ → List Call
+callsUpTo words figures zero = []
+callsUpTo words figures (suc n) = callAt words figures n ∷ callsUpTo words figures n
+
+-- Six numbers, the first of them natural.
+abbrev pub six : ℕ → ℤ → ℤ → ℤ → ℤ → ℤ → List ℤ
+six kind a b c d e = pos kind ∷ a ∷ b ∷ c ∷ d ∷ e ∷ []
+
+-- An answer as six numbers: which it is, then its values, then zeros.
+abbrev pub numbersOf : Answer → List ℤ
+numbersOf (refused n) = six 0 (pos n) (pos 0) (pos 0) (pos 0) (pos 0)
+numbersOf done = six 1 (pos 0) (pos 0) (pos 0) (pos 0) (pos 0)
+numbersOf (called e asked last) = six 2 (pos e) (pos asked) (pos last) (pos 0) (pos 0)
+numbersOf (covered e) = six 3 e (pos 0) (pos 0) (pos 0) (pos 0)
+numbersOf (recorded e) = six 4 e (pos 0) (pos 0) (pos 0) (pos 0)
+numbersOf (annual a n) = six 5 (pos a) (pos n) (pos 0) (pos 0) (pos 0)
+numbersOf (opened n) = six 6 (pos n) (pos 0) (pos 0) (pos 0) (pos 0)
+numbersOf (stated f c s d a) = six 7 (pos f) (pos c) (pos s) (pos d) (pos a)
+numbersOf (counted n) = six 8 (pos n) (pos 0) (pos 0) (pos 0) (pos 0)
+
+-- The largest number of a signed word of 64 bits.
+abbrev pub largestSigned : ℕ
+largestSigned = 9223372036854775807
+
+-- The amounts and counts of an answer, which the book keeps in unsigned words of 64 bits, are within a signed one.
+abbrev pub WithinSigned : Answer → Type 0
+WithinSigned (refused n) = Unit {0}
+WithinSigned done = Unit {0}
+WithinSigned (called e asked last) = (e ≤ largestSigned) × (asked ≤ largestSigned)
+WithinSigned (covered e) = Unit {0}
+WithinSigned (recorded e) = Unit {0}
+WithinSigned (annual a n) = (a ≤ largestSigned) × (n ≤ largestSigned)
+WithinSigned (opened n) = Unit {0}
+WithinSigned (stated f c s d a) =
+    (f ≤ largestSigned)
+    × (c ≤ largestSigned)
+    × (s ≤ largestSigned)
+    × (d ≤ largestSigned)
+    × (a ≤ largestSigned)
+WithinSigned (counted n) = n ≤ largestSigned
+
+-- The numbers of the reading's decisions on the first n calls from a fresh book on day s, in the calls' order.
+unfoldable pub decided : ℕ → List ℕ → List ℤ → ℕ → List ℤ
+decided s words figures zero = []
+decided s words figures (suc n) =
+    decided s words figures n
+    ++ numbersOf (decision s (eventsOf s (callsUpTo words figures n)) (callAt words figures n))
