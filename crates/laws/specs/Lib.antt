@@ -5,5 +5,6 @@ pub mod Tabulated
 pub mod Tables
 pub mod Integers
 pub mod Signed
+pub mod Magnitudes
 pub mod Largest
 pub mod Places

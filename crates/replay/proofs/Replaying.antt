@@ -4,15 +4,14 @@ use Prim.Native.Nat.{ℕ, zero, suc, _+_, _-_, _*_, _/_, _^_, _≤_, _<_, min}
 use native.Mathlib.Omega.{arith}
 use native.Mathlib.Numerals.{add-one}
 use mathlib.Core.Path.{_≡_, refl, sym, ap, ap₂, subst, _∙_}
-use mathlib.Core.Bool.{Bool, true, false, cond}
-use mathlib.Core.List.{List, [], _∷_, _++_, append-assoc, append-nil}
+use mathlib.Core.List.{List, _++_}
 use borrow.Author.Needs.{sfits-of}
 use borrow.Author.Tests.{ne-eqb, leb-true, leb-false, lt-ltb, le-ltb}
-use lib.Dec.{eqb, leb}
+use lib.Dec.{leb}
 use lib.IntN.{ℤ, pos}
 use lib.Signed.{mag}
-use lib.ListN.{length, getD, take, drop, set, length-append, length-drop, length-take, length-set, take-append-drop, drop-of-length-le}
-use lib.Seq.{paste, paste-zero, paste-suc, length-paste, take-all, take-at, drop-at, take-append-le, drop-drop, drop-append-le}
+use lib.ListN.{length, getD, take, drop, set, length-append, length-drop, drop-of-length-le}
+use lib.Seq.{paste, paste-suc, take-all, take-at, drop-at, drop-drop}
 use mir.Syntax.{w64}
 use mir.Val.{hbits, toZ, ofZ}
 use mir.Facts.{toZ-ofZ}
@@ -21,11 +20,9 @@ use Rattle.file.specs.declared.Position.{Position}
 use Rattle.file.specs.declared.Position.the-variants.{Cash, Letter}
 use Rattle.file.specs.Answer.{Answer, refused, done, called, covered, recorded, annual, opened, stated, counted, decide}
 use Rattle.book.specs.declared.Book.{Book}
-use Rattle.book.specs.Call.{Act, admit, lodge, release, settle, annualRun, Call, on, advance, statement, callsMade}
+use Rattle.book.specs.Call.{admit, lodge, release, settle, annualRun, Call, on, advance, statement, callsMade}
 use Rattle.book.specs.Account.{freshBook, freshAnswer, freshBookBeside, answer, step, run}
 use Rattle.book.specs.Reading.Decisions.{decision, eventsOf}
-use Rattle.book.specs.Kept.{bookIn}
-use Rattle.book.specs.Life.{Life}
 use Rattle.book.specs.Reached.{Reached, Given, Begun}
 use Rattle.replay.specs.Words.{number, letterOf, callOf, callAt, callsUpTo, numbersOf, decided}
 use Rattle.replay.specs.Replayed.{GivenNumbers, callCount, Replayed, ReplayedFrom}

@@ -2,7 +2,7 @@
 -- answers; how they are spelled as words and numbers is this crate's own choice.
 -- Assumes nothing.
 use Prim.Native.Nat.{ℕ, zero, suc, _+_, _*_, _≤_, min}
-use mathlib.Core.Bool.{Bool, cond}
+use mathlib.Core.Bool.{cond}
 use mathlib.Core.List.{List, [], _∷_, _++_}
 use lib.Dec.{eqb}
 use lib.ListN.{getD, take, drop}
@@ -10,7 +10,7 @@ use lib.IntN.{ℤ, pos}
 use Rattle.file.specs.declared.Position.{Position}
 use Rattle.file.specs.declared.Position.the-variants.{Cash, Letter}
 use Rattle.file.specs.Answer.{Answer, refused, done, called, covered, recorded, annual, opened, stated, counted}
-use Rattle.book.specs.Call.{Act, admit, lodge, release, settle, annualRun, Call, on, advance, statement, callsMade}
+use Rattle.book.specs.Call.{admit, lodge, release, settle, annualRun, Call, on, advance, statement, callsMade}
 use Rattle.book.specs.Reading.Decisions.{decision, eventsOf}
 
 -- A day or month number in a word: one too large for the type counts as the type's largest.

@@ -24,10 +24,10 @@ fn put(out: &mut [i64], at: usize, numbers: [i64; 6])
     requires { ⌜ at + 6 ≤ length (now out) ⌝ }
     ensures { λ r. ⌜ now (out .exit) ≡ take at (now (out .entry)) ++ numbers ++ drop (at + 6) (now (out .entry)) ⌝ }
 {
-    let mut i = 0;
-    while i < 6 {
-        out[at + i] = numbers[i];
-        i += 1;
+    let mut k = 0;
+    while k < 6 {
+        out[at + k] = numbers[k];
+        k += 1;
     }
 }
 

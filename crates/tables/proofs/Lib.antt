@@ -1,2 +1,1 @@
-pub mod Flipped
 pub mod Products

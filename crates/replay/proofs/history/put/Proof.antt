@@ -1,4 +1,4 @@
--- `replay::history::put` meets its contract. The loop's invariant: the first i of the six numbers are pasted over the list as it was.
+-- `replay::history::put` meets its contract. The loop's invariant: the first k of the six numbers are pasted over the list as it was.
 -- Assumes nothing.
 use Prim.Native.Nat.{_-_, _≤_}
 use mathlib.Core.Path.{_≡_}
@@ -10,10 +10,10 @@ use Rattle.replay.proofs.history.put.Statement.{statement}
 use Rattle.replay.proofs.history.put.Tie as tie
 
 abbrev Inv-loop : tie.InvT-loop
-Inv-loop out₀ at numbers i₀ out i = (i ≤ 6) × (length numbers ≡ 6) × (length out ≡ length out₀) × (out ≡ paste out₀ at numbers i)
+Inv-loop out₀ at numbers k₀ out k = (k ≤ 6) × (length numbers ≡ 6) × (length out ≡ length out₀) × (out ≡ paste out₀ at numbers k)
 
 abbrev μ-loop : tie.MeasureT-loop
-μ-loop out₀ at numbers i₀ out i = 6 - i
+μ-loop out₀ at numbers k₀ out k = 6 - k
 
 loop-holds : tie.Need-loop-holds Inv-loop μ-loop
 loop-holds c = (search needs, search needs, search needs, paste-zero (c .args .out .now) (c .args .at) (c .args .t3))
@@ -33,8 +33,8 @@ mul-t12 c = search needs
 slice-set-from-out : tie.Need-slice-set-from-out Inv-loop μ-loop
 slice-set-from-out c = search needs
 
-add-i : tie.Need-add-i Inv-loop μ-loop
-add-i c = search needs
+add-k : tie.Need-add-k Inv-loop μ-loop
+add-k c = search needs
 
 loop-less : tie.Need-loop-less Inv-loop μ-loop
 loop-less c = search needs
@@ -60,7 +60,7 @@ put-spec =
     add-t11
     mul-t12
     slice-set-from-out
-    add-i
+    add-k
     loop-less
     loop-again
     same-length

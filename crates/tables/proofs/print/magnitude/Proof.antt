@@ -2,7 +2,7 @@
 -- Assumes nothing.
 use borrow.Author.Needs.{needs}
 use Rattle.laws.specs.Integers.{cast-fits}
-use Rattle.tables.proofs.Flipped.{
+use Rattle.laws.specs.Magnitudes.{
   fits-flipped,
   natural-flipped,
   cast-flipped,

@@ -1,6 +1,6 @@
--- The magnitude of a machine's signed number x, read from its bits: below zero it is one more than -1 - x, which is not negative.
--- Assumes nothing.
-use Prim.Native.Nat.{ℕ, suc, _+_, _<_}
+-- The magnitude of a machine's signed number x, read from its bits: below zero it is one more than -1 - x, which is not negative. And a
+-- magnitude of at most 63 bits, negated. Assumes nothing.
+use Prim.Native.Nat.{ℕ, suc, _+_, _^_, _≤_, _<_}
 use native.Mathlib.Omega.{arith}
 use mathlib.Core.Path.{_≡_, refl, ap, _∙_}
 use mathlib.Core.Bool.{true, false}
@@ -10,8 +10,9 @@ use lib.IntN.{ℤ, pos, negsuc, _-ℤ_, natAbs, +ℤ-comm, -ℤ-one}
 use lib.Signed.{mag, ltZ, nonNeg}
 use mir.Syntax.{w64}
 use mir.Val.{Fits, SFits, toZ, ofZ}
-use mir.Facts.{toZ-ofZ}
+use mir.Facts.{toZ-ofZ, toZ-pos}
 use Rattle.laws.specs.Integers.{cast-fits, cast-natural}
+use Rattle.laws.specs.Signed.{natAbs-minus, fits-natAbs}
 
 -- -1 less a number below zero
 minus : (x : ℤ) → ltZ x (pos 0) ≡ true → negsuc 0 -ℤ x ≡ pos (mag x)
@@ -59,3 +60,8 @@ module _ (x : ℤ) (f : SFits w64 x) (above : ltZ (toZ w64 (ofZ w64 x)) (pos 0) 
 
   pub magnitude-above : natAbs (toZ w64 (ofZ w64 x)) ≡ natAbs x
   magnitude-above = ap natAbs (toZ-ofZ f)
+
+pub fits-negated : (n : ℕ) → n ≤ 9223372036854775807 → SFits w64 (pos 0 -ℤ toZ w64 n)
+fits-negated n h =
+    let small : n < 2 ^ 63 = omega arith in
+    rw (toZ-pos w64 small) (fits-natAbs (pos 0 -ℤ pos n) (omega (arith, natAbs-minus (pos 0) (pos n))))

@@ -1,0 +1,29 @@
+-- `histories::print::magnitude` meets its contract, which says nothing: below zero -1 - x, which is not negative, fits and is one less than the
+-- magnitude. Assumes nothing.
+use borrow.Author.Needs.{needs}
+use Rattle.laws.specs.Integers.{cast-fits}
+use Rattle.laws.specs.Magnitudes.{fits-flipped, natural-flipped, cast-flipped, fits-magnitude, natural-above}
+use Rattle.histories.proofs.print.magnitude.Statement.{statement}
+use Rattle.histories.proofs.print.magnitude.Tie as tie
+
+sub-result : tie.Need-sub-result
+sub-result c = search (fits-flipped, needs)
+
+cast-result : tie.Need-cast-result
+cast-result c = (search (natural-flipped, needs), search (cast-flipped, needs))
+
+add-result : tie.Need-add-result
+add-result c = search (fits-magnitude, needs)
+
+cast-result-2 : tie.Need-cast-result-2
+cast-result-2 c = (search (natural-above, needs), search (cast-fits, needs))
+
+returns : tie.Need-returns
+returns c = search needs
+
+returns-2 : tie.Need-returns-2
+returns-2 c = search needs
+
+pub magnitude-spec : {M : Type 1} → statement M
+magnitude-spec =
+    tie.close (tie.spec sub-result cast-result add-result cast-result-2 returns returns-2)
