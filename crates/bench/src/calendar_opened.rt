@@ -15,7 +15,11 @@ pub fn run(timed: bool) {
     let book = advanced.book;
     output::number(b"whole calendar: days opened ", answers::days(answer));
     output::number(b", calls made ", book.calls_made());
-    output::figure(timed, b", sum of the statements ", participants::statements(book));
+    output::figure(
+        timed,
+        b", sum of the statements ",
+        participants::statements(book),
+    );
     output::end();
     output::time(timed, took);
 }

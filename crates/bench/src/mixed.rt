@@ -72,7 +72,11 @@ pub fn run(timed: bool, plan: Plan) {
     output::number(b"  to day ", today.0 as u64);
     output::figure(timed, b", calls made ", book.calls_made());
     output::figure(timed, b", sum of the answers ", done.sum);
-    output::figure(timed, b", sum of the statements ", participants::statements(book));
+    output::figure(
+        timed,
+        b", sum of the statements ",
+        participants::statements(book),
+    );
     output::end();
     output::time(timed, took);
 }

@@ -1,0 +1,7 @@
+pub mod FieldLaws
+pub mod CallLaws
+pub mod ListLaws
+pub mod LineLaws
+pub mod Examples
+pub mod Room
+pub mod Counts

@@ -1,0 +1,111 @@
+// One line of the journal: the call that it is, read from its bytes.
+ghost use lib.ListN.{length};
+ghost use Rattle.words.specs.Words.{words as Words·words};
+ghost use Rattle.journal.specs.Fields.{leftAt};
+ghost use Rattle.journal.specs.Grammar.{callOf, wordsOf, parsed};
+ghost use Rattle.journal.specs.Steps.{ParsedIs};
+use calendar::Day;
+use calendar::Month;
+
+mod fields; // fields.rt: the words of a line taken one by one
+mod calls; // calls.rt: the calls that have no lists
+mod lists; // lists.rt: the calls that have lists
+
+use fields::Place;
+use fields::closed;
+use words::content_end;
+use words::has_control;
+use words::place_of;
+use words::word_at;
+
+// What is wrong with a line.
+pub enum Reason {
+    ControlByte,
+    NoCall,
+    TooFewWords,
+    TooManyWords,
+    NotNumber,
+    NotDay,
+    NotMonth,
+    NotRole,
+    NotCashOrLetter,
+    TooLong,
+}
+
+// How long each of the seven lists of `special` is.
+pub struct Lengths {
+    pub medium: usize,
+    pub low: usize,
+    pub marks: usize,
+    pub zero_medium: usize,
+    pub zero_low: usize,
+    pub excess_medium: usize,
+    pub excess_low: usize,
+}
+
+// What a line is: nothing, a call with its arguments, or an error. Participants come first, then positions, then amounts; a settlement has
+// the number of its figures, and a special guarantee the lengths of its lists.
+pub enum Request {
+    Nothing,
+    Fresh(Day),
+    Admit(u64, u64),
+    LodgeCash(u64, u64, u64),
+    LodgeLetter(u64, u64, u64, Day, Day),
+    Release(u64, u64, u64),
+    Settle(u64, Month, usize),
+    Annual(u64),
+    Advance(Day, u64),
+    Statement(u64),
+    Calls,
+    Special(Lengths),
+    Report,
+    Error(Reason),
+}
+
+// The call whose name has place k among the names, from the place after it.
+fn call(k: usize, s: &[u8], place: Place, numbers: &mut [i64]) -> Request
+    ensures { λ r. ⌜ ParsedIs (callOf (length (now (numbers .entry))) k (leftAt (now (s .entry)) place)) (now (numbers .entry)) r (now (numbers .exit)) ⌝ }
+{
+    match k {
+        0 => calls::fresh(s, place),
+        1 => calls::admit(s, place),
+        2 => calls::lodge(s, place),
+        3 => calls::release(s, place),
+        4 => lists::settle(s, place, numbers),
+        5 => calls::annual(s, place),
+        6 => calls::advance(s, place),
+        7 => calls::statement(s, place),
+        8 => closed(s, place, Request::Calls),
+        9 => lists::special(s, place, numbers),
+        10 => closed(s, place, Request::Report),
+        _ => Request::Error(Reason::NoCall),
+    }
+}
+
+// The call that a line without comment and control bytes is.
+fn read_words(s: &[u8], numbers: &mut [i64]) -> Request
+    ensures { λ r. ⌜ ParsedIs (wordsOf (length (now (numbers .entry))) (Words·words (now (s .entry)))) (now (numbers .entry)) r (now (numbers .exit)) ⌝ }
+{
+    let w = word_at(s, 0);
+    let start = w.start;
+    let end = w.end;
+    if start == end {
+        return Request::Nothing;
+    }
+    let names = b"fresh admit lodge release settle annual advance statement calls special report";
+    let k = place_of(&s[start..end], names);
+    call(k, s, Place::At(end), numbers)
+}
+
+// The call that a line is. The numbers of its lists are written to the front of the slice, in a row; the rest of the slice is left as it
+// was. A line with more numbers than the slice has room for is an error.
+pub fn parse(line: &[u8], numbers: &mut [i64]) -> Request
+    ensures { λ r. ⌜ ParsedIs (parsed (length (now (numbers .entry))) (now (line .entry))) (now (numbers .entry)) r (now (numbers .exit)) ⌝ }
+{
+    let n = content_end(line);
+    let s = &line[..n];
+    if has_control(s) {
+        return Request::Error(Reason::ControlByte);
+    }
+    read_words(s, numbers)
+}

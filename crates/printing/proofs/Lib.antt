@@ -1,0 +1,7 @@
+pub mod PlainWords
+pub mod DecimalLaws
+pub mod FieldsBack
+pub mod RoundTrip
+pub mod PutLaws
+pub mod Magnitudes
+pub mod LineLaws

@@ -1,0 +1,327 @@
+-- Words one after the other, and the lines of calls and answers.
+-- Assumes nothing.
+use Prim.Native.Nat.{ℕ, suc, _+_, _-_, _≤_, _<_, min}
+use mathlib.Core.Path.{_≡_, refl, sym, ap, _∙_}
+use mathlib.Core.List.{List, [], _∷_, _++_, map, append-nil, append-assoc}
+use native.Mathlib.Numerals.{add-one}
+use native.Mathlib.Omega.{arith}
+use borrow.Author.Tests.{leb-true, leb-false}
+use mir.Syntax.{w64}
+use mir.Val.{SFits}
+use lib.Dec.{leb}
+use lib.ListN.{length, take, drop, getD, drop-of-length-le, length-drop}
+use lib.Seq.{drop-cons, take-all, drop-drop}
+use lib.IntN.{ℤ, pos}
+use Rattle.laws.specs.Cases.{split}
+use Rattle.calendar.specs.declared.Day.{Day}
+use Rattle.calendar.specs.declared.Month.{Month}
+use Rattle.words.specs.Text.{text}
+use Rattle.journal.specs.declared.Reason.{Reason}
+use Rattle.journal.specs.declared.Request.{Request}
+use Rattle.journal.specs.declared.Lengths.{Lengths}
+use Rattle.printing.specs.Decimals.{decimal, integer, spaced, joined}
+use Rattle.printing.specs.Lines.{callWords, printed, cut, listWords}
+use Rattle.journal.specs.Grammar.{lengthList}
+use Rattle.printing.specs.Answers.{reasonText, answerWords, answerLine}
+use Rattle.printing.specs.Placed.{Put}
+use Rattle.printing.specs.declared.Answer.{Answer}
+use Rattle.printing.proofs.PutLaws.{read, as-read, put-then, Putting, putting-goes, putting-ends}
+
+-- Words with a blank before each.
+
+spaced-append : (a b : List (List ℕ)) → spaced (a ++ b) ≡ spaced a ++ spaced b
+unfolding spaced
+spaced-append [] b = refl
+spaced-append (w ∷ a) b = ap (λ (t : List ℕ). (32 ∷ w) ++ t) (spaced-append a b) ∙ sym (append-assoc (32 ∷ w) (spaced a) (spaced b))
+
+joined-append : (w : List ℕ) (a b : List (List ℕ)) → joined (w ∷ (a ++ b)) ≡ joined (w ∷ a) ++ spaced b
+unfolding joined
+joined-append w a b = ap (λ (t : List ℕ). w ++ t) (spaced-append a b) ∙ sym (append-assoc w (spaced a) (spaced b))
+
+spaced-one : (w : List ℕ) → spaced (w ∷ []) ≡ (32 ∷ []) ++ w
+unfolding spaced
+spaced-one w = append-nil (32 ∷ w)
+
+joined-first : (w : List ℕ) (b : List (List ℕ)) → joined (w ∷ b) ≡ w ++ spaced b
+unfolding joined
+joined-first w b = refl
+
+spaced-joined : (w : List ℕ) (b : List (List ℕ)) → spaced (w ∷ b) ≡ joined ((32 ∷ w) ∷ b)
+unfolding spaced joined
+spaced-joined w b = refl
+
+cash-spaced : spaced (text "cash" ∷ []) ≡ text " cash"
+unfolding spaced
+cash-spaced = refl
+
+module _ (e f g : List ℕ) (at p q : ℕ) where
+  -- a blank and a word
+  pub put-blank : (w : List ℕ) → Put (32 ∷ []) e at p f → Put w f p q g → Put (spaced (w ∷ [])) e at q g
+  put-blank w x y = rw (spaced-one w) (put-then (32 ∷ []) w e f g at p q x y)
+
+  -- the first word, and those behind it
+  pub put-first : (w : List ℕ) (b : List (List ℕ)) → Put w e at p f → Put (spaced b) f p q g → Put (joined (w ∷ b)) e at q g
+  put-first w b x y = rw (joined-first w b) (put-then w (spaced b) e f g at p q x y)
+
+  -- the same of a number that may have a minus
+  pub put-blank-integer : (z : ℤ) → SFits w64 z → Put (32 ∷ []) e at p f → Put (integer (read z)) f p q g → Put (spaced (integer z ∷ [])) e at q g
+  put-blank-integer z s x y = put-blank (integer z) x (rw (as-read z s) at y)
+
+  pub put-first-integer : (w : List ℕ) (z : ℤ) → SFits w64 z → Put w e at p f → Put (spaced (integer (read z) ∷ [])) f p q g
+      → Put (joined (w ∷ integer z ∷ [])) e at q g
+  put-first-integer w z s x y = put-first w (integer z ∷ []) x (rw (as-read z s) at y)
+
+  -- more words behind words
+  pub put-more : (w : List ℕ) (a b : List (List ℕ)) → Put (joined (w ∷ a)) e at p f → Put (spaced b) f p q g → Put (joined (w ∷ (a ++ b))) e at q g
+  put-more w a b x y = rw (joined-append w a b) (put-then (joined (w ∷ a)) (spaced b) e f g at p q x y)
+
+  pub put-second : (w a b : List ℕ) → Put (joined (w ∷ a ∷ [])) e at p f → Put (spaced (b ∷ [])) f p q g → Put (joined (w ∷ a ∷ b ∷ [])) e at q g
+  put-second w a b x y = put-more w (a ∷ []) (b ∷ []) x y
+
+  pub put-third : (w a b d : List ℕ) → Put (joined (w ∷ a ∷ b ∷ [])) e at p f → Put (spaced (d ∷ [])) f p q g
+      → Put (joined (w ∷ a ∷ b ∷ d ∷ [])) e at q g
+  put-third w a b d x y = put-more w (a ∷ b ∷ []) (d ∷ []) x y
+
+  pub put-figures : (w a b : List ℕ) (zs : List ℤ) → Put (joined (w ∷ a ∷ b ∷ [])) e at p f → Put (spaced (map integer zs)) f p q g
+      → Put (joined (w ∷ a ∷ b ∷ map integer zs)) e at q g
+  put-figures w a b zs x y = put-more w (a ∷ b ∷ []) (map integer zs) x y
+
+  -- a list: its length and its numbers
+  pub put-numbers : (n : ℕ) (zs : List ℤ) → Put (spaced (decimal n ∷ [])) e at p f → Put (spaced (map integer zs)) f p q g
+      → Put (spaced (decimal n ∷ map integer zs)) e at q g
+  put-numbers n zs x y =
+      rw (spaced-append (decimal n ∷ []) (map integer zs)) (put-then (spaced (decimal n ∷ [])) (spaced (map integer zs)) e f g at p q x y)
+
+  pub put-letter : (a b c d h : List ℕ) → Put (joined (text "lodge" ∷ a ∷ b ∷ [])) e at p f → Put (joined (text " letter" ∷ c ∷ d ∷ h ∷ [])) f p q g
+      → Put (joined (text "lodge" ∷ a ∷ b ∷ text "letter" ∷ c ∷ d ∷ h ∷ [])) e at q g
+  put-letter a b c d h x y = put-more (text "lodge") (a ∷ b ∷ []) (text "letter" ∷ c ∷ d ∷ h ∷ []) x (rw letter-spaced y)
+    where
+      letter-spaced : spaced (text "letter" ∷ c ∷ d ∷ h ∷ []) ≡ joined (text " letter" ∷ c ∷ d ∷ h ∷ [])
+      letter-spaced = spaced-joined (text "letter") (c ∷ d ∷ h ∷ [])
+
+module _ (e f g d : List ℕ) (at p q r : ℕ) where
+  pub put-cash : (a b c : List ℕ) → Put (joined (text "lodge" ∷ a ∷ b ∷ [])) e at p f → Put (text " cash") f p q g → Put (spaced (c ∷ [])) g q r d
+      → Put (joined (text "lodge" ∷ a ∷ b ∷ text "cash" ∷ c ∷ [])) e at r d
+  put-cash a b c x y z =
+      put-more e g d at q r (text "lodge") (a ∷ b ∷ text "cash" ∷ []) (c ∷ []) (put-more e f g at p q (text "lodge") (a ∷ b ∷ []) (text "cash" ∷ []) x (rw (cash-spaced) y)) z
+
+  pub put-fault : (l w : List ℕ) → Put (joined (text "error" ∷ l ∷ [])) e at p f → Put (32 ∷ []) f p q g → Put w g q r d
+      → Put (joined (text "error" ∷ l ∷ w ∷ [])) e at r d
+  put-fault l w x y z = put-more e f d at p r (text "error") (l ∷ []) (w ∷ []) x (put-blank f g d p q r w y z)
+
+  pub put-statement : (a b c k m : List ℕ) → Put (joined (text "statement" ∷ a ∷ b ∷ c ∷ [])) e at p f → Put (spaced (k ∷ [])) f p q g
+      → Put (spaced (m ∷ [])) g q r d → Put (joined (text "statement" ∷ a ∷ b ∷ c ∷ k ∷ m ∷ [])) e at r d
+  put-statement a b c k m x y z =
+      put-more e g d at q r (text "statement") (a ∷ b ∷ c ∷ k ∷ []) (m ∷ []) (put-more e f g at p q (text "statement") (a ∷ b ∷ c ∷ []) (k ∷ []) x y) z
+
+-- Numbers with a blank before each, one by one.
+
+spaced-next : (w : List ℕ) (b : List (List ℕ)) → spaced (w ∷ b) ≡ spaced (w ∷ []) ++ spaced b
+spaced-next w b = spaced-append (w ∷ []) b
+
+pub integers-more : (x : List ℕ) (zs : List ℤ) (v : ℤ) (e f g : List ℕ) (at p q i : ℕ) → i < length zs → v ≡ getD zs i (pos 0)
+    → Putting x (spaced (map integer (drop i zs))) e at p f → Put (spaced (integer v ∷ [])) f p q g
+    → Putting x (spaced (map integer (drop (i + 1) zs))) e at q g
+integers-more x zs v e f g at p q i h k w z =
+    putting-goes x (spaced (map integer (drop i zs))) (spaced (integer v ∷ [])) (spaced (map integer (drop (i + 1) zs))) e f g at p q w
+    (rw (k, add-one i, drop-cons zs i (pos 0) h) (spaced-next (integer (getD zs i (pos 0))) (map integer (drop (suc i) zs))))
+    z
+
+spaced-nil : spaced [] ≡ []
+unfolding spaced
+spaced-nil = refl
+
+pub integers-done : (x : List ℕ) (zs : List ℤ) (e f : List ℕ) (at p i : ℕ) → length zs ≤ i → Putting x (spaced (map integer (drop i zs))) e at p f → Put x e at p f
+integers-done x zs e f at p i h w = putting-ends x (spaced (map integer (drop i zs))) e f at p w (rw (drop-of-length-le zs h) spaced-nil)
+
+-- Lists, one by one.
+
+part-is : (zs : List ℤ) (k n : ℕ) → k ≤ length zs → take (min (k + n) (length zs) - k) (drop k zs) ≡ take n (drop k zs)
+part-is zs k n h =
+    split (leb (k + n) (length zs))
+    (λ t.
+    let b : min (k + n) (length zs) - k ≡ n = omega (arith, leb-true (k + n) (length zs) t) in rw b)
+    (λ t.
+    let g : length zs < k + n = leb-false (k + n) (length zs) t in
+    let a : length (drop k zs) ≤ min (k + n) (length zs) - k = rw length-drop (omega arith) in
+    let b : length (drop k zs) ≤ n = rw length-drop (omega arith) in
+    take-all (min (k + n) (length zs) - k) (drop k zs) a ∙ sym (take-all n (drop k zs) b))
+
+rest-is : (zs : List ℤ) (k n : ℕ) → k ≤ length zs → drop (min (k + n) (length zs)) zs ≡ drop n (drop k zs)
+rest-is zs k n h =
+    split (leb (k + n) (length zs))
+    (λ t.
+    let b : min (k + n) (length zs) ≡ k + n = omega (arith, leb-true (k + n) (length zs) t) in rw b (sym (drop-drop n k zs)))
+    (λ t.
+    let g : length zs < k + n = leb-false (k + n) (length zs) t in
+    let a : length zs ≤ min (k + n) (length zs) = omega arith in
+    let b : length zs ≤ k + n = omega arith in
+    drop-of-length-le zs a ∙ sym (drop-drop n k zs ∙ drop-of-length-le zs b))
+
+-- the next list and the rest
+lists-next : (n : ℕ) (ks : List ℕ) (zs : List ℤ)
+    → spaced (listWords (cut (n ∷ ks) zs)) ≡ spaced (decimal (length (take n zs)) ∷ map integer (take n zs)) ++ spaced (listWords (cut ks (drop n zs)))
+unfolding cut listWords
+lists-next n ks zs = spaced-append (decimal (length (take n zs)) ∷ map integer (take n zs)) (listWords (cut ks (drop n zs)))
+
+abbrev listBytes : List ℤ → List ℕ
+listBytes zs = spaced (decimal (length zs) ∷ map integer zs)
+
+pub lists-more : (x : List ℕ) (ks : List ℕ) (zs : List ℤ) (e f g : List ℕ) (at p q i k n end : ℕ) → i < length ks → k ≤ length zs → n ≡ getD ks i 0
+    → end ≡ min (k + n) (length zs) → Putting x (spaced (listWords (cut (drop i ks) (drop k zs)))) e at p f
+    → Put (spaced (decimal (length (take (end - k) (drop k zs))) ∷ map integer (take (end - k) (drop k zs)))) f p q g
+    → Putting x (spaced (listWords (cut (drop (i + 1) ks) (drop end zs)))) e at q g
+lists-more x ks zs e f g at p q i k n end h b c d w z =
+    let o : drop i ks ≡ n ∷ drop (i + 1) ks = rw (c, add-one i) (drop-cons ks i 0 h) in
+    let t : take (end - k) (drop k zs) ≡ take n (drop k zs) = ap (λ (m : ℕ). take (m - k) (drop k zs)) d ∙ part-is zs k n b in
+    let r : drop end zs ≡ drop n (drop k zs) = ap (λ (m : ℕ). drop m zs) d ∙ rest-is zs k n b in
+    putting-goes x (spaced (listWords (cut (drop i ks) (drop k zs)))) (listBytes (take (end - k) (drop k zs))) (spaced (listWords (cut (drop (i + 1) ks) (drop end zs))))
+    e f g at p q w (rw (o, t, r) (lists-next n (drop (i + 1) ks) (drop k zs))) z
+
+no-lists : (zs : List ℤ) → spaced (listWords (cut [] zs)) ≡ []
+unfolding cut listWords spaced
+no-lists zs = refl
+
+pub lists-done : (x : List ℕ) (ks : List ℕ) (zs : List ℤ) (e f : List ℕ) (at p i : ℕ) → length ks ≤ i
+    → Putting x (spaced (listWords (cut (drop i ks) zs))) e at p f → Put x e at p f
+lists-done x ks zs e f at p i h w =
+    putting-ends x (spaced (listWords (cut (drop i ks) zs))) e f at p w (rw (drop-of-length-le ks h) (no-lists zs))
+
+-- What is wrong with a line, by the reason.
+
+module _ (why : Reason) (e g : List ℕ) (at q : ℕ) where
+  pub control-byte : why ≡ Reason.ControlByte → Put (text "a control byte") e at q g → Put (reasonText why) e at q g
+  control-byte k x = rw k x
+
+  pub no-call : why ≡ Reason.NoCall → Put (text "no such call") e at q g → Put (reasonText why) e at q g
+  no-call k x = rw k x
+
+  pub too-few : why ≡ Reason.TooFewWords → Put (text "too few words") e at q g → Put (reasonText why) e at q g
+  too-few k x = rw k x
+
+  pub too-many : why ≡ Reason.TooManyWords → Put (text "too many words") e at q g → Put (reasonText why) e at q g
+  too-many k x = rw k x
+
+  pub no-number : why ≡ Reason.NotNumber → Put (text "not a number") e at q g → Put (reasonText why) e at q g
+  no-number k x = rw k x
+
+  pub no-day : why ≡ Reason.NotDay → Put (text "not a day") e at q g → Put (reasonText why) e at q g
+  no-day k x = rw k x
+
+  pub no-month : why ≡ Reason.NotMonth → Put (text "not a month") e at q g → Put (reasonText why) e at q g
+  no-month k x = rw k x
+
+  pub no-role : why ≡ Reason.NotRole → Put (text "not a role") e at q g → Put (reasonText why) e at q g
+  no-role k x = rw k x
+
+  pub no-cash-or-letter : why ≡ Reason.NotCashOrLetter → Put (text "neither cash nor letter") e at q g → Put (reasonText why) e at q g
+  no-cash-or-letter k x = rw k x
+
+  pub too-long : why ≡ Reason.TooLong → Put (text "line too long") e at q g → Put (reasonText why) e at q g
+  too-long k x = rw k x
+
+-- Answers, by their kind.
+
+module _ (answer : Answer) (e g : List ℕ) (at q : ℕ) where
+  pub answer-done : answer ≡ Answer.Done → Put (text "done") e at q g → Put (answerLine answer) e at q g
+  unfolding answerLine answerWords joined spaced
+  answer-done k x = rw k x
+
+  pub answer-refused : (n : ℕ) → answer ≡ Answer.Refused n → Put (joined (text "refused" ∷ decimal n ∷ [])) e at q g → Put (answerLine answer) e at q g
+  unfolding answerLine answerWords
+  answer-refused n k x = rw k x
+
+  pub answer-called : (a b : ℕ) (d : Day) → answer ≡ Answer.Called a b d → Put (joined (text "called" ∷ decimal a ∷ decimal b ∷ decimal (d .0) ∷ [])) e at q g → Put (answerLine answer) e at q g
+  unfolding answerLine answerWords
+  answer-called a b d k x = rw k x
+
+  pub answer-covered : (z : ℤ) → answer ≡ Answer.Covered z → Put (joined (text "covered" ∷ integer z ∷ [])) e at q g → Put (answerLine answer) e at q g
+  unfolding answerLine answerWords
+  answer-covered z k x = rw k x
+
+  pub answer-recorded : (z : ℤ) → answer ≡ Answer.Recorded z → Put (joined (text "recorded" ∷ integer z ∷ [])) e at q g → Put (answerLine answer) e at q g
+  unfolding answerLine answerWords
+  answer-recorded z k x = rw k x
+
+  pub answer-annual : (a b : ℕ) → answer ≡ Answer.Annual a b → Put (joined (text "annual" ∷ decimal a ∷ decimal b ∷ [])) e at q g → Put (answerLine answer) e at q g
+  unfolding answerLine answerWords
+  answer-annual a b k x = rw k x
+
+  pub answer-opened : (n : ℕ) → answer ≡ Answer.Opened n → Put (joined (text "opened" ∷ decimal n ∷ [])) e at q g → Put (answerLine answer) e at q g
+  unfolding answerLine answerWords
+  answer-opened n k x = rw k x
+
+  pub answer-stated : (a b c d m : ℕ) → answer ≡ Answer.Statement a b c d m → Put (joined (text "statement" ∷ decimal a ∷ decimal b ∷ decimal c ∷ decimal d ∷ decimal m ∷ [])) e at q g → Put (answerLine answer) e at q g
+  unfolding answerLine answerWords
+  answer-stated a b c d m k x = rw k x
+
+  pub answer-counted : (n : ℕ) → answer ≡ Answer.Calls n → Put (joined (text "calls" ∷ decimal n ∷ [])) e at q g → Put (answerLine answer) e at q g
+  unfolding answerLine answerWords
+  answer-counted n k x = rw k x
+
+  pub answer-guaranteed : (n : ℕ) → answer ≡ Answer.Special n → Put (joined (text "special" ∷ decimal n ∷ [])) e at q g → Put (answerLine answer) e at q g
+  unfolding answerLine answerWords
+  answer-guaranteed n k x = rw k x
+
+  pub answer-faulty : (n : ℕ) (w : Reason) → answer ≡ Answer.Error n w → Put (joined (text "error" ∷ decimal n ∷ reasonText w ∷ [])) e at q g → Put (answerLine answer) e at q g
+  unfolding answerLine answerWords
+  answer-faulty n w k x = rw k x
+
+-- Calls, by their kind.
+
+module _ (request : Request) (zs : List ℤ) (e g : List ℕ) (at q : ℕ) where
+  pub line-nothing : request ≡ Request.Nothing → Put [] e at q g → Put (printed request zs) e at q g
+  unfolding printed callWords joined spaced
+  line-nothing k x = rw k x
+
+  pub line-fresh : (d : Day) → request ≡ Request.Fresh d → Put (joined (text "fresh" ∷ decimal (d .0) ∷ [])) e at q g → Put (printed request zs) e at q g
+  unfolding printed callWords
+  line-fresh d k x = rw k x
+
+  pub line-admit : (a b : ℕ) → request ≡ Request.Admit a b → Put (joined (text "admit" ∷ decimal a ∷ decimal b ∷ [])) e at q g → Put (printed request zs) e at q g
+  unfolding printed callWords
+  line-admit a b k x = rw k x
+
+  pub line-cash : (a b c : ℕ) → request ≡ Request.LodgeCash a b c → Put (joined (text "lodge" ∷ decimal a ∷ decimal b ∷ text "cash" ∷ decimal c ∷ [])) e at q g → Put (printed request zs) e at q g
+  unfolding printed callWords
+  line-cash a b c k x = rw k x
+
+  pub line-letter : (a b c : ℕ) (d m : Day) → request ≡ Request.LodgeLetter a b c d m → Put (joined (text "lodge" ∷ decimal a ∷ decimal b ∷ text "letter" ∷ decimal c ∷ decimal (d .0) ∷ decimal (m .0) ∷ [])) e at q g → Put (printed request zs) e at q g
+  unfolding printed callWords
+  line-letter a b c d m k x = rw k x
+
+  pub line-release : (a b c : ℕ) → request ≡ Request.Release a b c → Put (joined (text "release" ∷ decimal a ∷ decimal b ∷ decimal c ∷ [])) e at q g → Put (printed request zs) e at q g
+  unfolding printed callWords
+  line-release a b c k x = rw k x
+
+  pub line-settle : (a : ℕ) (m : Month) (n : ℕ) → request ≡ Request.Settle a m n → Put (joined (text "settle" ∷ decimal a ∷ decimal (m .0) ∷ map integer zs)) e at q g → Put (printed request zs) e at q g
+  unfolding printed callWords
+  line-settle a m n k x = rw k x
+
+  pub line-annual : (a : ℕ) → request ≡ Request.Annual a → Put (joined (text "annual" ∷ decimal a ∷ [])) e at q g → Put (printed request zs) e at q g
+  unfolding printed callWords
+  line-annual a k x = rw k x
+
+  pub line-advance : (d : Day) (b : ℕ) → request ≡ Request.Advance d b → Put (joined (text "advance" ∷ decimal (d .0) ∷ decimal b ∷ [])) e at q g → Put (printed request zs) e at q g
+  unfolding printed callWords
+  line-advance d b k x = rw k x
+
+  pub line-statement : (a : ℕ) → request ≡ Request.Statement a → Put (joined (text "statement" ∷ decimal a ∷ [])) e at q g → Put (printed request zs) e at q g
+  unfolding printed callWords
+  line-statement a k x = rw k x
+
+  pub line-calls : request ≡ Request.Calls → Put (text "calls") e at q g → Put (printed request zs) e at q g
+  unfolding printed callWords joined spaced
+  line-calls k x = rw k x
+
+  pub line-special : (n : Lengths) → request ≡ Request.Special n → Put (joined (text "special" ∷ listWords (cut (lengthList n) zs))) e at q g → Put (printed request zs) e at q g
+  unfolding printed callWords
+  line-special n k x = rw k x
+
+  pub line-report : request ≡ Request.Report → Put (text "report") e at q g → Put (printed request zs) e at q g
+  unfolding printed callWords joined spaced
+  line-report k x = rw k x
+
+  pub line-error : (w : Reason) → request ≡ Request.Error w → Put [] e at q g → Put (printed request zs) e at q g
+  unfolding printed callWords joined spaced
+  line-error w k x = rw k x

@@ -1,0 +1,4 @@
+pub mod Decimals
+pub mod Lines
+pub mod Placed
+pub mod Answers

@@ -1,0 +1,31 @@
+// Lines as they are printed, without their newline: calls in their numeric form, and answers.
+use calendar::Day;
+use journal::Reason;
+
+mod bytes; // bytes.rt: texts and numbers written into a lent slice
+mod spaced; // spaced.rt: numbers after a word, with a blank before each
+mod calls; // calls.rt: the lines of calls
+mod answers; // answers.rt: the lines of answers
+
+pub use answers::put_answer;
+pub use bytes::put_integer;
+pub use bytes::put_number;
+pub use bytes::put_text;
+pub use calls::put_call;
+
+// An answer to a line: E is the sum of a settlement's figures, ASKED what a call asks for and LAST_FREE_DAY its last free day; the amount
+// and the months of an annual run; the days opened; a statement's firm amount, cover, shortfall, days charged and accrued charge; the calls
+// made; a special guarantee in cents; the line that is no call, and why.
+pub enum Answer {
+    Done,
+    Refused(u32),
+    Called(u64, u64, Day),
+    Covered(i64),
+    Recorded(i64),
+    Annual(u64, u64),
+    Opened(u32),
+    Statement(u64, u64, u64, u64, u64),
+    Calls(u64),
+    Special(u64),
+    Error(u64, Reason),
+}

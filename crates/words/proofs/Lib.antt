@@ -1,0 +1,4 @@
+pub mod Scans
+pub mod WordLaws
+pub mod NumberLaws
+pub mod DateWords

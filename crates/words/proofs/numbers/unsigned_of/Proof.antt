@@ -1,0 +1,25 @@
+-- `words::numbers::unsigned_of` meets its contract: its digits give the number, held to the largest of 64 bits and then of its type.
+-- Assumes nothing.
+use Rattle.words.proofs.NumberLaws.{an-unsigned, no-unsigned}
+use borrow.Author.Needs.{needs}
+use Rattle.words.proofs.numbers.unsigned_of.Statement.{statement}
+use Rattle.words.proofs.numbers.unsigned_of.Tie as tie
+
+is-natural-requires : tie.Need-is-natural-requires
+is-natural-requires c κs = search needs
+
+digits-requires : tie.Need-digits-requires
+digits-requires c κs = search needs
+
+held-signed-requires : tie.Need-held-signed-requires
+held-signed-requires c κs = search needs
+
+returns : tie.Need-returns
+returns c = search (an-unsigned, needs)
+
+returns-2 : tie.Need-returns-2
+returns-2 c = search (no-unsigned, needs)
+
+pub unsigned-of-spec : {M : Type 1} → statement M
+unsigned-of-spec =
+    tie.close (tie.spec is-natural-requires digits-requires held-signed-requires returns returns-2)
