@@ -18,7 +18,7 @@ use words::has_control;
 use words::place_of;
 use words::word_at;
 
-// What is wrong with a line.
+// What is wrong with a line. The last is said by a kept journal, in which `fresh` stands only as the first call.
 pub enum Reason {
     ControlByte,
     NoCall,
@@ -30,6 +30,7 @@ pub enum Reason {
     NotRole,
     NotCashOrLetter,
     TooLong,
+    FreshLater,
 }
 
 // How long each of the seven lists of `special` is.

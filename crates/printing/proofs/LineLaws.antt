@@ -220,6 +220,9 @@ module _ (why : Reason) (e g : List ℕ) (at q : ℕ) where
   pub too-long : why ≡ Reason.TooLong → Put (text "line too long") e at q g → Put (reasonText why) e at q g
   too-long k x = rw k x
 
+  pub fresh-later : why ≡ Reason.FreshLater → Put (text "fresh is not the first call") e at q g → Put (reasonText why) e at q g
+  fresh-later k x = rw k x
+
 -- Answers, by their kind.
 
 module _ (answer : Answer) (e g : List ℕ) (at q : ℕ) where
@@ -266,6 +269,10 @@ module _ (answer : Answer) (e g : List ℕ) (at q : ℕ) where
   pub answer-faulty : (n : ℕ) (w : Reason) → answer ≡ Answer.Error n w → Put (joined (text "error" ∷ decimal n ∷ reasonText w ∷ [])) e at q g → Put (answerLine answer) e at q g
   unfolding answerLine answerWords
   answer-faulty n w k x = rw k x
+
+  pub answer-nothing : answer ≡ Answer.Nothing → Put [] e at q g → Put (answerLine answer) e at q g
+  unfolding answerLine answerWords joined spaced
+  answer-nothing k x = rw k x
 
 -- Calls, by their kind.
 

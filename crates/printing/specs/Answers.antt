@@ -19,6 +19,7 @@ reasonText Reason.NotMonth = text "not a month"
 reasonText Reason.NotRole = text "not a role"
 reasonText Reason.NotCashOrLetter = text "neither cash nor letter"
 reasonText Reason.TooLong = text "line too long"
+reasonText Reason.FreshLater = text "fresh is not the first call"
 
 -- The words of an answer.
 unfoldable pub answerWords : Answer → List (List ℕ)
@@ -34,6 +35,7 @@ answerWords (Answer.Statement f c s d m) =
 answerWords (Answer.Calls n) = text "calls" ∷ decimal n ∷ []
 answerWords (Answer.Special c) = text "special" ∷ decimal c ∷ []
 answerWords (Answer.Error l e) = text "error" ∷ decimal l ∷ reasonText e ∷ []
+answerWords Answer.Nothing = []
 
 -- An answer as a line.
 unfoldable pub answerLine : Answer → List ℕ

@@ -28,6 +28,7 @@ fn put_reason(out: &mut [u8], at: usize, why: Reason) -> usize
         Reason::NotRole => put_text(out, at, b"not a role"),
         Reason::NotCashOrLetter => put_text(out, at, b"neither cash nor letter"),
         Reason::TooLong => put_text(out, at, b"line too long"),
+        Reason::FreshLater => put_text(out, at, b"fresh is not the first call"),
     }
 }
 
@@ -73,5 +74,6 @@ pub fn put_answer(out: &mut [u8], at: usize, answer: Answer) -> usize
         Answer::Calls(n) => put_one(out, at, b"calls", n),
         Answer::Special(cents) => put_one(out, at, b"special", cents),
         Answer::Error(line, why) => put_error(out, at, line, why),
+        Answer::Nothing => put_text(out, at, b""),
     }
 }

@@ -15,7 +15,7 @@ pub use calls::put_call;
 
 // An answer to a line: E is the sum of a settlement's figures, ASKED what a call asks for and LAST_FREE_DAY its last free day; the amount
 // and the months of an annual run; the days opened; a statement's firm amount, cover, shortfall, days charged and accrued charge; the calls
-// made; a special guarantee in cents; the line that is no call, and why.
+// made; a special guarantee in cents; the line that is no call, and why. Nothing is said to an empty line.
 pub enum Answer {
     Done,
     Refused(u32),
@@ -28,4 +28,5 @@ pub enum Answer {
     Calls(u64),
     Special(u64),
     Error(u64, Reason),
+    Nothing,
 }

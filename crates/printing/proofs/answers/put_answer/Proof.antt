@@ -1,6 +1,6 @@
 -- `printing::answers::put_answer` meets its contract: the kind of the answer decides.
 -- Assumes nothing.
-use Rattle.printing.proofs.LineLaws.{answer-done, answer-refused, answer-called, answer-covered, answer-recorded, answer-annual, answer-opened, answer-stated, answer-counted, answer-guaranteed, answer-faulty}
+use Rattle.printing.proofs.LineLaws.{answer-done, answer-refused, answer-called, answer-covered, answer-recorded, answer-annual, answer-opened, answer-stated, answer-counted, answer-guaranteed, answer-faulty, answer-nothing}
 use borrow.Author.Needs.{needs}
 use Rattle.printing.proofs.answers.put_answer.Statement.{statement}
 use Rattle.printing.proofs.answers.put_answer.Tie as tie
@@ -107,6 +107,15 @@ enum-known-answer-10 c = search needs
 put-error-requires : tie.Need-put-error-requires
 put-error-requires c κs = search needs
 
+enum-told-2 : tie.Need-enum-told-2
+enum-told-2 c = search needs
+
+slice-aggregate-put-text-2 : tie.Need-slice-aggregate-put-text-2
+slice-aggregate-put-text-2 c = search needs
+
+put-text-requires-2 : tie.Need-put-text-requires-2
+put-text-requires-2 c κs = search needs
+
 same-length : tie.Need-same-length
 same-length c = search needs
 
@@ -173,6 +182,12 @@ same-length-11 c = search needs
 returns-11 : tie.Need-returns-11
 returns-11 c = search (answer-faulty, needs)
 
+same-length-12 : tie.Need-same-length-12
+same-length-12 c = search needs
+
+returns-12 : tie.Need-returns-12
+returns-12 c = search (answer-nothing, needs)
+
 pub put-answer-spec : {M : Type 1} → statement M
 put-answer-spec =
     tie.close
@@ -211,6 +226,9 @@ put-answer-spec =
     put-one-requires-4
     enum-known-answer-10
     put-error-requires
+    enum-told-2
+    slice-aggregate-put-text-2
+    put-text-requires-2
     same-length
     returns
     same-length-2
@@ -232,4 +250,6 @@ put-answer-spec =
     same-length-10
     returns-10
     same-length-11
-    returns-11)
+    returns-11
+    same-length-12
+    returns-12)

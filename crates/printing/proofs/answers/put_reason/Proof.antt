@@ -1,6 +1,6 @@
 -- `printing::answers::put_reason` meets its contract: the reason decides.
 -- Assumes nothing.
-use Rattle.printing.proofs.LineLaws.{control-byte, no-call, too-few, too-many, no-number, no-day, no-month, no-role, no-cash-or-letter, too-long}
+use Rattle.printing.proofs.LineLaws.{control-byte, no-call, too-few, too-many, no-number, no-day, no-month, no-role, no-cash-or-letter, too-long, fresh-later}
 use borrow.Author.Needs.{needs}
 use Rattle.printing.proofs.answers.put_reason.Statement.{statement}
 use Rattle.printing.proofs.answers.put_reason.Tie as tie
@@ -95,6 +95,15 @@ slice-aggregate-put-text-10 c = search needs
 put-text-requires-10 : tie.Need-put-text-requires-10
 put-text-requires-10 c κs = search needs
 
+enum-told-11 : tie.Need-enum-told-11
+enum-told-11 c = search needs
+
+slice-aggregate-put-text-11 : tie.Need-slice-aggregate-put-text-11
+slice-aggregate-put-text-11 c = search needs
+
+put-text-requires-11 : tie.Need-put-text-requires-11
+put-text-requires-11 c κs = search needs
+
 same-length : tie.Need-same-length
 same-length c = search needs
 
@@ -155,6 +164,12 @@ same-length-10 c = search needs
 returns-10 : tie.Need-returns-10
 returns-10 c = search (too-long, needs)
 
+same-length-11 : tie.Need-same-length-11
+same-length-11 c = search needs
+
+returns-11 : tie.Need-returns-11
+returns-11 c = search (fresh-later, needs)
+
 pub put-reason-spec : {M : Type 1} → statement M
 put-reason-spec =
     tie.close
@@ -189,6 +204,9 @@ put-reason-spec =
     enum-told-10
     slice-aggregate-put-text-10
     put-text-requires-10
+    enum-told-11
+    slice-aggregate-put-text-11
+    put-text-requires-11
     same-length
     returns
     same-length-2
@@ -208,4 +226,6 @@ put-reason-spec =
     same-length-9
     returns-9
     same-length-10
-    returns-10)
+    returns-10
+    same-length-11
+    returns-11)
