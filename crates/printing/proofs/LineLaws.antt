@@ -2,7 +2,7 @@
 -- Assumes nothing.
 use Prim.Native.Nat.{ℕ, suc, _+_, _-_, _≤_, _<_, min}
 use mathlib.Core.Path.{_≡_, refl, sym, ap, _∙_}
-use mathlib.Core.List.{List, [], _∷_, _++_, map, append-nil, append-assoc}
+use mathlib.Core.List.{List, [], _∷_, _++_, map}
 use native.Mathlib.Numerals.{add-one}
 use native.Mathlib.Omega.{arith}
 use borrow.Author.Tests.{leb-true, leb-false}
@@ -25,26 +25,10 @@ use Rattle.journal.specs.Grammar.{lengthList}
 use Rattle.printing.specs.Answers.{reasonText, answerWords, answerLine}
 use Rattle.printing.specs.Placed.{Put}
 use Rattle.printing.specs.declared.Answer.{Answer}
-use Rattle.printing.proofs.PutLaws.{read, as-read, put-then, Putting, putting-goes, putting-ends}
+use Rattle.printing.specs.PlacedLaws.{Putting, putting-goes, putting-ends, spaced-append, put-then, put-blank, put-first, put-more}
+use Rattle.printing.proofs.PutLaws.{read, as-read}
 
--- Words with a blank before each.
-
-spaced-append : (a b : List (List ℕ)) → spaced (a ++ b) ≡ spaced a ++ spaced b
-unfolding spaced
-spaced-append [] b = refl
-spaced-append (w ∷ a) b = ap (λ (t : List ℕ). (32 ∷ w) ++ t) (spaced-append a b) ∙ sym (append-assoc (32 ∷ w) (spaced a) (spaced b))
-
-joined-append : (w : List ℕ) (a b : List (List ℕ)) → joined (w ∷ (a ++ b)) ≡ joined (w ∷ a) ++ spaced b
-unfolding joined
-joined-append w a b = ap (λ (t : List ℕ). w ++ t) (spaced-append a b) ∙ sym (append-assoc w (spaced a) (spaced b))
-
-spaced-one : (w : List ℕ) → spaced (w ∷ []) ≡ (32 ∷ []) ++ w
-unfolding spaced
-spaced-one w = append-nil (32 ∷ w)
-
-joined-first : (w : List ℕ) (b : List (List ℕ)) → joined (w ∷ b) ≡ w ++ spaced b
-unfolding joined
-joined-first w b = refl
+-- Words one after the other.
 
 spaced-joined : (w : List ℕ) (b : List (List ℕ)) → spaced (w ∷ b) ≡ joined ((32 ∷ w) ∷ b)
 unfolding spaced joined
@@ -55,36 +39,24 @@ unfolding spaced
 cash-spaced = refl
 
 module _ (e f g : List ℕ) (at p q : ℕ) where
-  -- a blank and a word
-  pub put-blank : (w : List ℕ) → Put (32 ∷ []) e at p f → Put w f p q g → Put (spaced (w ∷ [])) e at q g
-  put-blank w x y = rw (spaced-one w) (put-then (32 ∷ []) w e f g at p q x y)
-
-  -- the first word, and those behind it
-  pub put-first : (w : List ℕ) (b : List (List ℕ)) → Put w e at p f → Put (spaced b) f p q g → Put (joined (w ∷ b)) e at q g
-  put-first w b x y = rw (joined-first w b) (put-then w (spaced b) e f g at p q x y)
-
-  -- the same of a number that may have a minus
+  -- a blank and a number that may have a minus, and a first word and such a number
   pub put-blank-integer : (z : ℤ) → SFits w64 z → Put (32 ∷ []) e at p f → Put (integer (read z)) f p q g → Put (spaced (integer z ∷ [])) e at q g
-  put-blank-integer z s x y = put-blank (integer z) x (rw (as-read z s) at y)
+  put-blank-integer z s x y = put-blank e f g at p q (integer z) x (rw (as-read z s) at y)
 
   pub put-first-integer : (w : List ℕ) (z : ℤ) → SFits w64 z → Put w e at p f → Put (spaced (integer (read z) ∷ [])) f p q g
       → Put (joined (w ∷ integer z ∷ [])) e at q g
-  put-first-integer w z s x y = put-first w (integer z ∷ []) x (rw (as-read z s) at y)
-
-  -- more words behind words
-  pub put-more : (w : List ℕ) (a b : List (List ℕ)) → Put (joined (w ∷ a)) e at p f → Put (spaced b) f p q g → Put (joined (w ∷ (a ++ b))) e at q g
-  put-more w a b x y = rw (joined-append w a b) (put-then (joined (w ∷ a)) (spaced b) e f g at p q x y)
+  put-first-integer w z s x y = put-first e f g at p q w (integer z ∷ []) x (rw (as-read z s) at y)
 
   pub put-second : (w a b : List ℕ) → Put (joined (w ∷ a ∷ [])) e at p f → Put (spaced (b ∷ [])) f p q g → Put (joined (w ∷ a ∷ b ∷ [])) e at q g
-  put-second w a b x y = put-more w (a ∷ []) (b ∷ []) x y
+  put-second w a b x y = put-more e f g at p q w (a ∷ []) (b ∷ []) x y
 
   pub put-third : (w a b d : List ℕ) → Put (joined (w ∷ a ∷ b ∷ [])) e at p f → Put (spaced (d ∷ [])) f p q g
       → Put (joined (w ∷ a ∷ b ∷ d ∷ [])) e at q g
-  put-third w a b d x y = put-more w (a ∷ b ∷ []) (d ∷ []) x y
+  put-third w a b d x y = put-more e f g at p q w (a ∷ b ∷ []) (d ∷ []) x y
 
   pub put-figures : (w a b : List ℕ) (zs : List ℤ) → Put (joined (w ∷ a ∷ b ∷ [])) e at p f → Put (spaced (map integer zs)) f p q g
       → Put (joined (w ∷ a ∷ b ∷ map integer zs)) e at q g
-  put-figures w a b zs x y = put-more w (a ∷ b ∷ []) (map integer zs) x y
+  put-figures w a b zs x y = put-more e f g at p q w (a ∷ b ∷ []) (map integer zs) x y
 
   -- a list: its length and its numbers
   pub put-numbers : (n : ℕ) (zs : List ℤ) → Put (spaced (decimal n ∷ [])) e at p f → Put (spaced (map integer zs)) f p q g
@@ -94,7 +66,7 @@ module _ (e f g : List ℕ) (at p q : ℕ) where
 
   pub put-letter : (a b c d h : List ℕ) → Put (joined (text "lodge" ∷ a ∷ b ∷ [])) e at p f → Put (joined (text " letter" ∷ c ∷ d ∷ h ∷ [])) f p q g
       → Put (joined (text "lodge" ∷ a ∷ b ∷ text "letter" ∷ c ∷ d ∷ h ∷ [])) e at q g
-  put-letter a b c d h x y = put-more (text "lodge") (a ∷ b ∷ []) (text "letter" ∷ c ∷ d ∷ h ∷ []) x (rw letter-spaced y)
+  put-letter a b c d h x y = put-more e f g at p q (text "lodge") (a ∷ b ∷ []) (text "letter" ∷ c ∷ d ∷ h ∷ []) x (rw letter-spaced y)
     where
       letter-spaced : spaced (text "letter" ∷ c ∷ d ∷ h ∷ []) ≡ joined (text " letter" ∷ c ∷ d ∷ h ∷ [])
       letter-spaced = spaced-joined (text "letter") (c ∷ d ∷ h ∷ [])

@@ -14,7 +14,7 @@ use crate::spaced::put_two;
 use journal::Reason;
 
 // A few words on what is wrong with a line.
-fn put_reason(out: &mut [u8], at: usize, why: Reason) -> usize
+pub fn put_reason(out: &mut [u8], at: usize, why: Reason) -> usize
     ensures { λ r. ⌜ Put (reasonText why) (now (out .entry)) at r (now (out .exit)) ⌝ }
 {
     match why {

@@ -8,7 +8,7 @@ ghost use Rattle.printing.specs.Decimals.{decimal, integer};
 ghost use Rattle.printing.specs.Placed.{Put};
 
 // A byte.
-fn put_byte(out: &mut [u8], at: usize, b: u8) -> usize
+pub fn put_byte(out: &mut [u8], at: usize, b: u8) -> usize
     ensures { λ r. ⌜ Put (b ∷ []) (now (out .entry)) at r (now (out .exit)) ⌝ }
 {
     if at < out.len() {
@@ -32,7 +32,7 @@ pub fn put_text(out: &mut [u8], at: usize, text: &[u8]) -> usize
 }
 
 // The last digit of a number.
-fn last_digit(n: u64) -> u8
+pub fn last_digit(n: u64) -> u8
     ensures { λ r. ⌜ r ≡ 48 + n % 10 ⌝ }
 {
     48 + (n % 10) as u8

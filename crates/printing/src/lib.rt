@@ -8,6 +8,9 @@ mod calls; // calls.rt: the lines of calls
 mod answers; // answers.rt: the lines of answers
 
 pub use answers::put_answer;
+pub use answers::put_reason;
+pub use bytes::last_digit;
+pub use bytes::put_byte;
 pub use bytes::put_integer;
 pub use bytes::put_number;
 pub use bytes::put_text;

@@ -1,6 +1,6 @@
 -- `printing::bytes::put_byte` meets its contract: a byte past the end is not written.
 -- Assumes nothing.
-use Rattle.printing.proofs.PutLaws.{byte-out}
+use Rattle.printing.specs.PlacedLaws.{byte-out}
 use borrow.Author.Needs.{needs}
 use Rattle.printing.proofs.bytes.put_byte.Statement.{statement}
 use Rattle.printing.proofs.bytes.put_byte.Tie as tie

@@ -1,7 +1,7 @@
 -- `printing::bytes::put_text` meets its contract. The loop's invariant: what is left of the text, written from place p on, gives what the
 -- whole text gives. The measure is the number of bytes left.
 -- Assumes nothing.
-use Rattle.printing.proofs.PutLaws.{Putting, putting-starts, text-more, text-done}
+use Rattle.printing.specs.PlacedLaws.{Putting, putting-starts, text-more, text-done}
 use Prim.Native.Nat.{_≤_, _-_}
 use mathlib.Core.Path.{_≡_, refl}
 use lib.ListN.{length, drop}

@@ -1,7 +1,7 @@
 -- `printing::calls::put_lists` meets its contract. The loop's invariant: the lists that are left, written from place p on, give what all of
 -- them give. The measure is the number of lists left.
 -- Assumes nothing.
-use Rattle.printing.proofs.PutLaws.{Putting, putting-starts}
+use Rattle.printing.specs.PlacedLaws.{Putting, putting-starts}
 use Rattle.printing.proofs.LineLaws.{lists-more, lists-done}
 use Rattle.printing.specs.Decimals.{spaced}
 use Rattle.printing.specs.Lines.{listWords, cut}

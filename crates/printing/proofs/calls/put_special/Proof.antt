@@ -1,6 +1,6 @@
 -- `printing::calls::put_special` meets its contract: the name and then the seven lists.
 -- Assumes nothing.
-use Rattle.printing.proofs.LineLaws.{put-first}
+use Rattle.printing.specs.PlacedLaws.{put-first}
 use borrow.Author.Needs.{needs}
 use Rattle.printing.proofs.calls.put_special.Statement.{statement}
 use Rattle.printing.proofs.calls.put_special.Tie as tie

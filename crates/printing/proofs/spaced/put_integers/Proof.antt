@@ -1,7 +1,7 @@
 -- `printing::spaced::put_integers` meets its contract. The loop's invariant: the numbers that are left, written from place p on, give what all
 -- give. The measure is how many are left.
 -- Assumes nothing.
-use Rattle.printing.proofs.PutLaws.{Putting, putting-starts}
+use Rattle.printing.specs.PlacedLaws.{Putting, putting-starts}
 use Rattle.printing.proofs.LineLaws.{integers-more, integers-done}
 use Rattle.printing.specs.Decimals.{integer, spaced}
 use Prim.Native.Nat.{_≤_, _-_}

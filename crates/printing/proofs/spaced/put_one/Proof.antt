@@ -1,6 +1,6 @@
 -- `printing::spaced::put_one` meets its contract: the word and then the number.
 -- Assumes nothing.
-use Rattle.printing.proofs.LineLaws.{put-first}
+use Rattle.printing.specs.PlacedLaws.{put-first}
 use borrow.Author.Needs.{needs}
 use Rattle.printing.proofs.spaced.put_one.Statement.{statement}
 use Rattle.printing.proofs.spaced.put_one.Tie as tie

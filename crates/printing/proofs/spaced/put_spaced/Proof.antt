@@ -1,6 +1,6 @@
 -- `printing::spaced::put_spaced` meets its contract: a blank and then the number.
 -- Assumes nothing.
-use Rattle.printing.proofs.LineLaws.{put-blank}
+use Rattle.printing.specs.PlacedLaws.{put-blank}
 use borrow.Author.Needs.{needs}
 use Rattle.printing.proofs.spaced.put_spaced.Statement.{statement}
 use Rattle.printing.proofs.spaced.put_spaced.Tie as tie
