@@ -6,3 +6,4 @@ pub mod Lawful
 pub mod Life
 pub mod Reached
 pub mod Opened
+pub mod Left

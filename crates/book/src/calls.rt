@@ -4,16 +4,23 @@ use crate::BookAnnual;
 use crate::BookOutcome;
 use crate::BookSettled;
 use crate::Stated;
+use calendar::Day;
 use calendar::Month;
 use file::AnnualRun;
 use file::File;
+use file::FileAnnual;
+use file::FileOutcome;
+use file::FileSettled;
 use file::Outcome;
 use file::Position;
 use file::Settled;
 ghost use mathlib.Core.Path.{_≡_};
 ghost use mathlib.Core.Bool.{cond};
 ghost use Rattle.file.specs.Answer.{counted, outcomeSays, settledSays, annualSays};
+ghost use Rattle.file.specs.Sound.{Sound};
 ghost use Rattle.book.specs.Call.{admit, lodge, release, settle, annualRun, on, statement, callsMade, isCalled, statedSays};
+ghost use Rattle.book.specs.Account.{fileAnswer};
+ghost use Rattle.book.specs.Left.{fileLeft};
 ghost use Rattle.book.specs.Reached.{Reached, Given};
 
 // How many calls a settlement made.
@@ -25,6 +32,68 @@ fn calls_of(answer: Settled) -> u64
         Settled::Covered(_) => 0,
         Settled::Recorded(_) => 0,
         Settled::Refused(_) => 0,
+    }
+}
+
+// A lodging on a participant's file; one that isn't admitted is refused with 2.
+fn lodged_if_admitted(file: File, today: Day, position: u64, holding: Position) -> FileOutcome
+    ensures { λ r. ⌜ (outcomeSays (r .answer) ≡ fileAnswer file (today .0) (lodge position holding))
+        × (r .file ≡ fileLeft file (today .0) (lodge position holding)) ⌝ }
+{
+    if file.admitted {
+        file.lodge(today, position, holding)
+    } else {
+        FileOutcome {
+            answer: Outcome::Refused(2),
+            file,
+        }
+    }
+}
+
+// A release on a participant's file; one that isn't admitted is refused with 2.
+fn released_if_admitted(file: File, today: Day, position: u64, amount: u64) -> FileOutcome
+    requires { ⌜ Sound (today .0) file ⌝ }
+    ensures { λ r. ⌜ (outcomeSays (r .answer) ≡ fileAnswer file (today .0) (release position amount))
+        × (r .file ≡ fileLeft file (today .0) (release position amount)) ⌝ }
+{
+    if file.admitted {
+        file.release(today, position, amount)
+    } else {
+        FileOutcome {
+            answer: Outcome::Refused(2),
+            file,
+        }
+    }
+}
+
+// A settlement on a participant's file; one that isn't admitted is refused with 2.
+fn settled_if_admitted(file: File, today: Day, month: Month, figures: &[i64]) -> FileSettled
+    requires { ⌜ Sound (today .0) file ⌝ }
+    ensures { λ r. ⌜ (settledSays (r .answer) ≡ fileAnswer file (today .0) (settle (month .0) (now (figures .entry))))
+        × (r .file ≡ fileLeft file (today .0) (settle (month .0) (now (figures .entry)))) ⌝ }
+{
+    if file.admitted {
+        file.settle(today, month, figures)
+    } else {
+        FileSettled {
+            answer: Settled::Refused(2),
+            file,
+        }
+    }
+}
+
+// An annual run on a participant's file; one that isn't admitted is refused with 2.
+fn run_if_admitted(file: File, today: Day) -> FileAnnual
+    ensures { λ r. ⌜ (annualSays (r .answer) ≡ fileAnswer file (today .0) annualRun)
+        × (r .file ≡ fileLeft file (today .0) annualRun) ⌝ }
+{
+    if file.admitted {
+        file.annual_run(today)
+    } else {
+        FileAnnual {
+            answer: AnnualRun::Refused(2),
+            file,
+        }
     }
 }
 
@@ -77,14 +146,8 @@ impl Book {
         }
         let at = participant as usize;
         let file = self.files[at];
-        if !file.admitted {
-            return BookOutcome {
-                answer: Outcome::Refused(2),
-                book: self,
-            };
-        }
         let today = self.today;
-        let lodged = file.lodge(today, position, holding);
+        let lodged = lodged_if_admitted(file, today, position, holding);
         let answer = lodged.answer;
         let file = lodged.file;
         self.files[at] = file;
@@ -104,14 +167,8 @@ impl Book {
         }
         let at = participant as usize;
         let file = self.files[at];
-        if !file.admitted {
-            return BookOutcome {
-                answer: Outcome::Refused(2),
-                book: self,
-            };
-        }
         let today = self.today;
-        let released = file.release(today, position, amount);
+        let released = released_if_admitted(file, today, position, amount);
         let answer = released.answer;
         let file = released.file;
         self.files[at] = file;
@@ -131,14 +188,8 @@ impl Book {
         }
         let at = participant as usize;
         let file = self.files[at];
-        if !file.admitted {
-            return BookSettled {
-                answer: Settled::Refused(2),
-                book: self,
-            };
-        }
         let today = self.today;
-        let settled = file.settle(today, month, figures);
+        let settled = settled_if_admitted(file, today, month, figures);
         let answer = settled.answer;
         let file = settled.file;
         self.made += calls_of(answer);
@@ -159,14 +210,8 @@ impl Book {
         }
         let at = participant as usize;
         let file = self.files[at];
-        if !file.admitted {
-            return BookAnnual {
-                answer: AnnualRun::Refused(2),
-                book: self,
-            };
-        }
         let today = self.today;
-        let ran = file.annual_run(today);
+        let ran = run_if_admitted(file, today);
         let answer = ran.answer;
         let file = ran.file;
         self.files[at] = file;

@@ -3,26 +3,22 @@ use Prim.Native.Nat.{ℕ, suc, _+_, _-_, _≤_, _<_, max}
 use mathlib.Core.Path.{_≡_, refl, sym, _∙_, ap}
 use mathlib.Core.Bool.{Bool, true, false, cond, not, _&&_, and-false}
 use mathlib.Core.List.{List, [], _∷_, _++_, map}
-use mathlib.Core.Logic.{⊎-elim}
 use native.Mathlib.Omega.{arith}
 use native.Mathlib.Numerals.{add-one}
-use borrow.Author.Tests.{lt-ltb, le-ltb, eq-eqb, ne-eqb}
-use types.Run.{OneOf}
+use borrow.Author.Tests.{eq-eqb, ne-eqb}
 use mir.Val.{Fits}
 use mir.Syntax.{w64}
-use denote.Enum.Declared.{tagOf}
-use lib.Dec.{eqb}
+use lib.Dec.{ltb, eqb}
 use lib.ListN.{length, take, set, getD, replicate, length-append, length-take}
-use lib.Seq.{take-suc}
+use lib.Seq.{take-suc, set-getD}
 use Rattle.calendar.specs.declared.Day.{Day}
 use Rattle.calendar.specs.Civil.{isFirstOctober}
 use Rattle.manual.specs.Charge.{dayCharge}
 use Rattle.laws.specs.Lists.{All}
 use Rattle.laws.specs.Cases.{split, cond-true, cond-false, and-both, and-refused}
 use Rattle.laws.specs.Places.{upTo, upTo-none, upTo-turn, upTo-all}
-use Rattle.file.proofs.Position.{the-type}
 use Rattle.file.specs.declared.Position.{Position}
-use Rattle.file.specs.declared.Position.the-variants.{Empty, Cash, Letter}
+use Rattle.file.specs.declared.Position.the-variants.{Empty, Letter}
 use Rattle.file.specs.declared.Slot.{Slot}
 use Rattle.file.specs.declared.OpenCall.{OpenCall}
 use Rattle.file.specs.declared.opening.CallsLeft.{CallsLeft}
@@ -39,26 +35,9 @@ use Rattle.file.specs.KeepsCalls.{slots-sound, charge-bound}
 
 -- ---- a position
 
--- a letter whose last day is before the day
-pub letter-emptied : (p : Position) (a : ℕ) (first last : Day) (d : ℕ) → p ≡ Letter a first last → last .0 < d → slotOf Empty ≡ slotOf (emptiedOn d p)
-unfolding emptiedOn
-letter-emptied p a first last d e h =
-    let t : lapsedBy d p ≡ true = ap (lapsedBy d) e ∙ lt-ltb (last .0) d h in
-    ap slotOf (sym (cond-true _ Empty p t))
-
--- a letter that reaches the day
-pub letter-kept : (p : Position) (a : ℕ) (first last : Day) (d : ℕ) → p ≡ Letter a first last → d ≤ last .0 → slotOf p ≡ slotOf (emptiedOn d p)
-unfolding emptiedOn
-letter-kept p a first last d e h =
-    let t : lapsedBy d p ≡ false = ap (lapsedBy d) e ∙ le-ltb (last .0) d h in
-    ap slotOf (sym (cond-false _ Empty p t))
-
--- a position that is no letter
-pub other-kept : (p : Position) (d : ℕ) → OneOf (0 ∷ 1 ∷ []) (tagOf the-type p) → slotOf p ≡ slotOf (emptiedOn d p)
-unfolding emptiedOn
-other-kept Empty d h = refl
-other-kept (Cash a) d h = refl
-other-kept (Letter a first last) d h = absurd (⊎-elim (λ e. omega arith) (λ e. omega arith) h)
+-- a letter has lapsed where its last day is before the day
+pub letter-lapsed : (p : Position) (a : ℕ) (first last : Day) (d : ℕ) → p ≡ Letter a first last → ltb (last .0) d ≡ lapsedBy d p
+letter-lapsed p a first last d e = sym (ap (lapsedBy d) e)
 
 -- ---- the loop over the positions
 
@@ -70,9 +49,15 @@ slotAt d s = slotOf (emptiedOn d (s .position))
 pub slots-none : (d : ℕ) (slots : List Slot) → slots ≡ upTo (slotAt d) 0 slots
 slots-none d slots = sym (upTo-none (slotAt d) slots)
 
--- the next slot
-pub slots-next : (slots slots₀ : List Slot) (r z : Slot) (d i : ℕ) → length slots₀ ≡ 8 → i < 8 → slots ≡ upTo (slotAt d) i slots₀ → r ≡ slotAt d (getD slots i z) → set slots i r ≡ upTo (slotAt d) (i + 1) slots₀
-slots-next slots slots₀ r z d i n h e q = upTo-turn (slotAt d) slots slots₀ i 8 (getD slots i z) r z n h e refl q
+-- the next slot: one that has lapsed is emptied, any other stays
+module _ (slots slots₀ : List Slot) (z : Slot) (lapsed : Bool) (d i : ℕ) (n : length slots₀ ≡ 8) (h : i < 8) (e : slots ≡ upTo (slotAt d) i slots₀) (q : lapsed ≡ lapsedBy d (getD slots i z .position)) where
+  pub slots-lapsed : lapsed ≡ true → set slots i (slotOf Empty) ≡ upTo (slotAt d) (i + 1) slots₀
+  unfolding emptiedOn
+  slots-lapsed t = upTo-turn (slotAt d) slots slots₀ i 8 (getD slots i z) (slotOf Empty) z n h e refl (ap slotOf (sym (cond-true _ Empty (getD slots i z .position) (sym q ∙ t))))
+
+  pub slots-stay : lapsed ≡ false → slots ≡ upTo (slotAt d) (i + 1) slots₀
+  unfolding emptiedOn
+  slots-stay t = sym (set-getD slots i z) ∙ upTo-turn (slotAt d) slots slots₀ i 8 (getD slots i z) (getD slots i z) z n h e refl (ap slotOf (sym (cond-false _ Empty (getD slots i z .position) (sym q ∙ t))))
 
 -- with all passed
 pub slots-all : (slots slots₀ : List Slot) (d i : ℕ) → length slots₀ ≡ 8 → 8 ≤ i → slots ≡ upTo (slotAt d) i slots₀ → slots ≡ map (slotAt d) slots₀

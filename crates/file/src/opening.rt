@@ -16,39 +16,36 @@ ghost use Prim.Native.Nat.{ℕ, _-_, _≤_, _<_};
 ghost use lib.Dec.{eqb};
 ghost use lib.ListN.{take};
 ghost use Rattle.calendar.specs.Civil.{isFirstOctober};
-ghost use Rattle.file.specs.Position.{slotOf, emptiedOn};
+ghost use Rattle.file.specs.Position.{slotOf, lapsedBy, emptiedOn};
 ghost use Rattle.file.specs.Fields.{unset};
 ghost use Rattle.file.specs.Ending.{callsLeft};
 ghost use Rattle.file.specs.Opening.{openedFile};
 ghost use Rattle.file.specs.Sound.{Sound};
 
-// The position of a slot at the opening of a day: a letter whose last day is before it is emptied.
-fn emptied(slot: Slot, day: Day) -> Slot
-    ensures { λ r. ⌜ r ≡ slotOf (emptiedOn (day .0) (slot .position)) ⌝ }
+// Whether a slot holds a letter whose last day is before a day.
+fn is_lapsed(slot: Slot, day: Day) -> bool
+    ensures { λ r. ⌜ r ≡ lapsedBy (day .0) (slot .position) ⌝ }
 {
     let position = slot.position;
     match position {
-        Position::Letter(_, _, last) => {
-            if last.0 < day.0 {
-                Slot {
-                    position: Position::Empty,
-                }
-            } else {
-                slot
-            }
-        }
-        Position::Empty | Position::Cash(_) => slot,
+        Position::Empty => false,
+        Position::Cash(_) => false,
+        Position::Letter(_, _, last) => last.0 < day.0,
     }
 }
 
-// The positions at the opening of a day.
+// The positions at the opening of a day: a letter that has lapsed is emptied, and nothing else is written.
 fn emptied_slots(mut slots: [Slot; 8], day: Day) -> [Slot; 8]
     ensures { λ r. ⌜ r ≡ map (λ (s : Slot). slotOf (emptiedOn (day .0) (s .position))) slots ⌝ }
 {
     let mut i = 0;
     while i < 8 {
         let slot = slots[i];
-        slots[i] = emptied(slot, day);
+        if is_lapsed(slot, day) {
+            slots[i] = Slot {
+                position: Position::Empty,
+            };
+        }
         i += 1;
     }
     slots

@@ -8,3 +8,4 @@ pub mod Signed
 pub mod Magnitudes
 pub mod Largest
 pub mod Places
+pub mod Clipped

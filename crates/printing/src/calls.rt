@@ -51,7 +51,7 @@ fn put_list(out: &mut [u8], at: usize, values: &[i64]) -> usize
 }
 
 // Where a list of n numbers from place k on ends, among so many.
-fn end_of(k: usize, n: usize, all: usize) -> usize
+pub fn end_of(k: usize, n: usize, all: usize) -> usize
     requires { ⌜ k ≤ all ⌝ }
     ensures { λ r. ⌜ r ≡ min (k + n) all ⌝ }
 {

@@ -14,6 +14,7 @@ pub use bytes::put_byte;
 pub use bytes::put_integer;
 pub use bytes::put_number;
 pub use bytes::put_text;
+pub use calls::end_of;
 pub use calls::put_call;
 
 // An answer to a line: E is the sum of a settlement's figures, ASKED what a call asks for and LAST_FREE_DAY its last free day; the amount

@@ -6,16 +6,15 @@ use native.Mathlib.Numerals.{add-one}
 use mathlib.Core.Path.{_≡_, refl, sym, ap, ap₂, subst, _∙_}
 use mathlib.Core.List.{List, _++_}
 use borrow.Author.Needs.{sfits-of}
-use borrow.Author.Tests.{ne-eqb, leb-true, leb-false, lt-ltb, le-ltb}
-use lib.Dec.{leb}
+use borrow.Author.Tests.{ne-eqb, lt-ltb, le-ltb}
 use lib.IntN.{ℤ, pos}
 use lib.Signed.{mag}
-use lib.ListN.{length, getD, take, drop, set, length-append, length-drop, drop-of-length-le}
+use lib.ListN.{length, getD, take, drop, set, length-append, length-drop}
 use lib.Seq.{paste, paste-suc, take-all, take-at, drop-at, drop-drop}
 use mir.Syntax.{w64}
 use mir.Val.{hbits, toZ, ofZ}
 use mir.Facts.{toZ-ofZ}
-use Rattle.laws.specs.Cases.{split}
+use Rattle.laws.specs.Clipped.{take-clipped, drop-clipped}
 use Rattle.file.specs.declared.Position.{Position}
 use Rattle.file.specs.declared.Position.the-variants.{Cash, Letter}
 use Rattle.file.specs.Answer.{Answer, refused, done, called, covered, recorded, annual, opened, stated, counted, decide}
@@ -41,22 +40,6 @@ gave-beside b c x l g h = gave b c x b b l g (h, refl)
 pub letter-is : (a first last x y : ℕ) → x ≡ number first → y ≡ number last
     → Letter a (record { 0 = x }) (record { 0 = y }) ≡ letterOf a first last
 letter-is a first last x y p q = λ i. Letter a (record { 0 = p i }) (record { 0 = q i })
-
--- A count or a place that is clipped to a list's length is as good as the count or the place itself.
-take-clipped : {A : Type 0} (n m : ℕ) (l : List A) → m ≡ min n (length l) → take m l ≡ take n l
-take-clipped n m l p =
-    split (leb n (length l))
-    (λ e. let h = leb-true n (length l) e in let q : m ≡ n = omega arith in ap (λ (z : ℕ). take z l) q)
-    (λ e. let h = leb-false n (length l) e in take-all m l (omega arith) ∙ sym (take-all n l (omega arith)))
-
-drop-clipped : {A : Type 0} (n m : ℕ) (l : List A) → m ≡ min n (length l) → drop m l ≡ drop n l
-drop-clipped n m l p =
-    split (leb n (length l))
-    (λ e. let h = leb-true n (length l) e in let q : m ≡ n = omega arith in ap (λ (z : ℕ). drop z l) q)
-    (λ e. let h = leb-false n (length l) e in
-    let q : length l ≤ m = omega arith in
-    let r : length l ≤ n = omega arith in
-    drop-of-length-le l q ∙ sym (drop-of-length-le l r))
 
 -- A part of the figures whose ends are clipped to their number.
 pub part-is : (l : List ℤ) (from count start n : ℕ) → start ≡ min from (length l) → n ≡ min count (length l - start)

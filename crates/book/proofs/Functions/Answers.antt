@@ -4,7 +4,7 @@ use Prim.Native.Nat.{ℕ, suc, _+_, _≤_, _<_}
 use native.Mathlib.Omega.{arith}
 use native.Mathlib.Nat.{add-zero}
 use mathlib.Core.Path.{_≡_, refl, sym, ap, subst, _∙_}
-use mathlib.Core.Bool.{Bool, true, false, cond, not}
+use mathlib.Core.Bool.{Bool, true, false, cond}
 use mathlib.Core.List.{List, [], _∷_}
 use borrow.Author.Tests.{lt-ltb, le-ltb}
 use lib.Dec.{ltb}
@@ -14,20 +14,17 @@ use Rattle.laws.specs.Cases.{split}
 use Rattle.file.specs.declared.File.{File}
 use Rattle.file.specs.declared.Position.{Position}
 use Rattle.file.specs.declared.Statement.{Statement}
-use Rattle.file.specs.Answer.{Answer, refused, done, counted, Cause, decide, accepted, settledSays, statementSays}
-use Rattle.file.specs.Admit.{noFile, admittedFile, callsOfAdmission}
-use Rattle.file.specs.Lodge.{lodgeAnswer, lodgedFile}
-use Rattle.file.specs.Release.{releaseAnswer, releasedFile}
-use Rattle.file.specs.Settle.{settleAnswer, settledFile}
-use Rattle.file.specs.Annual.{annualAnswer, annualFile}
+use Rattle.file.specs.Answer.{Answer, refused, done, counted, decide, accepted, statementSays}
+use Rattle.file.specs.Admit.{noFile, admittedFile}
 use Rattle.file.specs.Statement.{statementOf}
 use Rattle.file.specs.Sound.{Sound}
 use Rattle.book.specs.declared.Book.{Book}
 use Rattle.book.specs.Call.{Act, admit, lodge, release, settle, annualRun, Call, on, statement, callsMade, isCalled}
 use Rattle.book.specs.Account.{fileAt, withFile, ifNumbered, ifAdmitted, fileAnswer, answer, applied, step}
+use Rattle.book.specs.Left.{fileLeft}
 use Rattle.book.specs.Reached.{Reached, Given}
 use Rattle.book.proofs.Participant.Decide.{decide-true, decide-false}
-use Rattle.book.proofs.Functions.OnFile.{above-answer, refused-left, known-answer, not-admitted, is-admitted, admitted-left, lodge-answer, lodge-left, release-answer, release-left, settle-answer, settle-left, annual-answer, annual-left}
+use Rattle.book.proofs.Functions.OnFile.{above-answer, refused-left, known-answer, not-admitted, is-admitted, admitted-left, lodge-left, release-left, settle-left, annual-left}
 use Rattle.file.specs.KeepsPositions.{admitted-sound}
 use Rattle.book.proofs.Functions.SoundBook.{reached-sound, reached-made, sound-file}
 use Rattle.book.proofs.History.Life.{given}
@@ -78,65 +75,17 @@ module _ (b : Book) (p : ℕ) (d : File) (r : Reached b) (low : p ≤ 63) (long 
   known : f .admitted ≡ true → fileAt b p .admitted ≡ true
   known e = sym (ap (λ (g : File). g .admitted) same) ∙ e
 
-  -- Not admitted: refused with 2.
-  pub unknown-lodge : (k : ℕ) (h : Position) → f .admitted ≡ false → Given b (on p (lodge k h)) (refused 2) b
-  unfolding fileAnswer
-  unknown-lodge k h e = refusal b (on p (lodge k h)) 2 r (known-answer b p (lodge k h) (refused 2) numbered (not-admitted (fileAt b p) _ (out e)))
-
-  pub unknown-release : (k a : ℕ) → f .admitted ≡ false → Given b (on p (release k a)) (refused 2) b
-  unfolding fileAnswer
-  unknown-release k a e = refusal b (on p (release k a)) 2 r (known-answer b p (release k a) (refused 2) numbered (not-admitted (fileAt b p) _ (out e)))
-
-  pub unknown-settle : (m : ℕ) (figures : List ℤ) → f .admitted ≡ false → Given b (on p (settle m figures)) (refused 2) b
-  unfolding fileAnswer
-  unknown-settle m figures e = refusal b (on p (settle m figures)) 2 r (known-answer b p (settle m figures) (refused 2) numbered (not-admitted (fileAt b p) _ (out e)))
-
-  pub unknown-annual : f .admitted ≡ false → Given b (on p annualRun) (refused 2) b
-  unfolding fileAnswer
-  unknown-annual e = refusal b (on p annualRun) 2 r (known-answer b p annualRun (refused 2) numbered (not-admitted (fileAt b p) _ (out e)))
-
   -- A book that is the given one with another file, and n more calls.
   put : (b′ : Book) (g h : File) (n : ℕ) → g ≡ h → b′ ≡ withFile b p g n → b′ ≡ withFile b p h n
   put b′ g h n e q = q ∙ ap (λ (x : File). withFile b p x n) e
 
-  -- Admitted: what the call on the file answered, and the file that it left.
-  pub gave-lodge : (k : ℕ) (h : Position) (x : Answer) (g : File) (b′ : Book) → f .admitted ≡ true
-      → x ≡ lodgeAnswer f (b .today .0) k h → g ≡ lodgedFile f (b .today .0) k h → b′ ≡ withFile b p g 0
-      → Given b (on p (lodge k h)) x b′
-  gave-lodge k h x g b′ e answered file left =
-      given b (on p (lodge k h)) x b′ r
-      (answered ∙ ap (λ (z : File). lodgeAnswer z (b .today .0) k h) same ∙ lodge-answer b p numbered (known e) k h)
-      (put b′ g (lodgedFile (fileAt b p) (b .today .0) k h) 0 (file ∙ ap (λ (z : File). lodgedFile z (b .today .0) k h) same) left
-      ∙ lodge-left b p numbered (known e) k h)
-
-  pub gave-release : (k a : ℕ) (x : Answer) (g : File) (b′ : Book) → f .admitted ≡ true
-      → x ≡ releaseAnswer f (b .today .0) k a → g ≡ releasedFile f (b .today .0) k a → b′ ≡ withFile b p g 0
-      → Given b (on p (release k a)) x b′
-  gave-release k a x g b′ e answered file left =
-      given b (on p (release k a)) x b′ r
-      (answered ∙ ap (λ (z : File). releaseAnswer z (b .today .0) k a) same ∙ release-answer b p numbered (known e) k a)
-      (put b′ g (releasedFile (fileAt b p) (b .today .0) k a) 0 (file ∙ ap (λ (z : File). releasedFile z (b .today .0) k a) same) left
-      ∙ release-left b p numbered (known e) k a)
-
-  pub gave-annual : (x : Answer) (g : File) (b′ : Book) → f .admitted ≡ true
-      → x ≡ annualAnswer f (b .today .0) → g ≡ annualFile f (b .today .0) → b′ ≡ withFile b p g 0
-      → Given b (on p annualRun) x b′
-  gave-annual x g b′ e answered file left =
-      given b (on p annualRun) x b′ r
-      (answered ∙ ap (λ (z : File). annualAnswer z (b .today .0)) same ∙ annual-answer b p numbered (known e))
-      (put b′ g (annualFile (fileAt b p) (b .today .0)) 0 (file ∙ ap (λ (z : File). annualFile z (b .today .0)) same) left
-      ∙ annual-left b p numbered (known e))
-
-  pub gave-settle : (m : ℕ) (figures : List ℤ) (x : Answer) (n : ℕ) (g : File) (b′ : Book) → f .admitted ≡ true
-      → x ≡ settleAnswer f (b .today .0) m figures → n ≡ cond (isCalled x) 1 0 → g ≡ settledFile f (b .today .0) m figures
-      → b′ ≡ withFile b p g n → Given b (on p (settle m figures)) x b′
-  gave-settle m figures x n g b′ e answered number file left =
-      let a : x ≡ settleAnswer (fileAt b p) (b .today .0) m figures = answered ∙ ap (λ (z : File). settleAnswer z (b .today .0) m figures) same in
-      given b (on p (settle m figures)) x b′ r
-      (a ∙ settle-answer b p numbered (known e) m figures)
-      (put b′ g (settledFile (fileAt b p) (b .today .0) m figures) n (file ∙ ap (λ (z : File). settledFile z (b .today .0) m figures) same) left
-      ∙ ap (withFile b p (settledFile (fileAt b p) (b .today .0) m figures)) (number ∙ ap (λ (z : Answer). cond (isCalled z) 1 0) a)
-      ∙ settle-left b p numbered (known e) m figures)
+  -- What the call on the file answered, and the book with the file that it left.
+  gave : (a : Act) (x : Answer) (n : ℕ) (g : File) (b′ : Book) → (x ≡ fileAnswer f (b .today .0) a) × (g ≡ fileLeft f (b .today .0) a)
+      → b′ ≡ withFile b p g n → withFile b p (fileLeft (fileAt b p) (b .today .0) a) n ≡ step b (on p a) → Given b (on p a) x b′
+  gave a x n g b′ both stored left =
+      given b (on p a) x b′ r
+      (known-answer b p a x numbered (both .0 ∙ ap (λ (z : File). fileAnswer z (b .today .0) a) same))
+      (put b′ g (fileLeft (fileAt b p) (b .today .0) a) n (both .1 ∙ ap (λ (z : File). fileLeft z (b .today .0) a) same) stored ∙ left)
 
   -- Admissions.
   pub gave-admitted-already : (role : ℕ) → f .admitted ≡ true → Given b (on p (admit role)) (refused 3) b
@@ -222,27 +171,36 @@ unfolding withFile
 stored-more b p g n = refl
 
 module _ (b : Book) (p : ℕ) (d : File) (r : Reached b) (low : p ≤ 63) (long : length (b .files) ≡ 64) where
-  pub left-lodge : (k : ℕ) (h : Position) (x : Answer) (g : File) → getD (b .files) p d .admitted ≡ true
-      → (x ≡ lodgeAnswer (getD (b .files) p d) (b .today .0) k h) × (g ≡ lodgedFile (getD (b .files) p d) (b .today .0) k h)
+  -- The file, as the array holds it.
+  abbrev held : File
+  held = getD (b .files) p d
+
+  pub left-lodge : (k : ℕ) (h : Position) (x : Answer) (g : File)
+      → x ≡ fileAnswer held (b .today .0) (lodge k h) → g ≡ fileLeft held (b .today .0) (lodge k h)
       → Given b (on p (lodge k h)) x (storedIn b p g (b .made))
-  left-lodge k h x g e both = gave-lodge b p d r low long k h x g (storedIn b p g (b .made)) e (both .0) (both .1) (stored-none b p g)
+  left-lodge k h x g e q = gave b p d r low long (lodge k h) x 0 g (storedIn b p g (b .made)) (e, q) (stored-none b p g) (lodge-left b p (le-ltb 63 p low) k h)
 
-  pub left-release : (k a : ℕ) (x : Answer) (g : File) → getD (b .files) p d .admitted ≡ true
-      → (x ≡ releaseAnswer (getD (b .files) p d) (b .today .0) k a) × (g ≡ releasedFile (getD (b .files) p d) (b .today .0) k a)
+  pub left-release : (k a : ℕ) (x : Answer) (g : File)
+      → x ≡ fileAnswer held (b .today .0) (release k a) → g ≡ fileLeft held (b .today .0) (release k a)
       → Given b (on p (release k a)) x (storedIn b p g (b .made))
-  left-release k a x g e both = gave-release b p d r low long k a x g (storedIn b p g (b .made)) e (both .0) (both .1) (stored-none b p g)
+  left-release k a x g e h = gave b p d r low long (release k a) x 0 g (storedIn b p g (b .made)) (e, h) (stored-none b p g) (release-left b p (le-ltb 63 p low) k a)
 
-  pub left-annual : (x : Answer) (g : File) → getD (b .files) p d .admitted ≡ true
-      → (x ≡ annualAnswer (getD (b .files) p d) (b .today .0)) × (g ≡ annualFile (getD (b .files) p d) (b .today .0))
+  pub left-annual : (x : Answer) (g : File)
+      → x ≡ fileAnswer held (b .today .0) annualRun → g ≡ fileLeft held (b .today .0) annualRun
       → Given b (on p annualRun) x (storedIn b p g (b .made))
-  left-annual x g e both = gave-annual b p d r low long x g (storedIn b p g (b .made)) e (both .0) (both .1) (stored-none b p g)
+  left-annual x g e h = gave b p d r low long annualRun x 0 g (storedIn b p g (b .made)) (e, h) (stored-none b p g) (annual-left b p (le-ltb 63 p low))
 
-  pub left-settle : (m : ℕ) (figures : List ℤ) (x : Answer) (n : ℕ) (g : File) → getD (b .files) p d .admitted ≡ true
-      → (x ≡ settleAnswer (getD (b .files) p d) (b .today .0) m figures) × (g ≡ settledFile (getD (b .files) p d) (b .today .0) m figures)
+  pub left-settle : (m : ℕ) (figures : List ℤ) (x : Answer) (n : ℕ) (g : File)
+      → x ≡ fileAnswer held (b .today .0) (settle m figures) → g ≡ fileLeft held (b .today .0) (settle m figures)
       → n ≡ cond (isCalled x) 1 0
       → Given b (on p (settle m figures)) x (storedIn b p g (b .made + n))
-  left-settle m figures x n g e both number =
-      gave-settle b p d r low long m figures x n g (storedIn b p g (b .made + n)) e (both .0) number (both .1) (stored-more b p g n)
+  left-settle m figures x n g e h number =
+      let a = settle m figures in
+      let same = file-read b p d held long low refl in
+      let count : n ≡ cond (isCalled (fileAnswer (fileAt b p) (b .today .0) a)) 1 0 =
+      number ∙ ap (λ (y : Answer). cond (isCalled y) 1 0) (e ∙ ap (λ (z : File). fileAnswer z (b .today .0) a) same) in
+      gave b p d r low long a x n g (storedIn b p g (b .made + n)) (e, h) (stored-more b p g n)
+      (ap (withFile b p (fileLeft (fileAt b p) (b .today .0) a)) count ∙ settle-left b p (le-ltb 63 p low) m figures)
 
   pub left-admit : (role : ℕ) (g : File) → getD (b .files) p d .admitted ≡ false → role ≤ 5
       → g ≡ admittedFile (b .today .0) role

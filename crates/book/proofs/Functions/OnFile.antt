@@ -1,19 +1,19 @@
 -- A call that names a participant of the book, by what it does to that participant's file: the file is stored whether the call was accepted
 -- or not, since a refused call leaves it as it was.
 -- Assumes nothing.
-use Prim.Native.Nat.{ℕ, _+_, _<_}
+use Prim.Native.Nat.{ℕ}
 use native.Mathlib.Nat.{add-zero}
 use mathlib.Core.Path.{_≡_, refl, sym, ap, ap₂, _∙_}
 use mathlib.Core.Bool.{Bool, true, false, cond, not}
 use mathlib.Core.List.{List, [], _∷_}
 use lib.Dec.{ltb}
 use lib.IntN.{ℤ}
-use lib.ListN.{length, getD, set}
+use lib.ListN.{length}
 use lib.Seq.{set-getD}
 use Rattle.laws.specs.Cases.{split, cond-true, cond-false}
 use Rattle.file.specs.declared.File.{File}
 use Rattle.file.specs.declared.Position.{Position}
-use Rattle.file.specs.Answer.{Answer, refused, done, called, covered, recorded, annual, opened, stated, counted, Cause, decide, accepted}
+use Rattle.file.specs.Answer.{Answer, refused, done, called, covered, recorded, annual, opened, stated, counted, decide, accepted}
 use Rattle.file.specs.Admit.{noFile, admittedFile, callsOfAdmission}
 use Rattle.file.specs.Lodge.{lodgeAnswer, lodgedFile}
 use Rattle.file.specs.Release.{releaseAnswer, releasedFile}
@@ -24,6 +24,7 @@ use Rattle.file.specs.Annual.{annualAnswer, annualFile}
 use Rattle.book.specs.declared.Book.{Book}
 use Rattle.book.specs.Call.{Act, admit, lodge, release, settle, annualRun, Call, on, isCalled}
 use Rattle.book.specs.Account.{fileAt, withFile, ifNumbered, ifAdmitted, fileAnswer, fileAfter, callsAdded, answer, applied, step}
+use Rattle.book.specs.Left.{fileLeft}
 use Rattle.book.proofs.Participant.Decide.{decide-true, decide-false, decide-accepted}
 
 -- A participant above 63: refused with 1, and the book as it was.
@@ -103,88 +104,125 @@ settled-called f t m figures =
     either false z = refl
 
 -- A refused call leaves the file as it was.
-pub lodged-refused : (f : File) (t k : ℕ) (h : Position) → accepted (lodgeAnswer f t k h) ≡ false → lodgedFile f t k h ≡ f
+lodged-refused : (f : File) (t k : ℕ) (h : Position) → accepted (lodgeAnswer f t k h) ≡ false → lodgedFile f t k h ≡ f
 unfolding lodgedFile
 lodged-refused f t k h e = rw e
 
-pub released-refused : (f : File) (t k a : ℕ) → accepted (releaseAnswer f t k a) ≡ false → releasedFile f t k a ≡ f
+released-refused : (f : File) (t k a : ℕ) → accepted (releaseAnswer f t k a) ≡ false → releasedFile f t k a ≡ f
 unfolding releasedFile
 released-refused f t k a e = rw e
 
-pub settled-refused : (f : File) (t m : ℕ) (figures : List ℤ) → accepted (settleAnswer f t m figures) ≡ false → settledFile f t m figures ≡ f
+settled-refused : (f : File) (t m : ℕ) (figures : List ℤ) → accepted (settleAnswer f t m figures) ≡ false → settledFile f t m figures ≡ f
 unfolding settledFile
 settled-refused f t m figures e = rw e
 
-pub annual-refused : (f : File) (t : ℕ) → accepted (annualAnswer f t) ≡ false → annualFile f t ≡ f
+annual-refused : (f : File) (t : ℕ) → accepted (annualAnswer f t) ≡ false → annualFile f t ≡ f
 unfolding annualFile
 annual-refused f t e = rw e
 
-module _ (b : Book) (p : ℕ) (numbered : ltb 63 p ≡ false) (admitted : fileAt b p .admitted ≡ true) where
-  -- What a call on the file answers is what the book answers.
-  on-known : (a : Act) (x : Answer) → fileAnswer (fileAt b p) (b .today .0) a ≡ ifAdmitted (fileAt b p) x → x ≡ answer b (on p a)
-  on-known a x e = known-answer b p a x numbered (is-admitted (fileAt b p) x x admitted refl ∙ sym e)
+-- A call on a file, after cause 2: what it answers, and the file that it leaves.
+module _ (f : File) (t : ℕ) (a : Act) (x : Answer) (judged : fileAnswer f t a ≡ ifAdmitted f x) where
+  -- Not admitted: refused with 2, and the file as it was.
+  unknown : f .admitted ≡ false → (refused 2 ≡ fileAnswer f t a) × (f ≡ fileLeft f t a)
+  unfolding fileLeft
+  unknown e =
+      let two : refused 2 ≡ fileAnswer f t a = not-admitted f x e ∙ sym judged in
+      (two, sym (cond-false (accepted (fileAnswer f t a)) (fileAfter f t a) f (ap accepted (sym two))))
 
-  pub lodge-answer : (k : ℕ) (h : Position) → lodgeAnswer (fileAt b p) (b .today .0) k h ≡ answer b (on p (lodge k h))
+  -- Admitted: what the file's method answers and leaves, where its refusal leaves the file as it was.
+  known : f .admitted ≡ true → (accepted x ≡ false → fileAfter f t a ≡ f) → (y : Answer) (g : File) → (y ≡ x) × (g ≡ fileAfter f t a)
+      → (y ≡ fileAnswer f t a) × (g ≡ fileLeft f t a)
+  unfolding fileLeft
+  known e kept y g both =
+      let same : x ≡ fileAnswer f t a = is-admitted f x x e refl ∙ sym judged in (
+        both .0 ∙ same,
+        both .1
+            ∙ split (accepted x)
+            (λ h. sym (cond-true (accepted (fileAnswer f t a)) (fileAfter f t a) f (ap accepted (sym same) ∙ h)))
+            (λ h. kept h ∙ sym (cond-false (accepted (fileAnswer f t a)) (fileAfter f t a) f (ap accepted (sym same) ∙ h))),
+      )
+
+module _ (f : File) (t : ℕ) where
+  pub unknown-lodge : (k : ℕ) (h : Position) → f .admitted ≡ false → (refused 2 ≡ fileAnswer f t (lodge k h)) × (f ≡ fileLeft f t (lodge k h))
   unfolding fileAnswer
-  lodge-answer k h = on-known (lodge k h) (lodgeAnswer (fileAt b p) (b .today .0) k h) refl
+  unknown-lodge k h = unknown f t (lodge k h) (lodgeAnswer f t k h) refl
 
-  pub release-answer : (k a : ℕ) → releaseAnswer (fileAt b p) (b .today .0) k a ≡ answer b (on p (release k a))
+  pub unknown-release : (k a : ℕ) → f .admitted ≡ false → (refused 2 ≡ fileAnswer f t (release k a)) × (f ≡ fileLeft f t (release k a))
   unfolding fileAnswer
-  release-answer k a = on-known (release k a) (releaseAnswer (fileAt b p) (b .today .0) k a) refl
+  unknown-release k a = unknown f t (release k a) (releaseAnswer f t k a) refl
 
-  pub settle-answer : (m : ℕ) (figures : List ℤ) → settleAnswer (fileAt b p) (b .today .0) m figures ≡ answer b (on p (settle m figures))
+  pub unknown-settle : (m : ℕ) (figures : List ℤ) → f .admitted ≡ false
+      → (refused 2 ≡ fileAnswer f t (settle m figures)) × (f ≡ fileLeft f t (settle m figures))
   unfolding fileAnswer
-  settle-answer m figures = on-known (settle m figures) (settleAnswer (fileAt b p) (b .today .0) m figures) refl
+  unknown-settle m figures = unknown f t (settle m figures) (settleAnswer f t m figures) refl
 
-  pub annual-answer : annualAnswer (fileAt b p) (b .today .0) ≡ answer b (on p annualRun)
+  pub unknown-annual : f .admitted ≡ false → (refused 2 ≡ fileAnswer f t annualRun) × (f ≡ fileLeft f t annualRun)
   unfolding fileAnswer
-  annual-answer = on-known annualRun (annualAnswer (fileAt b p) (b .today .0)) refl
+  unknown-annual = unknown f t annualRun (annualAnswer f t) refl
 
-  -- The book that each leaves.
-  pub lodge-left : (k : ℕ) (h : Position) → withFile b p (lodgedFile (fileAt b p) (b .today .0) k h) 0 ≡ step b (on p (lodge k h))
-  unfolding fileAfter callsAdded
-  lodge-left k h =
-      let f = fileAt b p in
-      let t = b .today .0 in
-      stored b p (lodge k h) (lodgedFile f t k h) 0
-      (λ e. (refl, refl))
-      (λ e. (lodged-refused f t k h (ap accepted (lodge-answer k h) ∙ e), refl))
+  pub known-lodge : (k : ℕ) (h : Position) (x : Answer) (g : File) → f .admitted ≡ true → (x ≡ lodgeAnswer f t k h) × (g ≡ lodgedFile f t k h)
+      → (x ≡ fileAnswer f t (lodge k h)) × (g ≡ fileLeft f t (lodge k h))
+  unfolding fileAnswer fileAfter
+  known-lodge k h x g e = known f t (lodge k h) (lodgeAnswer f t k h) refl e (lodged-refused f t k h) x g
 
-  pub release-left : (k a : ℕ) → withFile b p (releasedFile (fileAt b p) (b .today .0) k a) 0 ≡ step b (on p (release k a))
-  unfolding fileAfter callsAdded
-  release-left k a =
-      let f = fileAt b p in
-      let t = b .today .0 in
-      stored b p (release k a) (releasedFile f t k a) 0
-      (λ e. (refl, refl))
-      (λ e. (released-refused f t k a (ap accepted (release-answer k a) ∙ e), refl))
+  pub known-release : (k a : ℕ) (x : Answer) (g : File) → f .admitted ≡ true → (x ≡ releaseAnswer f t k a) × (g ≡ releasedFile f t k a)
+      → (x ≡ fileAnswer f t (release k a)) × (g ≡ fileLeft f t (release k a))
+  unfolding fileAnswer fileAfter
+  known-release k a x g e = known f t (release k a) (releaseAnswer f t k a) refl e (released-refused f t k a) x g
 
-  pub annual-left : withFile b p (annualFile (fileAt b p) (b .today .0)) 0 ≡ step b (on p annualRun)
-  unfolding fileAfter callsAdded
-  annual-left =
-      let f = fileAt b p in
-      let t = b .today .0 in
-      stored b p annualRun (annualFile f t) 0
-      (λ e. (refl, refl))
-      (λ e. (annual-refused f t (ap accepted annual-answer ∙ e), refl))
+  pub known-settle : (m : ℕ) (figures : List ℤ) (x : Answer) (g : File) → f .admitted ≡ true
+      → (x ≡ settleAnswer f t m figures) × (g ≡ settledFile f t m figures)
+      → (x ≡ fileAnswer f t (settle m figures)) × (g ≡ fileLeft f t (settle m figures))
+  unfolding fileAnswer fileAfter
+  known-settle m figures x g e = known f t (settle m figures) (settleAnswer f t m figures) refl e (settled-refused f t m figures) x g
+
+  pub known-annual : (x : Answer) (g : File) → f .admitted ≡ true → (x ≡ annualAnswer f t) × (g ≡ annualFile f t)
+      → (x ≡ fileAnswer f t annualRun) × (g ≡ fileLeft f t annualRun)
+  unfolding fileAnswer fileAfter
+  known-annual x g e = known f t annualRun (annualAnswer f t) refl e (annual-refused f t) x g
 
   -- A settlement that isn't refused called where the manual's check calls.
-  called-is : (m : ℕ) (figures : List ℤ) → accepted (settleAnswer (fileAt b p) (b .today .0) m figures) ≡ true
-      → isCalled (settleAnswer (fileAt b p) (b .today .0) m figures) ≡ settlementCalls (fileAt b p) (b .today .0) m figures
-  unfolding settleAnswer
-  called-is m figures e = ap isCalled (decide-accepted _ (settledAnswer (fileAt b p) (b .today .0) m figures) e) ∙ settled-called (fileAt b p) (b .today .0) m figures
+  called-is : (m : ℕ) (figures : List ℤ) → accepted (fileAnswer f t (settle m figures)) ≡ true
+      → isCalled (fileAnswer f t (settle m figures)) ≡ settlementCalls f t m figures
+  unfolding fileAnswer ifAdmitted settleAnswer
+  called-is m figures e =
+      let first = decide-accepted (record { number = 2; holds = not (f .admitted) } ∷ []) (settleAnswer f t m figures) e in
+      ap isCalled (first ∙ decide-accepted _ (settledAnswer f t m figures) (ap accepted (sym first) ∙ e)) ∙ settled-called f t m figures
 
-  pub settle-left : (m : ℕ) (figures : List ℤ)
-      → withFile b p (settledFile (fileAt b p) (b .today .0) m figures) (cond (isCalled (settleAnswer (fileAt b p) (b .today .0) m figures)) 1 0)
-      ≡ step b (on p (settle m figures))
-  unfolding fileAfter callsAdded
-  settle-left m figures =
+-- The book with the file that a call leaves.
+module _ (b : Book) (p : ℕ) (numbered : ltb 63 p ≡ false) where
+  left : (a : Act) (n : ℕ)
+      → (accepted (fileAnswer (fileAt b p) (b .today .0) a) ≡ true → n ≡ callsAdded (fileAt b p) (b .today .0) a)
+      → (accepted (fileAnswer (fileAt b p) (b .today .0) a) ≡ false → n ≡ 0)
+      → withFile b p (fileLeft (fileAt b p) (b .today .0) a) n ≡ step b (on p a)
+  unfolding fileLeft
+  left a n if-so if-not =
       let f = fileAt b p in
       let t = b .today .0 in
-      let x = settleAnswer f t m figures in
-      stored b p (settle m figures) (settledFile f t m figures) (cond (isCalled x) 1 0)
-      (λ e. (refl, ap (λ (called : Bool). cond called 1 0) (called-is m figures (ap accepted (settle-answer m figures) ∙ e))))
-      (λ e. (
-        settled-refused f t m figures (ap accepted (settle-answer m figures) ∙ e),
-        ap (λ (called : Bool). cond called 1 0) (refused-not-called x (ap accepted (settle-answer m figures) ∙ e)),
-      ))
+      let same = ap accepted (known-answer b p a (fileAnswer f t a) numbered refl) in
+      stored b p a (fileLeft f t a) n
+      (λ e. (cond-true (accepted (fileAnswer f t a)) (fileAfter f t a) f (same ∙ e), if-so (same ∙ e)))
+      (λ e. (cond-false (accepted (fileAnswer f t a)) (fileAfter f t a) f (same ∙ e), if-not (same ∙ e)))
+
+  pub lodge-left : (k : ℕ) (h : Position) → withFile b p (fileLeft (fileAt b p) (b .today .0) (lodge k h)) 0 ≡ step b (on p (lodge k h))
+  unfolding callsAdded
+  lodge-left k h = left (lodge k h) 0 (λ e. refl) (λ e. refl)
+
+  pub release-left : (k a : ℕ) → withFile b p (fileLeft (fileAt b p) (b .today .0) (release k a)) 0 ≡ step b (on p (release k a))
+  unfolding callsAdded
+  release-left k a = left (release k a) 0 (λ e. refl) (λ e. refl)
+
+  pub annual-left : withFile b p (fileLeft (fileAt b p) (b .today .0) annualRun) 0 ≡ step b (on p annualRun)
+  unfolding callsAdded
+  annual-left = left annualRun 0 (λ e. refl) (λ e. refl)
+
+  pub settle-left : (m : ℕ) (figures : List ℤ)
+      → withFile b p (fileLeft (fileAt b p) (b .today .0) (settle m figures))
+      (cond (isCalled (fileAnswer (fileAt b p) (b .today .0) (settle m figures))) 1 0)
+      ≡ step b (on p (settle m figures))
+  unfolding callsAdded
+  settle-left m figures =
+      let x = fileAnswer (fileAt b p) (b .today .0) (settle m figures) in
+      left (settle m figures) (cond (isCalled x) 1 0)
+      (λ e. ap (λ (called : Bool). cond called 1 0) (called-is (fileAt b p) (b .today .0) m figures e))
+      (λ e. ap (λ (called : Bool). cond called 1 0) (refused-not-called x e))

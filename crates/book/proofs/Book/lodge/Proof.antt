@@ -1,10 +1,8 @@
--- `book::Book::lodge` meets its contract: cause 1 is the participant's number, cause 2 is read off its file, and the rest is what the
--- file's method ensures.
+-- `book::Book::lodge` meets its contract: cause 1 is the participant's number, and the rest is what the call on its file ensures.
 -- Assumes nothing.
 use borrow.Author.Needs.{needs}
-use borrow.Author.Tests.{not-true, not-false}
 use Rattle.laws.specs.Lists.{length-unmap}
-use Rattle.book.proofs.Functions.Answers.{above, unknown-lodge, left-lodge}
+use Rattle.book.proofs.Functions.Answers.{above, left-lodge}
 use Rattle.book.proofs.Book.lodge.Statement.{statement}
 use Rattle.book.proofs.Book.lodge.Tie as tie
 
@@ -17,11 +15,8 @@ mul-file c = search needs
 element-copy-out-file : tie.Need-element-copy-out-file
 element-copy-out-file c = search needs
 
-returns-2 : tie.Need-returns-2
-returns-2 c = search (unknown-lodge, not-true, length-unmap, needs)
-
-lodge-requires : tie.Need-lodge-requires
-lodge-requires c κs = search needs
+lodged-if-admitted-requires : tie.Need-lodged-if-admitted-requires
+lodged-if-admitted-requires c κs = search needs
 
 mul-file-2 : tie.Need-mul-file-2
 mul-file-2 c = search needs
@@ -29,8 +24,8 @@ mul-file-2 c = search needs
 element-set-from-file : tie.Need-element-set-from-file
 element-set-from-file c = search needs
 
-returns-3 : tie.Need-returns-3
-returns-3 c = search (left-lodge, not-false, length-unmap, needs)
+returns-2 : tie.Need-returns-2
+returns-2 c = search (left-lodge, length-unmap, needs)
 
 pub lodge-spec : {M : Type 1} → statement M
 lodge-spec =
@@ -39,8 +34,7 @@ lodge-spec =
     returns
     mul-file
     element-copy-out-file
-    returns-2
-    lodge-requires
+    lodged-if-admitted-requires
     mul-file-2
     element-set-from-file
-    returns-3)
+    returns-2)

@@ -1,10 +1,8 @@
--- `book::Book::release` meets its contract: cause 1 is the participant's number, cause 2 is read off its file, and the rest is what the
--- file's method ensures.
+-- `book::Book::release` meets its contract: cause 1 is the participant's number, and the rest is what the call on its file ensures.
 -- Assumes nothing.
 use borrow.Author.Needs.{needs}
-use borrow.Author.Tests.{not-true, not-false}
 use Rattle.laws.specs.Lists.{length-unmap}
-use Rattle.book.proofs.Functions.Answers.{above, sound, unknown-release, left-release}
+use Rattle.book.proofs.Functions.Answers.{above, sound, left-release}
 use Rattle.book.proofs.Book.release.Statement.{statement}
 use Rattle.book.proofs.Book.release.Tie as tie
 
@@ -17,11 +15,8 @@ mul-file c = search needs
 element-copy-out-file : tie.Need-element-copy-out-file
 element-copy-out-file c = search needs
 
-returns-2 : tie.Need-returns-2
-returns-2 c = search (unknown-release, not-true, length-unmap, needs)
-
-release-requires : tie.Need-release-requires
-release-requires c κs = search (sound, length-unmap, needs)
+released-if-admitted-requires : tie.Need-released-if-admitted-requires
+released-if-admitted-requires c κs = search (sound, length-unmap, needs)
 
 mul-file-2 : tie.Need-mul-file-2
 mul-file-2 c = search needs
@@ -29,8 +24,8 @@ mul-file-2 c = search needs
 element-set-from-file : tie.Need-element-set-from-file
 element-set-from-file c = search needs
 
-returns-3 : tie.Need-returns-3
-returns-3 c = search (left-release, not-false, length-unmap, needs)
+returns-2 : tie.Need-returns-2
+returns-2 c = search (left-release, length-unmap, needs)
 
 pub release-spec : {M : Type 1} → statement M
 release-spec =
@@ -39,8 +34,7 @@ release-spec =
     returns
     mul-file
     element-copy-out-file
-    returns-2
-    release-requires
+    released-if-admitted-requires
     mul-file-2
     element-set-from-file
-    returns-3)
+    returns-2)

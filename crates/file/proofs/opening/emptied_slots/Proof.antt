@@ -2,12 +2,13 @@
 -- as they came. The measure is the number of slots left.
 -- Assumes nothing.
 use Prim.Native.Nat.{_≤_, _-_}
-use mathlib.Core.Path.{_≡_}
+use mathlib.Core.Path.{_≡_, _∙_}
+use mathlib.Core.Logic.{⊎-elim}
 use borrow.Author.Needs.{needs}
 use lib.ListN.{length}
 use Rattle.laws.specs.Places.{upTo}
 use Rattle.laws.specs.Lists.{length-unmap}
-use Rattle.file.proofs.AtOpening.{slotAt, slots-none, slots-next, slots-all}
+use Rattle.file.proofs.AtOpening.{slotAt, slots-none, slots-lapsed, slots-stay, slots-all}
 use Rattle.file.proofs.opening.emptied_slots.Statement.{statement}
 use Rattle.file.proofs.opening.emptied_slots.Tie as tie
 
@@ -26,8 +27,8 @@ mul-slot c = search needs
 array-copy-out-slot : tie.Need-array-copy-out-slot Inv-loop μ-loop
 array-copy-out-slot c = search needs
 
-emptied-requires : tie.Need-emptied-requires Inv-loop μ-loop
-emptied-requires c κs = search needs
+is-lapsed-requires : tie.Need-is-lapsed-requires Inv-loop μ-loop
+is-lapsed-requires c κs = search needs
 
 mul-slots : tie.Need-mul-slots Inv-loop μ-loop
 mul-slots c = search needs
@@ -42,7 +43,16 @@ loop-less : tie.Need-loop-less Inv-loop μ-loop
 loop-less c = search needs
 
 loop-again : tie.Need-loop-again Inv-loop μ-loop
-loop-again c = (search needs, search needs, search (slots-next, needs))
+loop-again c =
+    let at = c .before .before .before .before .loop .inv in
+    let more = c .before .before .before .loop-test .taken in
+    let lapsed = c .before .is-lapsed .ensures in (
+      search needs,
+      search needs,
+      ⊎-elim (λ w. w .1 ∙ slots-lapsed _ _ _ _ _ _ (at .1) more (at .2) lapsed (w .0 .taken))
+          (λ w. w .1 ∙ slots-stay _ _ _ _ _ _ (at .1) more (at .2) lapsed (w .0 .left))
+          (c .if1 .came),
+    )
 
 returns : tie.Need-returns Inv-loop μ-loop
 returns c = slots-all _ _ (c .before .before .args .day .0) (c .before .loop .i) (c .before .loop .inv .1) (c .loop-test .left) (c .before .loop .inv .2)
@@ -56,7 +66,7 @@ emptied-slots-spec =
     loop-holds
     mul-slot
     array-copy-out-slot
-    emptied-requires
+    is-lapsed-requires
     mul-slots
     array-set-from-slots
     add-i

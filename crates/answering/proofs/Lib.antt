@@ -1,0 +1,5 @@
+pub mod ShownLaws
+pub mod GuaranteeLaws
+pub mod CallLaws
+pub mod KeptLaws
+pub mod Session

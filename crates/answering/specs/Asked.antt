@@ -1,0 +1,96 @@
+-- What a line of the journal asks, what it is answered, and the book that it leaves.
+-- Assumes nothing.
+use Prim.Native.Nat.{ℕ, _≤_}
+use mathlib.Core.Path.{_≡_}
+use mathlib.Core.Bool.{cond}
+use mathlib.Core.List.{List, map}
+use lib.ListN.{take, drop}
+use lib.IntN.{ℤ, pos, negsuc}
+use Rattle.file.specs.declared.Position.the-variants.{Cash, Letter}
+use Rattle.file.specs.Answer.{accepted}
+use Rattle.special.specs.declared.Special.{Special}
+use Rattle.special.specs.Guarantee.{specialGuarantee}
+use Rattle.book.specs.declared.Book.{Book}
+use Rattle.book.specs.Call.{Call, on, admit, lodge, release, settle, annualRun, advance, statement, callsMade}
+use Rattle.book.specs.Account.{freshAnswer, freshBook, answer, step}
+use Rattle.book.specs.Reached.{Reached}
+use Rattle.journal.specs.declared.Reason.{Reason}
+use Rattle.journal.specs.declared.Request.{Request}
+use Rattle.journal.specs.declared.Lengths.{Lengths}
+use Rattle.printing.specs.declared.Answer.{Answer}
+use Rattle.answering.specs.Shown.{shown, guaranteeShown}
+
+-- What a line asks.
+pub data Asked : Type 0 where
+  -- a call of paper 01
+  call : Call → Asked
+  -- a fresh book on a day
+  fresh : (day : ℕ) → Asked
+  -- the special guarantee of seven lists
+  guarantee : Special → Asked
+  -- nothing of the book: an empty line, or the table for people
+  nothing : Asked
+  -- no call
+  fault : Reason → Asked
+
+-- A number as a mark: a natural number is one; a negative one, which no line has there, counts as 2, which is out of a mark's range too.
+abbrev pub markOf : ℤ → ℕ
+markOf (pos n) = n
+markOf (negsuc n) = 2
+
+-- "each LIST is its length and then its numbers: medium rates, low rates, marks, zero medium, zero low, excess medium, excess low": the
+-- guarantee of the first three lists, and of the four by semester whose numbers stand in a row.
+unfoldable pub semestersOf : Lengths → List ℤ → List ℤ → List ℕ → List ℤ → Special
+semestersOf n medium low marks zs =
+    let fromLow = drop (n .«zero_medium») zs in
+    let fromExcesses = drop (n .«zero_low») fromLow in
+    let fromExcessLow = drop (n .«excess_medium») fromExcesses in
+    specialGuarantee medium low marks (take (n .«zero_medium») zs) (take (n .«zero_low») fromLow) (take (n .«excess_medium») fromExcesses)
+    (take (n .«excess_low») fromExcessLow)
+
+-- The guarantee of seven lists whose numbers stand in a row.
+unfoldable pub guaranteeOf : Lengths → List ℤ → Special
+guaranteeOf n zs =
+    let fromLow = drop (n .medium) zs in
+    let fromMarks = drop (n .low) fromLow in
+    semestersOf n (take (n .medium) zs) (take (n .low) fromLow) (map markOf (take (n .marks) fromMarks)) (drop (n .marks) fromMarks)
+
+-- What a request asks, with the numbers of its lists in a row: `settle` has as many figures as it says.
+abbrev pub asked : Request → List ℤ → Asked
+asked Request.Nothing zs = nothing
+asked (Request.Fresh d) zs = fresh (d .0)
+asked (Request.Admit p role) zs = call (on p (admit role))
+asked (Request.LodgeCash p q a) zs = call (on p (lodge q (Cash a)))
+asked (Request.LodgeLetter p q a f l) zs = call (on p (lodge q (Letter a f l)))
+asked (Request.Release p q a) zs = call (on p (release q a))
+asked (Request.Settle p m n) zs = call (on p (settle (m .0) (take n zs)))
+asked (Request.Annual p) zs = call (on p annualRun)
+asked (Request.Advance t b) zs = call (advance (t .0) b)
+asked (Request.Statement p) zs = call (statement p)
+asked Request.Calls zs = call callsMade
+asked (Request.Special n) zs = guarantee (guaranteeOf n zs)
+asked Request.Report zs = nothing
+asked (Request.Error e) zs = fault e
+
+-- What is answered to line number n on book b.
+abbrev pub answerTo : Book → ℕ → Asked → Answer
+answerTo b n (call c) = shown (answer b c)
+answerTo b n (fresh d) = shown (freshAnswer d)
+answerTo b n (guarantee x) = guaranteeShown x
+answerTo b n nothing = Answer.Nothing
+answerTo b n (fault e) = Answer.Error n e
+
+-- The book that a line leaves: "`fresh` begins a new one", unless it is refused; "a line that is no call: the book is as before".
+abbrev pub bookAfter : Book → Asked → Book
+bookAfter b (call c) = step b c
+bookAfter b (fresh d) = cond (accepted (freshAnswer d)) (freshBook d) b
+bookAfter b (guarantee x) = b
+bookAfter b nothing = b
+bookAfter b (fault e) = b
+
+-- What line number n gives on book b: the answer x and the book b′ that it leaves.
+pub record Answered (b : Book) (n : ℕ) (a : Asked) (x : Answer) (b′ : Book) : Type 0 where
+  pub answered : x ≡ answerTo b n a
+  pub left : b′ ≡ bookAfter b a
+  -- the next line may be answered
+  pub reached : Reached b′

@@ -1,0 +1,71 @@
+-- 'Two ways to run it': what a kept journal takes.
+-- Assumes nothing.
+use Prim.Native.Nat.{ℕ, min}
+use mathlib.Core.Bool.{Bool, true, false, cond, _&&_}
+use mathlib.Core.List.{List, [], _∷_, _++_}
+use lib.Dec.{ltb}
+use lib.ListN.{length, take}
+use lib.IntN.{ℤ}
+use Rattle.journal.specs.Grammar.{lengthList, total}
+use Rattle.journal.specs.declared.Reason.{Reason}
+use Rattle.journal.specs.declared.Request.{Request}
+use Rattle.printing.specs.declared.Answer.{Answer}
+use Rattle.printing.specs.Lines.{printed}
+
+-- "each accepted call is appended": one that is answered, and neither refused nor an error.
+abbrev pub takes : Answer → Bool
+takes (Answer.Refused n) = false
+takes (Answer.Error l e) = false
+takes Answer.Nothing = false
+takes Answer.Done = true
+takes (Answer.Called e a d) = true
+takes (Answer.Covered e) = true
+takes (Answer.Recorded e) = true
+takes (Answer.Annual a m) = true
+takes (Answer.Opened d) = true
+takes (Answer.Statement f c s d m) = true
+takes (Answer.Calls n) = true
+takes (Answer.Special c) = true
+
+-- Whether a request asks for a fresh book.
+abbrev pub isFresh : Request → Bool
+isFresh Request.Nothing = false
+isFresh (Request.Fresh d) = true
+isFresh (Request.Admit p r) = false
+isFresh (Request.LodgeCash p q a) = false
+isFresh (Request.LodgeLetter p q a f l) = false
+isFresh (Request.Release p q a) = false
+isFresh (Request.Settle p m n) = false
+isFresh (Request.Annual p) = false
+isFresh (Request.Advance t b) = false
+isFresh (Request.Statement p) = false
+isFresh Request.Calls = false
+isFresh (Request.Special n) = false
+isFresh Request.Report = false
+isFresh (Request.Error e) = false
+
+-- "In a kept journal `fresh` stands only as the first call; a later one is an error": a request where so many calls are kept.
+unfoldable pub freshFirst : ℕ → Request → Request
+freshFirst kept r = cond (isFresh r && ltb 0 kept) (Request.Error Reason.FreshLater) r
+
+-- How many numbers a request's lists have, where so many numbers stand in a row: a settlement's figures, and the seven lists of a special
+-- guarantee.
+abbrev pub numbersIn : Request → ℕ → ℕ
+numbersIn Request.Nothing most = 0
+numbersIn (Request.Fresh d) most = 0
+numbersIn (Request.Admit p r) most = 0
+numbersIn (Request.LodgeCash p q a) most = 0
+numbersIn (Request.LodgeLetter p q a f l) most = 0
+numbersIn (Request.Release p q a) most = 0
+numbersIn (Request.Settle p m n) most = min n most
+numbersIn (Request.Annual p) most = 0
+numbersIn (Request.Advance t b) most = 0
+numbersIn (Request.Statement p) most = 0
+numbersIn Request.Calls most = 0
+numbersIn (Request.Special n) most = min (total (lengthList n)) most
+numbersIn Request.Report most = 0
+numbersIn (Request.Error e) most = 0
+
+-- A call as a line of the journal, in its numeric form, with its newline.
+unfoldable pub keptLine : Request → List ℤ → List ℕ
+keptLine r zs = printed r (take (numbersIn r (length zs)) zs) ++ (10 ∷ [])

@@ -1,0 +1,25 @@
+-- 'The journal': "Answers, one line for each call line", from the answers of paper 01.
+-- Assumes nothing.
+use Rattle.file.specs.Answer as Said
+use Rattle.special.specs.declared.Special.{Special}
+use Rattle.special.specs.declared.Special.the-variants as Specials
+use Rattle.printing.specs.declared.Answer.{Answer}
+
+-- The answer of the journal for each answer of the book:
+-- "done | refused N | called E ASKED LAST_FREE_DAY | covered E | recorded E | annual AMOUNT MONTHS | opened DAYS
+-- | statement FIRM COVER SHORTFALL DAYS_CHARGED MILLS | calls N".
+abbrev pub shown : Said.Answer → Answer
+shown (Said.refused n) = Answer.Refused n
+shown Said.done = Answer.Done
+shown (Said.called e asked last) = Answer.Called e asked (record { 0 = last })
+shown (Said.covered e) = Answer.Covered e
+shown (Said.recorded e) = Answer.Recorded e
+shown (Said.annual a n) = Answer.Annual a n
+shown (Said.opened n) = Answer.Opened n
+shown (Said.stated f c s d a) = Answer.Statement f c s d a
+shown (Said.counted n) = Answer.Calls n
+
+-- "special CENTS", or the number of the refusal.
+abbrev pub guaranteeShown : Special → Answer
+guaranteeShown (Specials.Guarantee cents) = Answer.Special cents
+guaranteeShown (Specials.Refused n) = Answer.Refused n
