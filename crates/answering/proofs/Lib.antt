@@ -3,3 +3,4 @@ pub mod GuaranteeLaws
 pub mod CallLaws
 pub mod KeptLaws
 pub mod Session
+pub mod KeptLines
