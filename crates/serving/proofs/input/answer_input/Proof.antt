@@ -1,0 +1,65 @@
+-- `serving::input::answer_input` meets its contract, which says nothing: what the parts left is reached and within the buffer, as the last line asks.
+-- Assumes nothing.
+use native.Mathlib.Omega.{arith}
+use borrow.Author.Needs.{needs}
+use Rattle.serving.proofs.input.answer_input.Statement.{statement}
+use Rattle.serving.proofs.input.answer_input.Tie as tie
+
+large-buffer-requires : tie.Need-large-buffer-requires
+large-buffer-requires c κs = search needs
+
+numbers-requires : tie.Need-numbers-requires
+numbers-requires c κs = search needs
+
+large-buffer-requires-2 : tie.Need-large-buffer-requires-2
+large-buffer-requires-2 c κs = search needs
+
+slice-aggregate-take-parts : tie.Need-slice-aggregate-take-parts
+slice-aggregate-take-parts c = search needs
+
+slice-aggregate-take-parts-2 : tie.Need-slice-aggregate-take-parts-2
+slice-aggregate-take-parts-2 c = search needs
+
+slice-aggregate-take-parts-3 : tie.Need-slice-aggregate-take-parts-3
+slice-aggregate-take-parts-3 c = search needs
+
+take-parts-requires : tie.Need-take-parts-requires
+take-parts-requires c κs = search needs
+
+slice-aggregate-take-last : tie.Need-slice-aggregate-take-last
+slice-aggregate-take-last c = search needs
+
+slice-aggregate-take-last-2 : tie.Need-slice-aggregate-take-last-2
+slice-aggregate-take-last-2 c = search needs
+
+slice-aggregate-take-last-3 : tie.Need-slice-aggregate-take-last-3
+slice-aggregate-take-last-3 c = search needs
+
+take-last-requires : tie.Need-take-last-requires
+take-last-requires c κs =
+    let taken = c .before .before .before .before .before .before .before .before .before .before .before in
+    (taken .take-parts .ensures .0, omega (arith, taken .take-parts .ensures .1, taken .take-parts .kept))
+
+returns : tie.Need-returns
+returns c = search needs
+
+returns-2 : tie.Need-returns-2
+returns-2 c = search needs
+
+pub answer-input-spec : {M : Type 1} → statement M
+answer-input-spec =
+    tie.close
+    (tie.spec
+    large-buffer-requires
+    numbers-requires
+    large-buffer-requires-2
+    slice-aggregate-take-parts
+    slice-aggregate-take-parts-2
+    slice-aggregate-take-parts-3
+    take-parts-requires
+    slice-aggregate-take-last
+    slice-aggregate-take-last-2
+    slice-aggregate-take-last-3
+    take-last-requires
+    returns
+    returns-2)

@@ -1,0 +1,454 @@
+"""The ledger in Python's standard library, over paper 01's reading of the history (reading.py): what the program `ledger` has to answer.
+
+    python3 reference/ledger.py < CALLS                the filter
+    python3 reference/ledger.py --keep FILE < CALLS    keeps the book in the journal FILE
+    python3 reference/ledger.py --check                paper 01's starred figures, as calls and their answers
+
+A line is read to a tuple, the call's name first and its arguments after it, numbers as numbers; a settlement's last argument is the list of its
+figures, and a special guarantee's arguments are its seven lists. The book is reading.py's; the special guarantee stands here.
+"""
+import datetime
+import os
+import re
+import sys
+
+sys.dont_write_bytecode = True
+
+import reading
+
+LONGEST = 65535                                     # bytes of a line without its newline
+NATURAL, DAY, SIGNED = 2 ** 64 - 1, 2 ** 32 - 1, 2 ** 63 - 1
+ROLES = ('supplier', 'self-supplied', 'trader', 'producer', 'res-aggregator', 'demand-response')
+WORD = re.compile(rb'[^ \t\r]+')                    # blanks are spaces, tabs and carriage returns
+CONTROL = re.compile(rb'[\x00-\x08\x0a-\x0c\x0e-\x1f\x7f]')
+DIGITS = re.compile(rb'[0-9]+')
+DATE = re.compile(rb'([0-9]{4})-([0-9]{2})-([0-9]{2})')
+MONTH = re.compile(rb'([0-9]{4})-([0-9]{2})')
+
+
+class Fault(Exception):
+    """A line that is no call, with its reason."""
+
+
+# ---- words
+
+def value(digits, most):
+    """The number that digits give; one above the most counts as that."""
+    digits = digits.lstrip(b'0')
+    return most if len(digits) > 20 else min(int(digits or b'0'), most)
+
+
+def natural(word):
+    if not DIGITS.fullmatch(word):
+        raise Fault('not a number')
+    return value(word, NATURAL)
+
+
+def signed(word):
+    """A figure, rate, zero settlement or excess: it may have a minus."""
+    if word[:1] != b'-':
+        return mark(word)
+    if not DIGITS.fullmatch(word[1:]):
+        raise Fault('not a number')
+    return -value(word[1:], SIGNED + 1)
+
+
+def mark(word):
+    """A natural number that is held as a signed one."""
+    if not DIGITS.fullmatch(word):
+        raise Fault('not a number')
+    return value(word, SIGNED)
+
+
+def real(year, mon, dom):
+    """A date from 2020 to 2099, or None where there is no such date."""
+    try:
+        return datetime.date(year, mon, dom) if 2020 <= year <= 2099 else None
+    except ValueError:
+        return None
+
+
+def day(word):
+    if DIGITS.fullmatch(word):
+        return value(word, DAY)
+    parts = DATE.fullmatch(word)
+    found = parts and real(*map(int, parts.groups()))
+    if not found:
+        raise Fault('not a day')
+    return (found - reading.FIRST).days
+
+
+def month(word):
+    if DIGITS.fullmatch(word):
+        return value(word, DAY)
+    parts = MONTH.fullmatch(word)
+    found = parts and real(*map(int, parts.groups()), 1)
+    if not found:
+        raise Fault('not a month')
+    return (found.year - 2020) * 12 + found.month - 1
+
+
+def role(word):
+    for number, name in enumerate(ROLES):
+        if word == name.encode():
+            return number
+    if not DIGITS.fullmatch(word):
+        raise Fault('not a role')
+    return value(word, NATURAL)
+
+
+def kind(word):
+    if word not in (b'cash', b'letter'):
+        raise Fault('neither cash nor letter')
+    return word.decode()
+
+
+# ---- a line
+
+# The arguments of the calls that have a fixed number of words; a lodging's go on after `cash` or `letter`.
+ARGUMENTS = {'fresh': (day,), 'admit': (natural, role), 'lodge': (natural, natural, kind), 'release': (natural, natural, natural),
+             'settle': (natural, month), 'annual': (natural,), 'advance': (day, natural), 'statement': (natural,), 'calls': (), 'special': (),
+             'report': ()}
+LODGED = {'cash': (natural,), 'letter': (natural, day, day)}
+
+
+class Words:
+    """The words of a line, taken from the left to the right."""
+
+    def __init__(self, words):
+        self.words, self.at = words, 0
+
+    def more(self):
+        return self.at < len(self.words)
+
+    def take(self, due):
+        if not self.more():
+            raise Fault('too few words')
+        self.at += 1
+        return due(self.words[self.at - 1])
+
+    def numbers(self, due):
+        """A list: its length and then its numbers."""
+        found = []
+        for _ in range(self.take(natural)):
+            found.append(self.take(due))
+        return found
+
+
+def call_of(line):
+    """The call that a line is, without its newline; None where it has no words."""
+    if len(line) > LONGEST:
+        raise Fault('line too long')
+    line = line.partition(b'#')[0]
+    if CONTROL.search(line):
+        raise Fault('a control byte')
+    found = WORD.findall(line)
+    if not found:
+        return None
+    name = found[0].decode('latin-1')
+    if name not in ARGUMENTS:
+        raise Fault('no such call')
+    words = Words(found[1:])
+    call = [name] + [words.take(due) for due in ARGUMENTS[name]]
+    if name == 'lodge':
+        call += [words.take(due) for due in LODGED[call[3]]]
+    elif name == 'settle':
+        figures = []
+        while words.more():
+            figures.append(words.take(signed))
+        call.append(figures)
+    elif name == 'special':
+        call += [words.numbers(due) for due in (signed, signed, mark, signed, signed, signed, signed)]
+    if words.more():
+        raise Fault('too many words')
+    return tuple(call)
+
+
+def numeric(call):
+    """The line of a call in its numeric form."""
+    words = []
+    for argument in call:
+        if not isinstance(argument, list):
+            words.append(argument)
+        else:
+            words += argument if call[0] == 'settle' else [len(argument)] + argument
+    return ' '.join(map(str, words))
+
+
+# ---- the special guarantee (paper 01, 'Special guarantee', and its causes 19, 11, 18)
+
+def nearest(amount, parts):
+    """amount / parts to the nearest whole, halves toward the larger number."""
+    return (2 * amount + parts) // (2 * parts)
+
+
+def ratio(rates):
+    """The mean of the three largest rates."""
+    return nearest(sum(sorted(rates)[-3:]), 3)
+
+
+def within(numbers, least, most):
+    return all(least <= number <= most for number in numbers)
+
+
+def special(medium, low, marks, zero_medium, zero_low, excess_medium, excess_low):
+    """The refusal's number, or 0, and the special guarantee in cents."""
+    lists = (zero_medium, zero_low, excess_medium, excess_low)
+    if len(medium) > 64 or len(low) > 64 or len(marks) != len(low) or len(set(map(len, lists))) > 1 or len(zero_medium) > 16:
+        return 19, 0
+    most = reading.MOST
+    if not (within(medium + low, -100000, 100000) and within(marks, 0, 1) and within(zero_medium + zero_low, -most, most)
+            and within(excess_medium + excess_low, 0, most)):
+        return 11, 0
+    usable = [rate for rate, new in zip(low, marks) if not new]
+    if len(medium) < 3 or len(usable) < 3:
+        return 18, 0
+    product = ratio(medium) * sum(zero_medium) + ratio(usable) * sum(zero_low)
+    return 0, max(nearest(product, 10000) - sum(excess_medium) - sum(excess_low), 500000)
+
+
+# ---- the book
+
+def decimals(number, places):
+    """A number of parts as a number of wholes, a whole being 10 ^ places parts."""
+    return f'{number // 10 ** places}.{number % 10 ** places:0{places}}'
+
+
+WIDTHS = (11, 16, 17, 17, 17, 12, 21)
+HEADING = ('participant', 'role', 'firm EUR', 'cover EUR', 'shortfall EUR', 'days charged', 'charge EUR')
+
+
+def row(cells):
+    return ' '.join(str(cell).rjust(width) for cell, width in zip(cells, WIDTHS))
+
+
+class Ledger:
+    """The book, and the answer to one call after the other. Before any `fresh` it is the fresh book of day 0."""
+
+    def __init__(self):
+        self.book = reading.History(0)
+
+    def make(self, call):
+        """The answer to a call: a line, or for a report several, without the last newline."""
+        name, *args = call
+        book = self.book
+        if name == 'fresh':
+            number, made = reading.fresh(*args)
+            if number == 0:
+                self.book = made
+            return f'refused {number}' if number else 'done'
+        if name == 'special':
+            number, cents = special(*args)
+            return f'refused {number}' if number else f'special {cents}'
+        if name == 'report':
+            return self.report()
+        found, *numbers = getattr(book, 'calls_made' if name == 'calls' else name)(*args)
+        word, count = (('refused', 1), ('done', 0), ('called', 3), ('covered', 1), ('recorded', 1), ('annual', 2), ('opened', 1),
+                       ('statement', 5), ('calls', 1))[found]
+        return ' '.join([word] + [str(number) for number in numbers[:count]])
+
+    def report(self):
+        book = self.book
+        lines = [f'report {book.today} {reading.date(book.today)} {len(book.people)}', row(HEADING)]
+        for p in sorted(book.people):
+            _, firm, cover, shortfall, days, mills = book.statement(p)
+            lines.append(row((p, ROLES[book.people[p].role], decimals(firm, 2), decimals(cover, 2), decimals(shortfall, 2), days,
+                              decimals(mills, 5))))
+        return '\n'.join(lines)
+
+
+def refused(answer):
+    return answer.startswith('refused')
+
+
+class Filter:
+    """Answers the lines of an input, which are counted from 1."""
+
+    def __init__(self):
+        self.ledger, self.line = Ledger(), 0
+
+    def answer(self, line):
+        """The answer to the next line, without its newline; None where it has none."""
+        self.line += 1
+        try:
+            call = call_of(line)
+            return None if call is None else self.made(call)
+        except Fault as fault:
+            return f'error {self.line} {fault}'
+
+    def made(self, call):
+        return self.ledger.make(call)
+
+
+class Stop(Exception):
+    """A journal that can't be replayed, with what is said of it."""
+
+
+class Kept(Filter):
+    """The same for a kept book: `fresh` stands only as the first call, and the accepted calls are kept."""
+
+    def __init__(self):
+        super().__init__()
+        self.any = False     # whether the journal has a call
+
+    def first_only(self, call):
+        if call[0] == 'fresh' and self.any:
+            raise Fault('fresh is not the first call')
+
+    def made(self, call):
+        self.first_only(call)
+        answer = self.ledger.make(call)
+        if not refused(answer) and call[0] != 'report':
+            self.keep(numeric(call).encode())
+            self.any = True
+        return answer
+
+
+class Keeper(Kept):
+    """Keeps the accepted calls in a journal, which is replayed first."""
+
+    def __init__(self, name):
+        super().__init__()
+        try:
+            self.file = os.fdopen(os.open(name, os.O_RDWR | os.O_CREAT, 0o666), 'r+b', buffering=0)
+            data = self.file.read()
+        except OSError as error:
+            raise Stop(error.strerror)
+        end = data.rfind(b'\n') + 1
+        for number, line in enumerate(data[:end].split(b'\n')[:-1], 1):
+            self.replay(number, line)
+        if end < len(data):
+            print(f'ledger: {name}: the last line has no end and is dropped', file=sys.stderr, flush=True)
+            self.file.truncate(end)
+        self.file.seek(end)
+
+    def replay(self, number, line):
+        try:
+            call = call_of(line)
+            if call is None:
+                return
+            self.first_only(call)
+            answer = self.ledger.make(call)
+        except Fault as fault:
+            raise Stop(f'line {number}: {fault}')
+        if refused(answer):
+            raise Stop(f'line {number}: {answer}')
+        self.any = True
+
+    def keep(self, line):
+        self.file.write(line + b'\n')
+
+
+def answers(lines, to=None):
+    """The answers of the filter (or of a keeper) to the bytes of an input, as bytes."""
+    to = to or Filter()
+    found = lines.split(b'\n')
+    if not found[-1]:
+        found.pop()
+    return b''.join(answer.encode() + b'\n' for answer in map(to.answer, found) if answer is not None)
+
+
+def run(to):
+    """Answers standard input: every complete line that was read before more is waited for."""
+    rest = []                # pieces of a line whose newline has not come
+    while True:
+        piece = os.read(0, 1 << 16)
+        whole, newline, last = piece.rpartition(b'\n')
+        if newline or not piece:
+            rest.append(whole + newline)
+            put(answers(b''.join(rest), to))
+            rest = []
+        rest.append(last)
+        if not piece:
+            return
+
+
+def put(data):
+    while data:
+        data = data[os.write(1, data):]
+
+
+# ---- paper 01's starred figures
+
+EXAMPLE_1 = (687801, 556887, 557260, 644620, 692868, 654313, 629674, 669566, 672286, 773729, 596570, 723508)  # July 2020 to June 2021, euros
+SECTION_8 = ('special 5 126 -18 4 -234 0 6 3253 4048 4723 1326 780 11291 6 0 0 0 0 0 1 4 18633458 39457632 73289522 95618724 '
+             '4 2338818 5389234 7762366 8919274 4 0 0 0 0 4 0 0 {} 0')
+
+# Calls and the answers that are due. The rates' ratios are shown by a zero settlement of 10^12 cents, of which a hundredth of a percent is
+# 10^8 cents; with low rates of 0 they stand alone.
+STARRED = [('# example 1', '')] + [
+    ('fresh 2021-09-01', 'done'), ('admit 0 supplier', 'done')] + [
+    (f'settle 0 20{20 + (m + 6) // 12}-{(m + 6) % 12 + 1:02} {euros}00 0 0 0 0', f'recorded {euros}00') for m, euros in enumerate(EXAMPLE_1)] + [
+    ('annual 0', 'annual 77372900 12'), ('lodge 0 0 cash 77372900', 'done'), ('advance 2021-10-01 100', 'opened 30'),
+    ('# D = 77,372,900', ''),
+    ('statement 0', 'statement 77372900 77372900 0 0 0'),
+    ('settle 0 2021-08 75446400 0 0 0 0', 'covered 75446400'), ('settle 0 2021-08 93679500 0 0 0 0', 'called 93679500 16306600 649'),
+    ('# example 3', ''),
+    ('advance 2021-10-13 100', 'opened 12'), ('statement 0', 'statement 93679500 77372900 16306600 2 200000000'),
+    ('lodge 0 1 cash 10000000', 'done'), ('advance 2021-10-16 100', 'opened 3'),
+    ('statement 0', 'statement 93679500 87372900 6306600 5 500000000'),
+    ('lodge 0 2 cash 6306600', 'done'), ('advance 2021-10-17 100', 'opened 1'), ('statement 0', 'statement 93679500 93679500 0 5 500000000'),
+    ('# D = 1,000,000', ''),
+    ('fresh 2021-01-01', 'done'), ('admit 0 trader', 'done'), ('lodge 0 0 cash 1000000', 'done'), ('advance 2021-01-12 11', 'opened 11'),
+    ('statement 0', 'statement 1000000 1000000 0 0 0'),
+    ('settle 0 2020-11 1199999 0 0 0 0', 'covered 1199999'), ('settle 0 2020-11 1200000 0 0 0 0', 'called 1200000 200000 387'),
+    ('# D = 0', ''),
+    ('fresh 2021-01-01', 'done'), ('admit 0 producer', 'done'),
+    ('settle 0 2020-11 0 0 0 0 0', 'covered 0'), ('settle 0 2020-11 -5 0 0 0 0', 'covered -5'), ('calls', 'calls 0'),
+    ('# day charges: S = 0, 1, 100,000,000 and 100,000,001', '')]
+for shortfall, charge in ((0, 0), (1, 100000000), (100000000, 100000000), (100000001, 100000001)):
+    STARRED += [
+        ('fresh 366', 'done'), ('admit 63 5', 'done'),
+        (f'settle 63 10 {shortfall} 0 0 0 0', f'called {shortfall} {shortfall} 376' if shortfall else 'covered 0'),
+        ('advance 376 100', 'opened 10'), ('statement 63', 'statement 0 0 0 0 0'), ('advance 377 100', 'opened 1'),
+        ('statement 63', f'statement {shortfall} 0 {shortfall} {int(shortfall > 0)} {charge}')]
+STARRED += [
+    ('# S = 150,000,000, then 50,000,000', ''),
+    ('fresh 2021-01-01', 'done'), ('admit 63 res-aggregator', 'done'), ('settle 63 2020-11 150000000 0 0 0 0', 'called 150000000 150000000 376'),
+    ('advance 2021-01-12 100', 'opened 11'), ('lodge 63 7 cash 100000000', 'done'), ('advance 2021-01-13 100', 'opened 1'),
+    ('statement 63', 'statement 150000000 100000000 50000000 2 250000000'),
+    ('# ratios of 43 and 4,008', ''),
+    ('special 3 126 4 0 3 0 0 0 3 0 0 0 1 1000000000000 1 0 1 0 1 0', f'special {43 * 10 ** 8}'),
+    ('special 3 0 0 0 3 3253 4048 4723 3 0 0 0 1 0 1 1000000000000 1 0 1 0', f'special {4008 * 10 ** 8}'),
+    ('# section 8, without the impairment and with it', ''),
+    (SECTION_8.format(0), 'special 10759502'), (SECTION_8.format(10588754 - 7762366), 'special 7933114')]
+
+
+def check():
+    """The starred figures. Each call is also printed in its numeric form and read again."""
+    to, wrong, done = Filter(), [], 0
+    for line, due in STARRED:
+        got = to.answer(line.encode()) or ''
+        done += due != ''
+        if got != due:
+            wrong.append(f'{line}: {got}, due is {due}')
+        call = call_of(line.encode())
+        if call and call_of(numeric(call).encode()) != call:
+            wrong.append(f'{line}: the numeric form {numeric(call)} is another call')
+    for got, due in ((ratio([126, -18, 4, -234, 0]), 43), (ratio([3253, 4048, 4723, 1326, 780]), 4008), (nearest(-5000, 10000), 0),
+                     (nearest(5000, 10000), 1), (nearest(-5001, 10000), -1)):
+        done += 1
+        if got != due:
+            wrong.append(f'{got}, due is {due}')
+    for line in wrong:
+        print(line)
+    print(f'paper 01, starred figures as calls: {done} compared, {len(wrong)} different')
+    return 1 if wrong else 0
+
+
+def main(words):
+    if words == ['--check']:
+        return check()
+    if words and (len(words) != 2 or words[0] != '--keep'):
+        print('use: ledger.py [--keep FILE | --check]', file=sys.stderr)
+        return 2
+    try:
+        run(Keeper(words[1]) if words else Filter())
+        return 0
+    except Stop as stop:
+        print(f'ledger: {words[1]}: {stop}', file=sys.stderr)
+        return 1
+
+
+if __name__ == '__main__':
+    sys.exit(main(sys.argv[1:]))
