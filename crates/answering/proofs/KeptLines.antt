@@ -69,7 +69,7 @@ row-cut n zs =
     (semesters-cut n _ _ (drop (n .marks) (drop (n .low) (drop (n .medium) zs))) _)
 
 -- A request asks the same with the numbers of its lists alone.
-asked-cut : (r : Request) (zs : List ℤ) → asked r (take (numbersIn r (length zs)) zs) ≡ asked r zs
+pub asked-cut : (r : Request) (zs : List ℤ) → asked r (take (numbersIn r (length zs)) zs) ≡ asked r zs
 asked-cut Request.Nothing zs = refl
 asked-cut (Request.Fresh d) zs = refl
 asked-cut (Request.Admit p r) zs = refl

@@ -4,3 +4,4 @@ pub mod CallLaws
 pub mod KeptLaws
 pub mod Session
 pub mod KeptLines
+pub mod ParsedLines

@@ -31,7 +31,8 @@ use Rattle.file.specs.Settle.{settlementCalls, settleAnswer, callsSettle
 use Rattle.file.specs.Annual.{annualTotals, annualAmountOf, annualAnswer, annualFile}
 use Rattle.file.specs.Opening.{slotsOpened, callsOpened, firmRaised, takesEffect, firmOpened, nextOpened, shortfallOpened, openedFile}
 use Rattle.file.specs.Sound.{Sound, SoundPosition, SoundCall, largestTotal}
-use Rattle.file.specs.KeepsPositions.{none-holds, either-sound, no-call-sound}
+use Rattle.file.specs.DecideLaws.{none-holds}
+use Rattle.file.specs.KeepsPositions.{either-sound, no-call-sound}
 
 -- ---- open calls
 

@@ -12,14 +12,15 @@ use lib.IntN.{natAbs}
 use Rattle.manual.specs.Minimum.{minimumOf}
 use Rattle.manual.specs.Laws.{minimumOf-bound}
 use Rattle.laws.specs.Lists.{All, all-set, all-default, all-replicate}
-use Rattle.laws.specs.Cases.{split, clash, and-left, and-right, cond-true, cond-false}
+use Rattle.laws.specs.Cases.{split, and-left, and-right}
 use Rattle.file.specs.declared.File.{File}
 use Rattle.file.specs.declared.MonthTotal.{MonthTotal}
 use Rattle.file.specs.declared.OpenCall.{OpenCall}
 use Rattle.file.specs.declared.Position.{Position}
 use Rattle.file.specs.declared.Position.the-variants.{Empty, Cash, Letter}
 use Rattle.file.specs.declared.Slot.{Slot}
-use Rattle.file.specs.Answer.{Answer, refused, done, Cause, decide, accepted}
+use Rattle.file.specs.Answer.{done, decide, accepted}
+use Rattle.file.specs.DecideLaws.{none-holds}
 use Rattle.file.specs.Position.{amountOf, againstDays, countsOn, coverOn, inForce, lessReleased, notReleasable, outsideAmounts, positionAt, slotOf}
 use Rattle.file.specs.Calls.{callOf, inPlaces}
 use Rattle.file.specs.CallLaws.{inPlaces-take, inPlaces-all}
@@ -117,14 +118,6 @@ withSlots-sound t f l s a =
       charged = s .charged;
       accrued = s .accrued;
     }
-
--- None of an accepted call's causes holds.
-pub none-holds : (causes : List Cause) (answer : Answer) → accepted (decide causes answer) ≡ true → All (λ (c : Cause). c .holds ≡ false) causes
-unfolding decide
-none-holds [] answer e = tt
-none-holds (c ∷ causes) answer e =
-    split (c .holds) (λ h. clash {t = false} (sym (ap accepted (cond-true _ (refused (c .number)) (decide causes answer) h)) ∙ e) refl)
-    (λ h. (h, none-holds causes answer (sym (ap accepted (cond-false _ (refused (c .number)) (decide causes answer) h)) ∙ e)))
 
 -- A file chosen by a test is sound where both are.
 pub either-sound : (t : ℕ) (b : Bool) (f g : File) → (b ≡ true → Sound t f) → Sound t g → Sound t (cond b f g)

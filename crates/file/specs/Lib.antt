@@ -1,4 +1,5 @@
 pub mod Answer
+pub mod DecideLaws
 pub mod Position
 pub mod Calls
 pub mod CallLaws

@@ -8,7 +8,7 @@ use mathlib.Core.List.{List}
 use lib.IntN.{ℤ, natAbs}
 use Rattle.laws.specs.Integers.{sumOf}
 use Rattle.laws.specs.Largest.{meanOfThree}
-use Rattle.special.specs.declared.Best.{Best}
+use Rattle.special.specs.declared.rates.Best.{Best}
 use Rattle.special.specs.Ranges.{ratesInRange, Amounts}
 use Rattle.special.specs.Guarantee.{amount, Bounded}
 use Rattle.special.specs.Best.{kept}

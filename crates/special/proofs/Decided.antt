@@ -13,7 +13,7 @@ use lib.IntN.{ℤ}
 use Rattle.laws.specs.Cases.{and-left, and-right}
 use Rattle.laws.specs.Integers.{sumOf}
 use Rattle.laws.specs.Largest.{falling, threeLargest, meanOfThree, falling-length}
-use Rattle.special.specs.declared.Best.{Best}
+use Rattle.special.specs.declared.rates.Best.{Best}
 use Rattle.special.specs.declared.Special.the-variants.{Guarantee, Refused}
 use Rattle.special.specs.Ranges.{ratesInRange, marksInRange, zerosInRange, excessesInRange, Amounts}
 use Rattle.special.specs.Ratio.{usable, ratio}

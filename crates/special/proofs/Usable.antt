@@ -14,7 +14,7 @@ use lib.IntN.{ℤ, pos, negsuc, negℤ}
 use lib.Signed.{mag, ltZ, leZ}
 use Rattle.laws.specs.Cases.{and-left, and-right}
 use Rattle.laws.specs.Largest.{insert, falling, insert-take, insert-append}
-use Rattle.special.specs.declared.Best.{Best}
+use Rattle.special.specs.declared.rates.Best.{Best}
 use Rattle.special.specs.Ranges.{every, between, ratesInRange}
 use Rattle.special.specs.Ratio.{usable}
 use Rattle.special.specs.Best.{kept, empty, BestOf}

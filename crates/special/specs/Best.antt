@@ -5,7 +5,7 @@ use mathlib.Core.List.{List, [], _∷_, _++_}
 use lib.ListN.{length, take}
 use lib.IntN.{ℤ, negℤ, pos}
 use Rattle.laws.specs.Largest.{falling}
-use Rattle.special.specs.declared.Best.{Best}
+use Rattle.special.specs.declared.rates.Best.{Best}
 
 -- The three kept rates as a list.
 abbrev pub kept : Best → List ℤ

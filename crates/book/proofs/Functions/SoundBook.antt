@@ -16,7 +16,8 @@ use Rattle.file.specs.Answer.{Answer, opened, accepted}
 use Rattle.file.specs.Admit.{noFile}
 use Rattle.file.specs.Opening.{openedFile}
 use Rattle.file.specs.Sound.{Sound}
-use Rattle.file.specs.KeepsPositions.{none-holds, none-sound, admitted-sound, lodged-sound, released-sound}
+use Rattle.file.specs.DecideLaws.{none-holds}
+use Rattle.file.specs.KeepsPositions.{none-sound, admitted-sound, lodged-sound, released-sound}
 use Rattle.file.specs.KeepsCalls.{opened-sound, settled-sound, annual-sound}
 use Rattle.book.specs.declared.Book.{Book}
 use Rattle.book.specs.Call.{Act, admit, lodge, release, settle, annualRun, Call, on, advance, statement, callsMade}

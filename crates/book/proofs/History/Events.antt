@@ -14,7 +14,7 @@ use Rattle.book.specs.Reading.Events as E
 use Rattle.book.specs.Reading.Events.{Event, did, Own, dayOpened, act, mine, todayOf, todayIn, withDays}
 use Rattle.book.specs.Reading.Decisions.{cause, ownCauses, ownAnswer, ownStatement, decision, withCall, eventsOf}
 use Rattle.book.specs.Lawful.{NoneHolds, Lawful}
-use Rattle.file.specs.KeepsPositions.{none-holds}
+use Rattle.file.specs.DecideLaws.{none-holds}
 
 -- Today, by the events and by each participant's part.
 pub today-mine : (s p : ℕ) (events : List Event) → todayIn s (mine p events) ≡ todayOf s events

@@ -23,7 +23,7 @@ use Rattle.book.specs.Reading.Decisions.{cause, ownCauses, ownAnswer, de
 use Rattle.book.specs.Kept.{fileIn, bookIn}
 use Rattle.book.specs.Lawful.{NoneHolds, Lawful}
 use Rattle.book.specs.Life.{NoneHigher}
-use Rattle.file.specs.KeepsPositions.{none-holds}
+use Rattle.file.specs.DecideLaws.{none-holds}
 use Rattle.book.proofs.History.Events.{today-mine, today-days, LawfulAll, lawful-call}
 use Rattle.book.proofs.Participant.CoverIs.{CoverIs}
 use Rattle.book.proofs.History.Lift.{file-at}

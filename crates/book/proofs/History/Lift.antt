@@ -26,7 +26,7 @@ use Rattle.book.specs.Reading.Calls.{callsIn}
 use Rattle.book.specs.Reading.Decisions.{cause, ownCauses, ownAnswer, ownStatement, callsBelow, decision, withCall, eventsOf}
 use Rattle.book.specs.Kept.{fileIn, bookIn}
 use Rattle.book.specs.Lawful.{NoneHolds, Lawful}
-use Rattle.file.specs.KeepsPositions.{none-holds}
+use Rattle.file.specs.DecideLaws.{none-holds}
 use Rattle.book.proofs.Participant.Decide.{decide-first}
 use Rattle.book.proofs.History.Events.{today-mine, today-days, LawfulAll, lawful-opened, lawful-days, lawful-events, days-within, today-ends}
 

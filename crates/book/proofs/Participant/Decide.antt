@@ -6,7 +6,7 @@ use mathlib.Core.Bool.{Bool, true, false, cond, false≢true}
 use mathlib.Core.List.{List, [], _∷_}
 use Rattle.laws.specs.Cases.{split, cond-true, cond-false}
 use Rattle.file.specs.Answer.{Answer, refused, Cause, decide, accepted}
-use Rattle.file.specs.KeepsPositions.{none-holds}
+use Rattle.file.specs.DecideLaws.{none-holds}
 use Rattle.book.specs.Lawful.{NoneHolds}
 
 -- The first cause of a list decides, or else the rest.

@@ -1,0 +1,69 @@
+-- What `journal::parse` leaves of a line, the request and the numbers at the front of the lent slice, asks what the line asks: the two
+-- contracts, of `parse` and of `apply`, fit.
+-- Assumes nothing.
+use Prim.Native.Nat.{ℕ, _≤_, min}
+use mathlib.Core.Path.{_≡_, refl, sym, ap, _∙_}
+use mathlib.Core.List.{List}
+use native.Mathlib.Omega.{arith}
+use lib.IntN.{ℤ}
+use lib.ListN.{length, take}
+use lib.Seq.{length-sets}
+use Rattle.journal.specs.Grammar.{parsed, lengthList, total}
+use Rattle.journal.specs.Steps.{ParsedIs}
+use Rattle.journal.specs.declared.Request.{Request}
+use Rattle.journal.proofs.Room.{parsed-fits, parsed-front}
+use Rattle.journal.proofs.Counts.{countOf, IsCall, parsed-counted}
+use Rattle.answering.specs.Asked.{asked}
+use Rattle.answering.specs.Kept.{numbersIn}
+use Rattle.answering.proofs.KeptLines.{asked-cut}
+
+-- The numbers of a request, clipped, are those that it says it has, clipped.
+counts : (r : Request) (most : ℕ) → numbersIn r most ≡ min (countOf r) most
+counts Request.Nothing most = omega arith
+counts (Request.Fresh d) most = omega arith
+counts (Request.Admit p r) most = omega arith
+counts (Request.LodgeCash p q a) most = omega arith
+counts (Request.LodgeLetter p q a f l) most = omega arith
+counts (Request.Release p q a) most = omega arith
+counts (Request.Settle p m n) most = refl
+counts (Request.Annual p) most = omega arith
+counts (Request.Advance t b) most = omega arith
+counts (Request.Statement p) most = omega arith
+counts Request.Calls most = omega arith
+counts (Request.Special n) most = refl
+counts Request.Report most = omega arith
+counts (Request.Error e) most = omega arith
+
+-- Where the numbers of a call stand at the front of f, f asks what they ask.
+front-asks : (r : Request) (zs f : List ℤ) → IsCall r → countOf r ≡ length zs → length zs ≤ length f → take (length zs) f ≡ zs → asked r f ≡ asked r zs
+front-asks r zs f c k h e =
+    let n : numbersIn r (length f) ≡ length zs = counts r (length f) ∙ omega arith in
+    sym (asked-cut r f) ∙ ap (asked r) (ap (λ (m : ℕ). take m f) n ∙ e)
+
+-- An error asks the same whatever the numbers.
+call-or-error : (r : Request) (zs f : List ℤ) → (IsCall r → asked r f ≡ asked r zs) → asked r f ≡ asked r zs
+call-or-error Request.Nothing zs f h = h tt
+call-or-error (Request.Fresh d) zs f h = h tt
+call-or-error (Request.Admit p r) zs f h = h tt
+call-or-error (Request.LodgeCash p q a) zs f h = h tt
+call-or-error (Request.LodgeLetter p q a b l) zs f h = h tt
+call-or-error (Request.Release p q a) zs f h = h tt
+call-or-error (Request.Settle p m n) zs f h = h tt
+call-or-error (Request.Annual p) zs f h = h tt
+call-or-error (Request.Advance t b) zs f h = h tt
+call-or-error (Request.Statement p) zs f h = h tt
+call-or-error Request.Calls zs f h = h tt
+call-or-error (Request.Special n) zs f h = h tt
+call-or-error Request.Report zs f h = h tt
+call-or-error (Request.Error e) zs f h = refl
+
+-- What `parse` gives of a line, lent a slice e which it leaves as f, asks what the line's own request and numbers ask.
+pub line-asks : (line : List ℕ) (e f : List ℤ) (r : Request) → ParsedIs (parsed (length e) line) e r f
+    → asked r f ≡ asked (parsed (length e) line .request) (parsed (length e) line .numbers)
+line-asks line e f r x =
+    let zs = parsed (length e) line .numbers in
+    let long : length f ≡ length e = ap length (x .numbers) ∙ length-sets e 0 zs in
+    let fits : length zs ≤ length f = omega (arith, parsed-fits (length e) line, long) in
+    ap (λ (q : Request). asked q f) (x .request)
+    ∙ call-or-error (parsed (length e) line .request) zs f
+    (λ c. front-asks (parsed (length e) line .request) zs f c (parsed-counted (length e) line c) fits (parsed-front line e f r x))
