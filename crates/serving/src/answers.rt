@@ -17,7 +17,7 @@ pub fn flush(mut progress: Progress, out: &[u8]) -> Progress {
     let n = smaller(progress.waiting, out.len());
     progress.waiting = 0;
     if !io::write_all(libc::STDOUT_FILENO, &out[..n]) {
-        messages::stream_failed(b"standard output");
+        messages::failed(b"standard output");
         progress.ok = false;
     }
     progress

@@ -46,7 +46,7 @@ fn move_down(buffer: &mut [u8], from: usize, to: usize) -> usize
 fn read_failed(mode: Mode, name: &[u8]) {
     match mode {
         Mode::Replay => messages::failed(name),
-        _ => messages::stream_failed(b"standard input"),
+        _ => messages::failed(b"standard input"),
     }
 }
 

@@ -35,25 +35,27 @@ fn sync_directory(name: &[u8]) {
     }
 }
 
+// Makes the journal, empty and on disk.
+fn make(name: &[u8]) {
+    let made = os::create(name);
+    if 0 <= made {
+        libc::fsync(made);
+        libc::close(made);
+        sync_directory(name);
+    }
+}
+
 // Opens the journal for reading, making it if it is absent; below zero if it can't be had, which is said.
 pub fn open(name: &[u8]) -> i32 {
-    let found = os::open_update(name);
-    if 0 <= found {
-        return found;
+    let mut source = os::open_update(name);
+    if (source < 0) & (os::errno() == libc::ENOENT) {
+        make(name);
+        source = os::open_update(name);
     }
-    if os::errno() != libc::ENOENT {
+    if source < 0 {
         messages::failed(name);
-        return found;
     }
-    let made = os::create(name);
-    if made < 0 {
-        messages::failed(name);
-        return made;
-    }
-    libc::fsync(made);
-    libc::close(made);
-    sync_directory(name);
-    os::open_update(name)
+    source
 }
 
 // Cuts the file behind its complete lines, and answers whether that succeeded.

@@ -14,14 +14,8 @@ pub fn usage() {
     say(b"usage: ledger [JOURNAL]\n");
 }
 
-// What failed on a file with a name, with the system's text.
-pub fn failed(name: &[u8]) {
-    say(b"ledger: ");
-    os::fail(name);
-}
-
-// What failed on standard input or output, with the system's text.
-pub fn stream_failed(what: &[u8]) {
+// What failed, a file or a stream, with the system's text.
+pub fn failed(what: &[u8]) {
     say(b"ledger: ");
     os::fail(what);
 }

@@ -15,11 +15,11 @@ slice-aggregate-write-all c = simp length-take (omega arith)
 write-all-requires : tie.Need-write-all-requires
 write-all-requires c κs = search needs
 
-slice-aggregate-stream-failed : tie.Need-slice-aggregate-stream-failed
-slice-aggregate-stream-failed c = search needs
+slice-aggregate-failed : tie.Need-slice-aggregate-failed
+slice-aggregate-failed c = search needs
 
-stream-failed-requires : tie.Need-stream-failed-requires
-stream-failed-requires c κs = search needs
+failed-requires : tie.Need-failed-requires
+failed-requires c κs = search needs
 
 returns : tie.Need-returns
 returns c = search needs
@@ -34,7 +34,7 @@ flush-spec =
     smaller-requires
     slice-aggregate-write-all
     write-all-requires
-    slice-aggregate-stream-failed
-    stream-failed-requires
+    slice-aggregate-failed
+    failed-requires
     returns
     returns-2)
