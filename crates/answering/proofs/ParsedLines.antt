@@ -3,18 +3,23 @@
 -- Assumes nothing.
 use Prim.Native.Nat.{ℕ, _≤_, min}
 use mathlib.Core.Path.{_≡_, refl, sym, ap, _∙_}
+use mathlib.Core.Bool.{Bool, true, false, cond, _&&_}
 use mathlib.Core.List.{List}
 use native.Mathlib.Omega.{arith}
 use lib.IntN.{ℤ}
+use lib.Dec.{ltb}
 use lib.ListN.{length, take}
-use lib.Seq.{length-sets}
+use lib.Seq.{sets, length-sets}
+use Rattle.laws.specs.Cases.{split}
 use Rattle.journal.specs.Grammar.{parsed, lengthList, total}
 use Rattle.journal.specs.Steps.{ParsedIs}
+use Rattle.journal.specs.declared.Reason.{Reason}
 use Rattle.journal.specs.declared.Request.{Request}
 use Rattle.journal.proofs.Room.{parsed-fits, parsed-front}
 use Rattle.journal.proofs.Counts.{countOf, IsCall, parsed-counted}
 use Rattle.answering.specs.Asked.{asked}
-use Rattle.answering.specs.Kept.{numbersIn}
+use Rattle.answering.specs.Kept.{numbersIn, isFresh, freshFirst}
+use Rattle.answering.specs.Lines.{lineRequest, lineAsks, LineIs}
 use Rattle.answering.proofs.KeptLines.{asked-cut}
 
 -- The numbers of a request, clipped, are those that it says it has, clipped.
@@ -58,7 +63,7 @@ call-or-error Request.Report zs f h = h tt
 call-or-error (Request.Error e) zs f h = refl
 
 -- What `parse` gives of a line, lent a slice e which it leaves as f, asks what the line's own request and numbers ask.
-pub line-asks : (line : List ℕ) (e f : List ℤ) (r : Request) → ParsedIs (parsed (length e) line) e r f
+line-asks : (line : List ℕ) (e f : List ℤ) (r : Request) → ParsedIs (parsed (length e) line) e r f
     → asked r f ≡ asked (parsed (length e) line .request) (parsed (length e) line .numbers)
 line-asks line e f r x =
     let zs = parsed (length e) line .numbers in
@@ -67,3 +72,28 @@ line-asks line e f r x =
     ap (λ (q : Request). asked q f) (x .request)
     ∙ call-or-error (parsed (length e) line .request) zs f
     (λ c. front-asks (parsed (length e) line .request) zs f c (parsed-counted (length e) line c) fits (parsed-front line e f r x))
+
+-- .. also where a later `fresh` is an error.
+first-asks : (kept : ℕ) (r : Request) (zs f : List ℤ) → asked r f ≡ asked r zs → asked (freshFirst kept r) f ≡ asked (freshFirst kept r) zs
+unfolding freshFirst
+first-asks kept r zs f e = split (isFresh r && ltb 0 kept) (λ t. rw t refl) (λ t. rw t e)
+
+-- A line whose beginning had no room.
+pub long-line : (long : Bool) (kept : ℕ) (line : List ℕ) (e : List ℤ) → long ≡ true → LineIs long kept line e (Request.Error Reason.TooLong) e
+unfolding lineRequest lineAsks
+long-line long kept line e t = record { request = rw t refl; numbers = rw t refl; asks = rw t refl }
+
+-- A line that was parsed.
+pub parsed-line : (long : Bool) (kept : ℕ) (line : List ℕ) (e f : List ℤ) (r q : Request) → long ≡ false → ParsedIs (parsed (length e) line) e r f
+    → q ≡ freshFirst kept r → LineIs long kept line e q f
+unfolding lineRequest lineAsks
+parsed-line long kept line e f r q t x h =
+    let zs = parsed (length e) line .numbers in
+    let g : q ≡ freshFirst kept (parsed (length e) line .request) = h ∙ ap (freshFirst kept) (x .request) in
+    let a : asked (parsed (length e) line .request) f ≡ asked (parsed (length e) line .request) zs =
+    ap (λ (z : Request). asked z f) (sym (x .request)) ∙ line-asks line e f r x in
+    record {
+      request = rw t g;
+      numbers = rw t (x .numbers);
+      asks = rw (t, g) (first-asks kept (parsed (length e) line .request) zs f a);
+    }

@@ -1,4 +1,5 @@
 pub mod Shown
 pub mod Asked
 pub mod Kept
+pub mod Lines
 pub mod Session

@@ -6,11 +6,12 @@ mod shown; // shown.rt: the answers of the book's calls as answers of the journa
 mod guarantee; // guarantee.rt: the special guarantee of lists in a row
 mod calls; // calls.rt: the application of one call
 mod kept; // kept.rt: what a kept journal takes
+mod requests; // requests.rt: the request that a line of an input is
 
 pub use calls::apply;
-pub use kept::first_only;
 pub use kept::is_kept;
 pub use kept::put_kept;
+pub use requests::request_of;
 
 // A book beside the answer to a line.
 pub struct Applied {

@@ -6,12 +6,10 @@ use crate::answers;
 use crate::journal_file::append;
 use crate::messages;
 use answering::apply;
-use answering::first_only;
 use answering::is_kept;
+use answering::request_of;
 use book::Book;
-use journal::Reason;
 use journal::Request;
-use journal::parse;
 use printing::Answer;
 use std::num::wrapping_add_u64;
 
@@ -89,14 +87,6 @@ fn next_end(ok: bool, input: &[u8], from: usize) -> usize
     } else {
         input.len()
     }
-}
-
-// The request that a line is. A line whose beginning was too long is an error.
-fn request_of(line: &[u8], progress: Progress, numbers: &mut [i64]) -> Request {
-    if progress.long {
-        return Request::Error(Reason::TooLong);
-    }
-    first_only(parse(line, numbers), progress.kept)
 }
 
 // A replayed line: one that is no call or is refused stops the replay.
@@ -183,7 +173,7 @@ pub fn take_lines(
     let mut end = line_end(input, 0);
     while end < input.len() {
         progress.line = wrapping_add_u64(progress.line, 1);
-        let request = request_of(&input[start..end], progress, numbers);
+        let request = request_of(&input[start..end], progress.long, progress.kept, numbers);
         start = end + 1;
         let applied = apply(book, request, numbers, progress.line);
         let answer = applied.answer;
