@@ -3,5 +3,5 @@ pub mod GuaranteeLaws
 pub mod CallLaws
 pub mod KeptLaws
 pub mod Session
-pub mod KeptLines
+pub mod OwnNumbers
 pub mod ParsedLines

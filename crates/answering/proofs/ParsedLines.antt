@@ -1,8 +1,8 @@
 -- What `journal::parse` leaves of a line, the request and the numbers at the front of the lent slice, asks what the line asks: the two
--- contracts, of `parse` and of `apply`, fit.
+-- contracts, of `parse` and of `apply`, fit. And so does the line that is kept of it.
 -- Assumes nothing.
 use Prim.Native.Nat.{ℕ, _≤_, min}
-use mathlib.Core.Path.{_≡_, refl, sym, ap, _∙_}
+use mathlib.Core.Path.{_≡_, refl, sym, ap, subst, _∙_}
 use mathlib.Core.Bool.{Bool, true, false, cond, _&&_}
 use mathlib.Core.List.{List}
 use native.Mathlib.Omega.{arith}
@@ -11,7 +11,7 @@ use lib.Dec.{ltb}
 use lib.ListN.{length, take}
 use lib.Seq.{sets, length-sets}
 use Rattle.laws.specs.Cases.{split}
-use Rattle.journal.specs.Grammar.{parsed, lengthList, total}
+use Rattle.journal.specs.Grammar.{Parsed, parsed}
 use Rattle.journal.specs.Steps.{ParsedIs}
 use Rattle.journal.specs.declared.Reason.{Reason}
 use Rattle.journal.specs.declared.Request.{Request}
@@ -20,7 +20,9 @@ use Rattle.journal.proofs.Counts.{countOf, IsCall, parsed-counted}
 use Rattle.answering.specs.Asked.{asked}
 use Rattle.answering.specs.Kept.{numbersIn, isFresh, freshFirst}
 use Rattle.answering.specs.Lines.{lineRequest, lineAsks, LineIs}
-use Rattle.answering.proofs.KeptLines.{asked-cut}
+use Rattle.printing.specs.Lines.{Natural64, printed}
+use Rattle.printing.proofs.ParsedFits.{parsed-again}
+use Rattle.answering.proofs.OwnNumbers.{own, asked-cut}
 
 -- The numbers of a request, clipped, are those that it says it has, clipped.
 counts : (r : Request) (most : ℕ) → numbersIn r most ≡ min (countOf r) most
@@ -39,11 +41,14 @@ counts (Request.Special n) most = refl
 counts Request.Report most = omega arith
 counts (Request.Error e) most = omega arith
 
--- Where the numbers of a call stand at the front of f, f asks what they ask.
-front-asks : (r : Request) (zs f : List ℤ) → IsCall r → countOf r ≡ length zs → length zs ≤ length f → take (length zs) f ≡ zs → asked r f ≡ asked r zs
-front-asks r zs f c k h e =
+-- Where the numbers of a call stand at the front of f, they are the request's own, and f asks what they ask.
+front-own : (r : Request) (zs f : List ℤ) → countOf r ≡ length zs → length zs ≤ length f → take (length zs) f ≡ zs → own r f ≡ zs
+front-own r zs f k h e =
     let n : numbersIn r (length f) ≡ length zs = counts r (length f) ∙ omega arith in
-    sym (asked-cut r f) ∙ ap (asked r) (ap (λ (m : ℕ). take m f) n ∙ e)
+    ap (λ (m : ℕ). take m f) n ∙ e
+
+front-asks : (r : Request) (zs f : List ℤ) → own r f ≡ zs → asked r f ≡ asked r zs
+front-asks r zs f e = sym (asked-cut r f) ∙ ap (asked r) e
 
 -- An error asks the same whatever the numbers.
 call-or-error : (r : Request) (zs f : List ℤ) → (IsCall r → asked r f ≡ asked r zs) → asked r f ≡ asked r zs
@@ -62,16 +67,23 @@ call-or-error (Request.Special n) zs f h = h tt
 call-or-error Request.Report zs f h = h tt
 call-or-error (Request.Error e) zs f h = refl
 
--- What `parse` gives of a line, lent a slice e which it leaves as f, asks what the line's own request and numbers ask.
+-- The numbers of a parsed call, lent a slice e which is left as f, are its own in f.
+parsed-own : (line : List ℕ) (e f : List ℤ) (r : Request) → ParsedIs (parsed (length e) line) e r f → IsCall (parsed (length e) line .request)
+    → own (parsed (length e) line .request) f ≡ parsed (length e) line .numbers
+parsed-own line e f r x c =
+    let zs = parsed (length e) line .numbers in
+    let long : length f ≡ length e = ap length (x .numbers) ∙ length-sets e 0 zs in
+    let fits : length zs ≤ length f = omega (arith, parsed-fits (length e) line, long) in
+    front-own (parsed (length e) line .request) zs f (parsed-counted (length e) line c) fits (parsed-front line e f r x)
+
+-- What `parse` gives of a line asks what the line's own request and numbers ask.
 line-asks : (line : List ℕ) (e f : List ℤ) (r : Request) → ParsedIs (parsed (length e) line) e r f
     → asked r f ≡ asked (parsed (length e) line .request) (parsed (length e) line .numbers)
 line-asks line e f r x =
     let zs = parsed (length e) line .numbers in
-    let long : length f ≡ length e = ap length (x .numbers) ∙ length-sets e 0 zs in
-    let fits : length zs ≤ length f = omega (arith, parsed-fits (length e) line, long) in
     ap (λ (q : Request). asked q f) (x .request)
     ∙ call-or-error (parsed (length e) line .request) zs f
-    (λ c. front-asks (parsed (length e) line .request) zs f c (parsed-counted (length e) line c) fits (parsed-front line e f r x))
+    (λ c. front-asks (parsed (length e) line .request) zs f (parsed-own line e f r x c))
 
 -- .. also where a later `fresh` is an error.
 first-asks : (kept : ℕ) (r : Request) (zs f : List ℤ) → asked r f ≡ asked r zs → asked (freshFirst kept r) f ≡ asked (freshFirst kept r) zs
@@ -97,3 +109,29 @@ parsed-line long kept line e f r q t x h =
       numbers = rw t (x .numbers);
       asks = rw (t, g) (first-asks kept (parsed (length e) line .request) zs f a);
     }
+
+-- ---- a kept line
+
+-- A request that is a call is the parsed one: a later `fresh` is an error.
+call-is-parsed : (kept : ℕ) (r q : Request) → q ≡ freshFirst kept r → IsCall q → q ≡ r
+unfolding freshFirst
+call-is-parsed kept r q e c =
+    split (isFresh r && ltb 0 kept)
+    (λ t. let g : q ≡ Request.Error Reason.FreshLater = rw t at e in absurd (subst IsCall g c))
+    (λ t. rw t at e)
+
+-- The line that is kept of a line, parsed again, asks what that line asked: with `Session.replays`, the journal leads to the session's book.
+pub line-kept : (kept : ℕ) (line : List ℕ) (e f : List ℤ) (q : Request) → Natural64 (length e) → LineIs false kept line e q f → IsCall q
+    → asked (parsed (length e) (printed q (own q f)) .request) (parsed (length e) (printed q (own q f)) .numbers) ≡ lineAsks false kept (length e) line
+unfolding lineRequest lineAsks
+line-kept kept line e f q h x c =
+    let room = length e in
+    let r = parsed room line .request in
+    let zs = parsed room line .numbers in
+    let g : q ≡ r = call-is-parsed kept r q (x .request) c in
+    let p : ParsedIs (parsed room line) e r f = record { request = refl; numbers = x .numbers } in
+    let d : IsCall r = subst IsCall g c in
+    let o : own r f ≡ zs = parsed-own line e f r p d in
+    let again : parsed room (printed q (own q f)) ≡ parsed room line =
+    ap (λ (z : Request). parsed room (printed z (own z f))) g ∙ ap (λ (ys : List ℤ). parsed room (printed r ys)) o ∙ parsed-again room line h d in
+    ap (λ (z : Parsed). asked (z .request) (z .numbers)) again ∙ ap (λ (z : Request). asked z zs) (sym g ∙ x .request)

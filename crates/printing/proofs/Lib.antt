@@ -5,3 +5,4 @@ pub mod RoundTrip
 pub mod PutLaws
 pub mod Magnitudes
 pub mod LineLaws
+pub mod ParsedFits

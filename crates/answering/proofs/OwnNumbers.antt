@@ -1,6 +1,6 @@
--- A kept line, parsed again, asks what the call asked.
+-- A request asks the same with the numbers of its lists alone.
 -- Assumes nothing.
-use Prim.Native.Nat.{ℕ, zero, suc, _+_, _≤_, min}
+use Prim.Native.Nat.{ℕ, zero, suc, _+_, min}
 use mathlib.Core.Path.{_≡_, refl, sym, ap, _∙_}
 use mathlib.Core.List.{List, [], _∷_}
 use native.Mathlib.Omega.{arith}
@@ -9,11 +9,9 @@ use lib.ListN.{length, take, drop}
 use lib.Seq.{take-take}
 use Rattle.laws.specs.Clipped.{take-clipped}
 use Rattle.book.specs.Call.{on, settle}
-use Rattle.journal.specs.Grammar.{parsed, lengthList, total}
+use Rattle.journal.specs.Grammar.{lengthList, total}
 use Rattle.journal.specs.declared.Lengths.{Lengths}
 use Rattle.journal.specs.declared.Request.{Request}
-use Rattle.printing.specs.Lines.{printed, Fitting}
-use Rattle.printing.proofs.RoundTrip.{round-trip}
 use Rattle.answering.specs.Asked.{call, guarantee, semestersOf, guaranteeOf, asked}
 use Rattle.answering.specs.Kept.{numbersIn}
 
@@ -68,8 +66,12 @@ row-cut n zs =
     )
     (semesters-cut n _ _ (drop (n .marks) (drop (n .low) (drop (n .medium) zs))) _)
 
--- A request asks the same with the numbers of its lists alone.
-pub asked-cut : (r : Request) (zs : List ℤ) → asked r (take (numbersIn r (length zs)) zs) ≡ asked r zs
+-- The numbers of a request's lists.
+abbrev pub own : Request → List ℤ → List ℤ
+own r zs = take (numbersIn r (length zs)) zs
+
+-- A request asks the same with them alone.
+pub asked-cut : (r : Request) (zs : List ℤ) → asked r (own r zs) ≡ asked r zs
 asked-cut Request.Nothing zs = refl
 asked-cut (Request.Fresh d) zs = refl
 asked-cut (Request.Admit p r) zs = refl
@@ -87,13 +89,3 @@ asked-cut (Request.Special n) zs =
     (ap (guaranteeOf n) (take-clipped (total (lengthList n)) (min (total (lengthList n)) (length zs)) zs refl) ∙ row-cut n zs)
 asked-cut Request.Report zs = refl
 asked-cut (Request.Error e) zs = refl
-
--- The numbers of a request's lists.
-abbrev own : Request → List ℤ → List ℤ
-own r zs = take (numbersIn r (length zs)) zs
-
--- The line of a kept call, parsed where there is room for its numbers, asks what the call asked: with `replays`, the journal leads to the
--- session's book.
-pub kept-line-asks : (room : ℕ) (r : Request) (zs : List ℤ) → Fitting r (own r zs) → length (own r zs) ≤ room
-    → asked (parsed room (printed r (own r zs)) .request) (parsed room (printed r (own r zs)) .numbers) ≡ asked r zs
-kept-line-asks room r zs f h = rw (round-trip room r (own r zs) f h) (asked-cut r zs)
