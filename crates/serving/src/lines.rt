@@ -1,7 +1,10 @@
 // The complete lines of a part of an input, taken one by one: each is parsed, applied to the book, and then answered or replayed or kept.
+ghost use mathlib.Core.Path.{_≡_};
+ghost use mathlib.Core.Bool.{true};
 ghost use Prim.Native.Nat.{_≤_};
 ghost use lib.ListN.{length};
 ghost use Rattle.book.specs.Reached.{Reached};
+ghost use Rattle.serving.specs.Parts.{EndIs, atStart};
 use crate::answers;
 use crate::journal_file::append;
 use crate::messages;
@@ -39,7 +42,9 @@ pub struct Taken {
 }
 
 // Before the first line.
-pub fn started() -> Progress {
+pub fn started() -> Progress
+    ensures { λ r. ⌜ r ≡ atStart 0 ⌝ }
+{
     Progress {
         line: 0,
         kept: 0,
@@ -51,7 +56,9 @@ pub fn started() -> Progress {
 }
 
 // Before the first line of standard input, after a journal's replay.
-pub fn after_replay(progress: Progress) -> Progress {
+pub fn after_replay(progress: Progress) -> Progress
+    ensures { λ r. ⌜ r ≡ atStart (progress .kept) ⌝ }
+{
     Progress {
         line: 0,
         kept: progress.kept,
@@ -65,7 +72,7 @@ pub fn after_replay(progress: Progress) -> Progress {
 // The place of the next newline from a place on, or the end.
 fn line_end(input: &[u8], from: usize) -> usize
     requires { ⌜ from ≤ length (now input) ⌝ }
-    ensures { λ r. ⌜ (from ≤ r) × (r ≤ length (now (input .entry))) ⌝ }
+    ensures { λ r. ⌜ EndIs true (now (input .entry)) from r ⌝ }
 {
     let mut i = from;
     while i < input.len() {
@@ -80,7 +87,7 @@ fn line_end(input: &[u8], from: usize) -> usize
 // Where the next line ends, or the end of the input, so that no line is taken, where something failed.
 fn next_end(ok: bool, input: &[u8], from: usize) -> usize
     requires { ⌜ from ≤ length (now input) ⌝ }
-    ensures { λ r. ⌜ (from ≤ r) × (r ≤ length (now (input .entry))) ⌝ }
+    ensures { λ r. ⌜ EndIs ok (now (input .entry)) from r ⌝ }
 {
     if ok {
         line_end(input, from)
