@@ -1,0 +1,284 @@
+-- A file's words lead back to it, and a file is read from its own words alone.
+-- Assumes nothing.
+use Prim.Native.Nat.{ℕ, zero, suc, _+_, _*_, _≤_, _<_}
+use mathlib.Core.Path.{_≡_, refl, sym, ap, _∙_}
+use mathlib.Core.Bool.{Bool, true, false}
+use mathlib.Core.List.{List, [], _∷_, _++_, append-assoc, append-nil}
+use native.Mathlib.Nat.{add-assoc}
+use native.Mathlib.Omega.{arith}
+use native.Mathlib.Numerals.{add-one, add-two, add-three, add-four, add-five, add-six, add-seven, add-eight}
+use lib.ListN.{length, getD, set, length-append}
+use lib.Seq.{getD-append-add}
+use Rattle.laws.specs.Lists.{All, all-at, table}
+use Rattle.laws.specs.Tabulated.{table-ext}
+use Rattle.file.specs.declared.File.{File}
+use Rattle.file.specs.declared.Slot.{Slot}
+use Rattle.file.specs.declared.OpenCall.{OpenCall}
+use Rattle.file.specs.declared.MonthTotal.{MonthTotal}
+use Rattle.file.specs.declared.Position.the-variants.{Empty}
+use Rattle.file.specs.Position.{slotOf}
+use Rattle.file.specs.Calls.{callOf}
+use Rattle.file.specs.Totals.{noTotal}
+use Rattle.layout.specs.Parts.{flagOf, flagWord, slotOfWords, callOfWords, totalOfWords, slotWords, callWords, totalWords, written, SlotBack, CallBack, TotalBack}
+use Rattle.layout.specs.Files.{slotIn, callIn, totalIn, slotsOfWords, callsOfWords, totalsOfWords, fileOfWords, wordsAt, flat, ownWords, fileWords, Put, PutRows}
+use Rattle.layout.proofs.Backs.{flag-back}
+use Rattle.layout.proofs.Written.{length-written, written-next, written-in}
+use Rattle.layout.proofs.Rows.{flat-length, flat-at}
+
+-- ---- the arrays as they are read
+
+pub slots-are : (l : List ℕ) (at : ℕ) (x0 x1 x2 x3 x4 x5 x6 x7 : Slot)
+    → x0 ≡ slotIn l (at + 9)
+    → x1 ≡ slotIn l (at + 13)
+    → x2 ≡ slotIn l (at + 17)
+    → x3 ≡ slotIn l (at + 21)
+    → x4 ≡ slotIn l (at + 25)
+    → x5 ≡ slotIn l (at + 29)
+    → x6 ≡ slotIn l (at + 33)
+    → x7 ≡ slotIn l (at + 37)
+    → x0 ∷ x1 ∷ x2 ∷ x3 ∷ x4 ∷ x5 ∷ x6 ∷ x7 ∷ [] ≡ slotsOfWords (wordsAt l at)
+unfolding slotsOfWords
+slots-are l at x0 x1 x2 x3 x4 x5 x6 x7 e0 e1 e2 e3 e4 e5 e6 e7 = simp (e0, e1, e2, e3, e4, e5, e6, e7, add-assoc)
+
+pub calls-are : (l : List ℕ) (at : ℕ) (x0 x1 x2 x3 : OpenCall)
+    → x0 ≡ callIn l (at + 41)
+    → x1 ≡ callIn l (at + 43)
+    → x2 ≡ callIn l (at + 45)
+    → x3 ≡ callIn l (at + 47)
+    → x0 ∷ x1 ∷ x2 ∷ x3 ∷ [] ≡ callsOfWords (wordsAt l at)
+unfolding callsOfWords
+calls-are l at x0 x1 x2 x3 e0 e1 e2 e3 = simp (e0, e1, e2, e3, add-assoc)
+
+pub totals-are : (l : List ℕ) (at : ℕ) (x0 x1 x2 x3 x4 x5 x6 x7 x8 x9 x10 x11 x12 x13 x14 x15 : MonthTotal)
+    → x0 ≡ totalIn l (at + 49)
+    → x1 ≡ totalIn l (at + 52)
+    → x2 ≡ totalIn l (at + 55)
+    → x3 ≡ totalIn l (at + 58)
+    → x4 ≡ totalIn l (at + 61)
+    → x5 ≡ totalIn l (at + 64)
+    → x6 ≡ totalIn l (at + 67)
+    → x7 ≡ totalIn l (at + 70)
+    → x8 ≡ totalIn l (at + 73)
+    → x9 ≡ totalIn l (at + 76)
+    → x10 ≡ totalIn l (at + 79)
+    → x11 ≡ totalIn l (at + 82)
+    → x12 ≡ totalIn l (at + 85)
+    → x13 ≡ totalIn l (at + 88)
+    → x14 ≡ totalIn l (at + 91)
+    → x15 ≡ totalIn l (at + 94)
+    → x0 ∷ x1 ∷ x2 ∷ x3 ∷ x4 ∷ x5 ∷ x6 ∷ x7 ∷ x8 ∷ x9 ∷ x10 ∷ x11 ∷ x12 ∷ x13 ∷ x14 ∷ x15 ∷ [] ≡ totalsOfWords (wordsAt l at)
+unfolding totalsOfWords
+totals-are l at x0 x1 x2 x3 x4 x5 x6 x7 x8 x9 x10 x11 x12 x13 x14 x15 e0 e1 e2 e3 e4 e5 e6 e7 e8 e9 e10 e11 e12 e13 e14 e15 = simp (e0, e1, e2, e3, e4, e5, e6, e7, e8, e9, e10, e11, e12, e13, e14, e15, add-assoc)
+
+-- a file from its parts
+pub taken-is : (w : ℕ → ℕ) (a e : Bool) (s : List Slot) (c : List OpenCall) (t : List MonthTotal)
+    → a ≡ flagOf (w 1) → e ≡ flagOf (w 5) → s ≡ slotsOfWords w → c ≡ callsOfWords w → t ≡ totalsOfWords w
+    → _≡_ {A = File}
+    (record {
+      admitted = a;
+      role = w 2;
+      firm = w 3;
+      slots = s;
+      calls = c;
+      count = w 4;
+      next = record { set = e; amount = w 6 };
+      totals = t;
+      charged = w 7;
+      accrued = w 8;
+    })
+    (fileOfWords w)
+unfolding fileOfWords
+taken-is w a e s c t p q r u v = simp (p, q, r, u, v)
+
+-- ---- a file is read from its words 1 to 96
+
+module _ (w v : ℕ → ℕ) (same : (k : ℕ) → 1 ≤ k → k ≤ 96 → w k ≡ v k) where
+  slots-ext : slotsOfWords w ≡ slotsOfWords v
+  unfolding slotsOfWords
+  slots-ext =
+      table-ext 8 (λ k. slotOfWords (w (9 + 4 * k)) (w (10 + 4 * k)) (w (11 + 4 * k)) (w (12 + 4 * k)))
+      (λ k. slotOfWords (v (9 + 4 * k)) (v (10 + 4 * k)) (v (11 + 4 * k)) (v (12 + 4 * k)))
+      (λ k h i. slotOfWords
+      (same (9 + 4 * k) (omega arith) (omega arith) i)
+      (same (10 + 4 * k) (omega arith) (omega arith) i)
+      (same (11 + 4 * k) (omega arith) (omega arith) i)
+      (same (12 + 4 * k) (omega arith) (omega arith) i))
+
+  calls-ext : callsOfWords w ≡ callsOfWords v
+  unfolding callsOfWords
+  calls-ext =
+      table-ext 4 (λ k. callOfWords (w (41 + 2 * k)) (w (42 + 2 * k)))
+      (λ k. callOfWords (v (41 + 2 * k)) (v (42 + 2 * k)))
+      (λ k h i. callOfWords (same (41 + 2 * k) (omega arith) (omega arith) i) (same (42 + 2 * k) (omega arith) (omega arith) i))
+
+  totals-ext : totalsOfWords w ≡ totalsOfWords v
+  unfolding totalsOfWords
+  totals-ext =
+      table-ext 16 (λ k. totalOfWords (w (49 + 3 * k)) (w (50 + 3 * k)) (w (51 + 3 * k)))
+      (λ k. totalOfWords (v (49 + 3 * k)) (v (50 + 3 * k)) (v (51 + 3 * k)))
+      (λ k h i. totalOfWords
+      (same (49 + 3 * k) (omega arith) (omega arith) i)
+      (same (50 + 3 * k) (omega arith) (omega arith) i)
+      (same (51 + 3 * k) (omega arith) (omega arith) i))
+
+  pub file-ext : fileOfWords w ≡ fileOfWords v
+  unfolding fileOfWords
+  file-ext =
+      λ i. record {
+        admitted = flagOf (same 1 (omega arith) (omega arith) i);
+        role = same 2 (omega arith) (omega arith) i;
+        firm = same 3 (omega arith) (omega arith) i;
+        slots = slots-ext i;
+        calls = calls-ext i;
+        count = same 4 (omega arith) (omega arith) i;
+        next = record { set = flagOf (same 5 (omega arith) (omega arith) i); amount = same 6 (omega arith) (omega arith) i };
+        totals = totals-ext i;
+        charged = same 7 (omega arith) (omega arith) i;
+        accrued = same 8 (omega arith) (omega arith) i;
+      }
+
+-- ---- a file's words lead back to it
+
+listed : {A : Type 0} (n : ℕ) (l : List A) (d : A) → length l ≡ n → table n (λ k. getD l k d) ≡ l
+listed zero [] d h = refl
+listed zero (x ∷ l) d h = absurd (omega arith)
+listed (suc n) [] d h = absurd (omega arith)
+listed {A = A} (suc n) (x ∷ l) d h = ap (λ (m : List A). x ∷ m) (listed n l d (omega arith))
+
+slots-back : (w : ℕ → ℕ) (xs : List Slot) (d : Slot) → length xs ≡ 8 → All SlotBack xs
+    → ((i j m : ℕ) → i < 8 → j < 4 → m ≡ 9 + (4 * i + j) → w m ≡ getD (slotWords (getD xs i d)) j 0) → slotsOfWords w ≡ xs
+unfolding slotsOfWords
+slots-back w xs d long all reads =
+    table-ext 8 (λ k. slotOfWords (w (9 + 4 * k)) (w (10 + 4 * k)) (w (11 + 4 * k)) (w (12 + 4 * k))) (λ k. getD xs k d)
+    (λ k h. rw (reads k 0 (9 + 4 * k) h (omega arith) (omega arith), reads k 1 (10 + 4 * k) h (omega arith) (omega arith), reads k 2 (11 + 4 * k) h (omega arith) (omega arith), reads k 3 (12 + 4 * k) h (omega arith) (omega arith)) (all-at SlotBack xs k d (omega arith) all))
+    ∙ listed 8 xs d long
+
+calls-back : (w : ℕ → ℕ) (xs : List OpenCall) (d : OpenCall) → length xs ≡ 4 → All CallBack xs
+    → ((i j m : ℕ) → i < 4 → j < 2 → m ≡ 41 + (2 * i + j) → w m ≡ getD (callWords (getD xs i d)) j 0) → callsOfWords w ≡ xs
+unfolding callsOfWords
+calls-back w xs d long all reads =
+    table-ext 4 (λ k. callOfWords (w (41 + 2 * k)) (w (42 + 2 * k))) (λ k. getD xs k d)
+    (λ k h. rw (reads k 0 (41 + 2 * k) h (omega arith) (omega arith), reads k 1 (42 + 2 * k) h (omega arith) (omega arith)) (all-at CallBack xs k d (omega arith) all))
+    ∙ listed 4 xs d long
+
+totals-back : (w : ℕ → ℕ) (xs : List MonthTotal) (d : MonthTotal) → length xs ≡ 16 → All TotalBack xs
+    → ((i j m : ℕ) → i < 16 → j < 3 → m ≡ 49 + (3 * i + j) → w m ≡ getD (totalWords (getD xs i d)) j 0) → totalsOfWords w ≡ xs
+unfolding totalsOfWords
+totals-back w xs d long all reads =
+    table-ext 16 (λ k. totalOfWords (w (49 + 3 * k)) (w (50 + 3 * k)) (w (51 + 3 * k))) (λ k. getD xs k d)
+    (λ k h. rw (reads k 0 (49 + 3 * k) h (omega arith) (omega arith), reads k 1 (50 + 3 * k) h (omega arith) (omega arith), reads k 2 (51 + 3 * k) h (omega arith) (omega arith)) (all-at TotalBack xs k d (omega arith) all))
+    ∙ listed 16 xs d long
+
+-- behind other words
+behind : (pre rest : List ℕ) (m n : ℕ) → m ≡ length pre + n → getD (pre ++ rest) m 0 ≡ getD rest n 0
+behind pre rest m n e = rw e (getD-append-add pre rest n 0)
+
+module _ (f : File) (eight : length (f .slots) ≡ 8) (four : length (f .calls) ≡ 4) (sixteen : length (f .totals) ≡ 16)
+    (bs : All SlotBack (f .slots)) (bc : All CallBack (f .calls)) (bt : All TotalBack (f .totals)) where
+  abbrev S : List ℕ
+  S = flat slotWords (f .slots)
+
+  abbrev C : List ℕ
+  C = flat callWords (f .calls)
+
+  abbrev O : List ℕ
+  O = flat totalWords (f .totals)
+
+  length-slots : length S ≡ 32
+  length-slots = flat-length slotWords 4 (λ x. refl) SlotBack (f .slots) ∙ omega arith
+
+  length-calls : length C ≡ 8
+  length-calls = flat-length callWords 2 (λ x. refl) CallBack (f .calls) ∙ omega arith
+
+  length-totals : length O ≡ 48
+  length-totals = flat-length totalWords 3 (λ x. refl) TotalBack (f .totals) ∙ omega arith
+
+  file-long : length (fileWords f) ≡ 96
+  unfolding fileWords
+  file-long =
+      simp (length-append) (omega (arith, length-slots, length-calls, length-totals))
+
+  abbrev word : ℕ → ℕ
+  word k = getD (0 ∷ fileWords f) k 0
+
+  own : (m n : ℕ) → m ≡ 9 + n → word m ≡ getD (S ++ (C ++ O)) n 0
+  unfolding fileWords
+  own m n e = behind (0 ∷ ownWords f) (S ++ (C ++ O)) m n e
+
+  slot-words : (i j m : ℕ) → i < 8 → j < 4 → m ≡ 9 + (4 * i + j) → word m ≡ getD (slotWords (getD (f .slots) i (slotOf Empty))) j 0
+  slot-words i j m h k e =
+      own m (4 * i + j) e ∙ flat-at slotWords 4 (λ x. refl) SlotBack (f .slots) (C ++ O) i j (slotOf Empty) (omega arith) k
+
+  call-words : (i j m : ℕ) → i < 4 → j < 2 → m ≡ 41 + (2 * i + j) → word m ≡ getD (callWords (getD (f .calls) i (callOf 0 0))) j 0
+  call-words i j m h k e =
+      own m (32 + (2 * i + j)) (omega arith)
+      ∙ behind S (C ++ O) (32 + (2 * i + j)) (2 * i + j) (omega (arith, length-slots))
+      ∙ flat-at callWords 2 (λ x. refl) CallBack (f .calls) O i j (callOf 0 0) (omega arith) k
+
+  total-words : (i j m : ℕ) → i < 16 → j < 3 → m ≡ 49 + (3 * i + j) → word m ≡ getD (totalWords (getD (f .totals) i noTotal)) j 0
+  total-words i j m h k e =
+      own m (40 + (3 * i + j)) (omega arith)
+      ∙ behind S (C ++ O) (40 + (3 * i + j)) (8 + (3 * i + j)) (omega (arith, length-slots))
+      ∙ behind C O (8 + (3 * i + j)) (3 * i + j) (omega (arith, length-calls))
+      ∙ ap (λ (l : List ℕ). getD l (3 * i + j) 0) (sym (append-nil O))
+      ∙ flat-at totalWords 3 (λ x. refl) TotalBack (f .totals) [] i j noTotal (omega arith) k
+
+  file-back : fileOfWords word ≡ f
+  unfolding fileOfWords fileWords
+  file-back =
+      λ i. record {
+        admitted = flag-back (f .admitted) i;
+        role = f .role;
+        firm = f .firm;
+        slots = slots-back word (f .slots) (slotOf Empty) eight bs slot-words i;
+        calls = calls-back word (f .calls) (callOf 0 0) four bc call-words i;
+        count = f .count;
+        next = record { set = flag-back (f .next .set) i; amount = f .next .amount };
+        totals = totals-back word (f .totals) noTotal sixteen bt total-words i;
+        charged = f .charged;
+        accrued = f .accrued;
+      }
+
+  placed : (l : List ℕ) (at k : ℕ) → at + 97 ≤ length l → 1 ≤ k → k ≤ 96 → getD (written l (at + 1) (fileWords f)) (at + k) 0 ≡ word k
+  placed l at zero h a b = absurd (omega arith)
+  placed l at (suc k) h a b =
+      written-in l (at + 1) (fileWords f) (at + suc k) k (omega arith) (omega (arith, file-long)) (omega (arith, file-long))
+
+-- ---- a file is put
+
+pub put-is : (f : File) (l m n o p : List ℕ) (at : ℕ) → at + 97 ≤ length l → m ≡ written l (at + 1) (ownWords f)
+    → PutRows slotWords SlotBack 8 (f .slots) m (at + 9) n
+    → PutRows callWords CallBack 4 (f .calls) n (at + 41) o
+    → PutRows totalWords TotalBack 16 (f .totals) o (at + 49) p
+    → Put l at f p
+unfolding fileWords
+put-is f l m n o p at h first s c t =
+    let ls = length-slots f (s .long) (c .long) (t .long) (s .backs) (c .backs) (t .backs) in
+    let lc = length-calls f (s .long) (c .long) (t .long) (s .backs) (c .backs) (t .backs) in
+    let S = flat slotWords (f .slots) in
+    let C = flat callWords (f .calls) in
+    let O = flat totalWords (f .totals) in
+    let all : p ≡ written l (at + 1) (ownWords f ++ (S ++ (C ++ O))) =
+    t .stored
+    ∙ ap (λ (z : List ℕ). written z (at + 49) O) (c .stored ∙ ap (λ (z : List ℕ). written z (at + 41) C) (s .stored))
+    ∙ ap (λ (z : List ℕ). written z (at + 49) O) (written-next m (at + 9) (at + 41) S C (omega arith))
+    ∙ written-next m (at + 9) (at + 49) (S ++ C) O (omega (arith, length-append S C))
+    ∙ ap (λ (z : List ℕ). written m (at + 9) z) (append-assoc S C O)
+    ∙ ap (λ (z : List ℕ). written z (at + 9) (S ++ (C ++ O))) first
+    ∙ written-next l (at + 1) (at + 9) (ownWords f) (S ++ (C ++ O)) (omega arith) in
+    record {
+      stored = all;
+      long = file-long f (s .long) (c .long) (t .long) (s .backs) (c .backs) (t .backs);
+      back =
+          ap (λ (z : List ℕ). fileOfWords (wordsAt z at)) all
+          ∙ file-ext (wordsAt (written l (at + 1) (fileWords f)) at) (λ k. getD (0 ∷ fileWords f) k 0)
+          (λ k a b. placed f (s .long) (c .long) (t .long) (s .backs) (c .backs) (t .backs) l at k h a b)
+          ∙ file-back f (s .long) (c .long) (t .long) (s .backs) (c .backs) (t .backs);
+    }
+
+-- The words of its own.
+pub own-written : (l : List ℕ) (at a b c d e f g h a′ e′ : ℕ) → a′ ≡ a → e′ ≡ e
+    → set (set (set (set (set (set (set (set l (at + 1) a′) (at + 2) b) (at + 3) c) (at + 4) d) (at + 5) e′) (at + 6) f) (at + 7) g) (at + 8) h
+    ≡ written l (at + 1) (a ∷ b ∷ c ∷ d ∷ e ∷ f ∷ g ∷ h ∷ [])
+unfolding written
+own-written l at a b c d e f g h a′ e′ p q = simp (p, q, add-one, add-two, add-three, add-four, add-five, add-six, add-seven, add-eight)

@@ -1,0 +1,5 @@
+pub mod Written
+pub mod Zigzag
+pub mod Backs
+pub mod Rows
+pub mod FileLaws

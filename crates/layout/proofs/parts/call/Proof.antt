@@ -1,0 +1,17 @@
+use borrow.Author.Needs.{needs}
+use Rattle.layout.specs.Parts.{callOfWords}
+use Rattle.layout.proofs.parts.call.Statement.{statement}
+use Rattle.layout.proofs.parts.call.Tie as tie
+use Rattle.layout.proofs.parts.call.Reads as reads
+use Rattle.layout.proofs.parts.call.Lts as lts
+use Rattle.layout.proofs.parts.number.Reads as number-reads
+
+number-requires : tie.Need-number-requires
+number-requires c κs = search needs
+
+returns : tie.Need-returns
+unfolding callOfWords
+returns c = cc
+
+pub call-spec : {M : Type 1} → statement M
+call-spec = tie.close (tie.spec number-requires returns)

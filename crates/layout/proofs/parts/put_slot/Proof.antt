@@ -1,0 +1,44 @@
+use borrow.Author.Needs.{needs}
+use Rattle.layout.proofs.Backs.{four-are, slot-back}
+use Rattle.layout.proofs.parts.put_slot.Statement.{statement}
+use Rattle.layout.proofs.parts.put_slot.Tie as tie
+use Rattle.layout.proofs.parts.put_slot.Reads as reads
+use Rattle.layout.proofs.parts.put_slot.Lts as lts
+use Rattle.file.proofs.holding.amount_of.Reads as amount-of-reads
+use Rattle.layout.proofs.parts.first_word.Reads as first-word-reads
+use Rattle.layout.proofs.parts.kind_word.Reads as kind-word-reads
+use Rattle.layout.proofs.parts.last_word.Reads as last-word-reads
+use Rattle.layout.proofs.parts.put_four.Reads as put-four-reads
+
+kind-word-requires : tie.Need-kind-word-requires
+kind-word-requires c κs = search needs
+
+amount-of-requires : tie.Need-amount-of-requires
+amount-of-requires c κs = search needs
+
+first-word-requires : tie.Need-first-word-requires
+first-word-requires c κs = search needs
+
+last-word-requires : tie.Need-last-word-requires
+last-word-requires c κs = search needs
+
+put-four-requires : tie.Need-put-four-requires
+put-four-requires c κs = search needs
+
+same-length : tie.Need-same-length
+same-length c = search needs
+
+returns : tie.Need-returns
+returns c = (search (four-are, needs), search (slot-back, needs))
+
+pub put-slot-spec : {M : Type 1} → statement M
+put-slot-spec =
+    tie.close
+    (tie.spec
+    kind-word-requires
+    amount-of-requires
+    first-word-requires
+    last-word-requires
+    put-four-requires
+    same-length
+    returns)

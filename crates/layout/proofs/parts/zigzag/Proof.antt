@@ -1,0 +1,43 @@
+use borrow.Author.Needs.{needs}
+use Rattle.layout.proofs.Zigzag.{negative-flips, negative-cast, negative-twice, negative-more, negative-is, natural-cast, natural-twice, natural-is}
+use Rattle.layout.proofs.parts.zigzag.Statement.{statement}
+use Rattle.layout.proofs.parts.zigzag.Tie as tie
+use Rattle.layout.proofs.parts.zigzag.Reads as reads
+use Rattle.layout.proofs.parts.zigzag.Lts as lts
+
+sub-result : tie.Need-sub-result
+sub-result c = negative-flips _ (c .before .fits .x) (c .if1 .taken)
+
+cast-result : tie.Need-cast-result
+cast-result c = negative-cast _ (c .before .fits .x) (c .if1 .taken)
+
+mul-result : tie.Need-mul-result
+mul-result c = negative-twice _ (c .before .fits .x) (c .if1 .taken)
+
+add-result : tie.Need-add-result
+add-result c = negative-more _ (c .before .fits .x) (c .if1 .taken)
+
+returns : tie.Need-returns
+returns c = negative-is _ (c .before .fits .x) (c .if1 .taken)
+
+cast-result-2 : tie.Need-cast-result-2
+cast-result-2 c = natural-cast _ (c .before .fits .x) (c .if1 .left)
+
+mul-result-2 : tie.Need-mul-result-2
+mul-result-2 c = natural-twice _ (c .before .fits .x) (c .if1 .left)
+
+returns-2 : tie.Need-returns-2
+returns-2 c = natural-is _ (c .before .fits .x) (c .if1 .left)
+
+pub zigzag-spec : {M : Type 1} → statement M
+zigzag-spec =
+    tie.close
+    (tie.spec
+    sub-result
+    cast-result
+    mul-result
+    add-result
+    returns
+    cast-result-2
+    mul-result-2
+    returns-2)

@@ -1,0 +1,5 @@
+pub mod Parts
+pub mod Files
+pub mod Book
+pub mod Words
+pub mod WellFormed
