@@ -1,6 +1,6 @@
 //! The calls of crates/bench, made again with the same draws, and questions to the book that they begin with.
 
-use std::hint::black_box;
+use std::ptr::read_volatile;
 
 use crate::book::{Annual, Book, Position, Refusal, Settled, Statement, PARTICIPANTS};
 use crate::calendar::{month_of, LAST_DAY};
@@ -127,7 +127,7 @@ fn statements(book: &Book) -> u64 {
 pub fn opening(repeats: u64) {
     let ((book, answer), micros) = quickest(repeats, || {
         let mut book = with_all(8);
-        let (answer, micros) = timed(|| black_box(&mut *book).advance(LAST_DAY, LAST_DAY as u64));
+        let (answer, micros) = timed(|| book.advance(LAST_DAY, LAST_DAY as u64));
         ((book, answer), micros)
     });
     let days = answer.unwrap_or(0);
@@ -196,13 +196,9 @@ fn rounds(book: &mut Book, plan: &Plan) -> u64 {
         let mut draw = round;
         for _ in 0..plan.calls {
             draw = next(draw);
-            sum = sum.wrapping_add(call(black_box(&mut *book), draw));
+            sum = sum.wrapping_add(call(book, draw));
         }
-        sum = sum.wrapping_add(
-            black_box(&mut *book)
-                .advance(LAST_DAY, plan.days)
-                .unwrap_or(0),
-        );
+        sum = sum.wrapping_add(book.advance(LAST_DAY, plan.days).unwrap_or(0));
     }
     sum
 }
@@ -239,28 +235,39 @@ pub fn mixed(plan: &Plan, repeats: u64) {
 
 // ---- questions
 
+/// The same book, of which the compiler knows nothing, so that it asks the book anew each time.
+fn unknown(book: &Book) -> &Book {
+    unsafe { read_volatile(&book) }
+}
+
 /// The sum of so many statements of drawn participants.
 fn drawn_statements(book: &Book, count: u64) -> u64 {
     let (mut draw, mut sum) = (0, 0u64);
     for _ in 0..count {
         draw = next(draw);
-        sum = sum.wrapping_add(stated(black_box(book).statement(participant_of(draw))));
+        sum = sum.wrapping_add(stated(unknown(book).statement(participant_of(draw))));
     }
     sum
 }
 
 /// The sum of so many counts of calls made.
 fn counts(book: &Book, count: u64) -> u64 {
-    (0..count).fold(0, |sum, _| sum.wrapping_add(black_box(book).calls_made()))
+    (0..count).fold(0, |sum, _| sum.wrapping_add(unknown(book).calls_made()))
+}
+
+/// So many questions of a kind.
+fn asked(kind: &str, count: u64, repeats: u64, ask: impl Fn() -> u64) {
+    let (sum, micros) = quickest(repeats, || timed(&ask));
+    println!("{kind}: {count}");
+    println!("  sum of the answers {sum}");
+    println!("  microseconds {micros}");
 }
 
 /// So many statements, and then so many counts, on 5 September 2021.
 pub fn questions(count: u64, repeats: u64) {
     let book = begun(613);
-    let (sum, micros) = quickest(repeats, || timed(|| drawn_statements(&book, count)));
-    println!("questions: statements {count}, sum of the answers {sum}");
-    println!("  microseconds {micros}");
-    let (sum, micros) = quickest(repeats, || timed(|| counts(&book, count)));
-    println!("questions: counts {count}, sum of the answers {sum}");
-    println!("  microseconds {micros}");
+    asked("statements", count, repeats, || {
+        drawn_statements(&book, count)
+    });
+    asked("counts", count, repeats, || counts(&book, count));
 }

@@ -130,7 +130,7 @@ impl Position {
 
 /// Whether an amount is outside 1 to 10^12 cents, cause 8.
 fn outside(amount: u64) -> bool {
-    amount < 1 || MOST < amount
+    !(1..=MOST).contains(&amount)
 }
 
 /// The mills charged for a day with a shortfall of so many cents (002, section 4).
@@ -144,7 +144,7 @@ fn day_charge(shortfall: u64) -> u64 {
 
 /// The sum of a month's figures, or the first of the causes 10 and 11.
 fn sum_of(figures: &[i64]) -> Result<i64, Refusal> {
-    if figures.len() < 5 || 16 < figures.len() {
+    if !(5..=16).contains(&figures.len()) {
         return Err(Refusal::FigureCount);
     }
     if figures.iter().any(|figure| MOST < figure.unsigned_abs()) {

@@ -1,6 +1,8 @@
--- What the functions' proofs cite: the calls on a reached book, and the days opened over its files.
+-- What the functions' proofs cite: the calls on a book, the days opened over its files, and both on words.
 pub mod OnFile
 pub mod SoundBook
 pub mod Begins
 pub mod Answers
 pub mod DaysOpened
+pub mod OnWords
+pub mod FilesInWords

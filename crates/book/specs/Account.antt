@@ -15,7 +15,7 @@ use Rattle.file.specs.Settle.{settleAnswer, settledFile, settlementCalls}
 use Rattle.file.specs.Annual.{annualAnswer, annualFile}
 use Rattle.file.specs.Opening.{openedFile}
 use Rattle.file.specs.Statement.{statementOf}
-use Rattle.book.specs.declared.Book.{Book}
+use Rattle.layout.specs.Book.{Book}
 use Rattle.book.specs.Call.{Act, admit, lodge, release, settle, annualRun, Call, on, advance, statement, callsMade}
 
 -- "Fresh book on a day: no participants."

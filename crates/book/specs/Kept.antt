@@ -12,7 +12,7 @@ use Rattle.file.specs.declared.MonthTotal.{MonthTotal}
 use Rattle.file.specs.Position.{slotOf}
 use Rattle.file.specs.Calls.{inPlaces}
 use Rattle.file.specs.Totals.{noTotal, totalOf}
-use Rattle.book.specs.declared.Book.{Book}
+use Rattle.layout.specs.Book.{Book}
 use Rattle.book.specs.Call.{Act, admit, lodge, release, settle, annualRun}
 use Rattle.book.specs.Reading.Events.{Event, Own, dayOpened, act, mine, todayOf, todayIn, admittedIn, roleIn}
 use Rattle.book.specs.Reading.Holdings.{positionIn}

@@ -5,5 +5,6 @@ pub mod Kept
 pub mod Lawful
 pub mod Life
 pub mod Reached
+pub mod InWords
 pub mod Opened
 pub mod Left

@@ -10,7 +10,7 @@ use Rattle.manual.specs.Charge.{dayCharge}
 use Rattle.file.specs.declared.File.{File}
 use Rattle.file.specs.Answer.{Answer}
 use Rattle.file.specs.Fields.{coverOf, shortfallOf}
-use Rattle.book.specs.declared.Book.{Book}
+use Rattle.layout.specs.Book.{Book}
 use Rattle.book.specs.Call.{Call, on, advance, statement, callsMade}
 use Rattle.book.specs.Account.{fileAt, answer, step, run}
 use Rattle.book.specs.Reading.Events.{Event, Own, dayOpened, act, mine, todayOf, admittedIn, roleIn}

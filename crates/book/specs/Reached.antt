@@ -1,10 +1,10 @@
--- What a public call of the book asks and gives: a book that a fresh book and calls lead to.
+-- What a call of the book gives, by the book's account and by the reading of every history that leads to it.
 -- Assumes nothing.
 use Prim.Native.Nat.{ℕ, _≤_}
 use mathlib.Core.Path.{_≡_}
 use mathlib.Core.List.{List, [], _∷_}
 use Rattle.file.specs.Answer.{Answer}
-use Rattle.book.specs.declared.Book.{Book}
+use Rattle.layout.specs.Book.{Book}
 use Rattle.book.specs.Call.{Call}
 use Rattle.book.specs.Account.{freshAnswer, freshBookBeside, answer, step, run}
 use Rattle.book.specs.Reading.Decisions.{decision, eventsOf}
@@ -22,8 +22,8 @@ pub record Given (b : Book) (c : Call) (x : Answer) (b′ : Book) : Type 0 where
   -- the equations, for every input
   pub answered : x ≡ answer b c
   pub left : b′ ≡ step b c
-  -- the next call may be made
-  pub reached : Reached b′
+  -- a reached book stays one
+  pub reached : Reached b → Reached b′
   -- for every history that leads to b: the answer is the reading's decision, and the book left is that of the history with this call
   pub decided : (s : ℕ) (calls : List Call) → s ≤ 29219 → run s calls ≡ b → x ≡ decision s (eventsOf s calls) c
   pub reads : (s : ℕ) (calls : List Call) → s ≤ 29219 → run s calls ≡ b → b′ ≡ bookIn s (eventsOf s (c ∷ calls))

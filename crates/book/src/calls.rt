@@ -1,9 +1,4 @@
-// The calls that name a participant, the statement, and the question for the count (paper 01, 'The calls').
-use crate::Book;
-use crate::BookAnnual;
-use crate::BookOutcome;
-use crate::BookSettled;
-use crate::Stated;
+// The calls that name a participant (paper 01, 'The calls'): each takes one file out of the words, calls its method and puts it back.
 use calendar::Day;
 use calendar::Month;
 use file::AnnualRun;
@@ -14,14 +9,19 @@ use file::FileSettled;
 use file::Outcome;
 use file::Position;
 use file::Settled;
+use layout::files::file_at;
+use layout::files::put_file;
+use layout::parts::flag;
+use layout::parts::number;
 ghost use mathlib.Core.Path.{_≡_};
 ghost use mathlib.Core.Bool.{cond};
-ghost use Rattle.file.specs.Answer.{counted, outcomeSays, settledSays, annualSays};
+ghost use Rattle.file.specs.Answer.{outcomeSays, settledSays, annualSays};
 ghost use Rattle.file.specs.Sound.{Sound};
-ghost use Rattle.book.specs.Call.{admit, lodge, release, settle, annualRun, on, statement, callsMade, isCalled, statedSays};
+ghost use Rattle.book.specs.Call.{admit, lodge, release, settle, annualRun, on, isCalled};
 ghost use Rattle.book.specs.Account.{fileAnswer};
 ghost use Rattle.book.specs.Left.{fileLeft};
-ghost use Rattle.book.specs.Reached.{Reached, Given};
+ghost use Rattle.book.specs.InWords.{GivenWords};
+ghost use Rattle.layout.specs.WellFormed.{WellFormed};
 
 // How many calls a settlement made.
 fn calls_of(answer: Settled) -> u64
@@ -97,149 +97,97 @@ fn run_if_admitted(file: File, today: Day) -> FileAnnual
     }
 }
 
-impl Book {
-    // Admits a participant with a role.
-    pub fn admit(mut self, participant: u64, role: u64) -> BookOutcome
-        requires { ⌜ Reached self ⌝ }
-        ensures { λ r. ⌜ Given self (on participant (admit role)) (outcomeSays (r .answer)) (r .book) ⌝ }
-    {
-        if 63 < participant {
-            return BookOutcome {
-                answer: Outcome::Refused(1),
-                book: self,
-            };
-        }
-        let at = participant as usize;
-        let file = self.files[at];
-        if file.admitted {
-            return BookOutcome {
-                answer: Outcome::Refused(3),
-                book: self,
-            };
-        }
-        if 5 < role {
-            return BookOutcome {
-                answer: Outcome::Refused(4),
-                book: self,
-            };
-        }
-        let today = self.today;
-        let admitted = File::admitted(role, today);
-        self.made += admitted.count as u64;
-        self.files[at] = admitted;
-        BookOutcome {
-            answer: Outcome::Done,
-            book: self,
-        }
+// Admits a participant with a role.
+pub fn admit(words: &mut [u64], participant: u64, role: u64) -> Outcome
+    requires { ⌜ WellFormed (now words) ⌝ }
+    ensures { λ r. ⌜ GivenWords (now (words .entry)) (on participant (admit role)) (outcomeSays r) (now (words .exit)) ⌝ }
+{
+    if 63 < participant {
+        return Outcome::Refused(1);
     }
+    let at = 2 + 96 * participant as usize;
+    let admitted = flag(words[at + 1]);
+    if admitted {
+        return Outcome::Refused(3);
+    }
+    if 5 < role {
+        return Outcome::Refused(4);
+    }
+    let today = Day(number(words[1]));
+    let file = File::admitted(role, today);
+    let made = words[2] + file.count as u64;
+    put_file(words, at, file);
+    words[2] = made;
+    Outcome::Done
+}
 
-    // Lodges cash or a letter at a position of a participant's file.
-    pub fn lodge(mut self, participant: u64, position: u64, holding: Position) -> BookOutcome
-        requires { ⌜ Reached self ⌝ }
-        ensures { λ r. ⌜ Given self (on participant (lodge position holding)) (outcomeSays (r .answer)) (r .book) ⌝ }
-    {
-        if 63 < participant {
-            return BookOutcome {
-                answer: Outcome::Refused(1),
-                book: self,
-            };
-        }
-        let at = participant as usize;
-        let file = self.files[at];
-        let today = self.today;
-        let lodged = lodged_if_admitted(file, today, position, holding);
-        let answer = lodged.answer;
-        let file = lodged.file;
-        self.files[at] = file;
-        BookOutcome { answer, book: self }
+// Lodges cash or a letter at a position of a participant's file.
+pub fn lodge(words: &mut [u64], participant: u64, position: u64, holding: Position) -> Outcome
+    requires { ⌜ WellFormed (now words) ⌝ }
+    ensures { λ r. ⌜ GivenWords (now (words .entry)) (on participant (lodge position holding)) (outcomeSays r) (now (words .exit)) ⌝ }
+{
+    if 63 < participant {
+        return Outcome::Refused(1);
     }
+    let at = 2 + 96 * participant as usize;
+    let today = Day(number(words[1]));
+    let file = file_at(words, at);
+    let lodged = lodged_if_admitted(file, today, position, holding);
+    let file = lodged.file;
+    put_file(words, at, file);
+    lodged.answer
+}
 
-    // Releases an amount at a position of a participant's file.
-    pub fn release(mut self, participant: u64, position: u64, amount: u64) -> BookOutcome
-        requires { ⌜ Reached self ⌝ }
-        ensures { λ r. ⌜ Given self (on participant (release position amount)) (outcomeSays (r .answer)) (r .book) ⌝ }
-    {
-        if 63 < participant {
-            return BookOutcome {
-                answer: Outcome::Refused(1),
-                book: self,
-            };
-        }
-        let at = participant as usize;
-        let file = self.files[at];
-        let today = self.today;
-        let released = released_if_admitted(file, today, position, amount);
-        let answer = released.answer;
-        let file = released.file;
-        self.files[at] = file;
-        BookOutcome { answer, book: self }
+// Releases an amount at a position of a participant's file.
+pub fn release(words: &mut [u64], participant: u64, position: u64, amount: u64) -> Outcome
+    requires { ⌜ WellFormed (now words) ⌝ }
+    ensures { λ r. ⌜ GivenWords (now (words .entry)) (on participant (release position amount)) (outcomeSays r) (now (words .exit)) ⌝ }
+{
+    if 63 < participant {
+        return Outcome::Refused(1);
     }
+    let at = 2 + 96 * participant as usize;
+    let today = Day(number(words[1]));
+    let file = file_at(words, at);
+    let released = released_if_admitted(file, today, position, amount);
+    let file = released.file;
+    put_file(words, at, file);
+    released.answer
+}
 
-    // Settles a month of a participant by its figures.
-    pub fn settle(mut self, participant: u64, month: Month, figures: &[i64]) -> BookSettled
-        requires { ⌜ Reached self ⌝ }
-        ensures { λ r. ⌜ Given self (on participant (settle (month .0) (now (figures .entry)))) (settledSays (r .answer)) (r .book) ⌝ }
-    {
-        if 63 < participant {
-            return BookSettled {
-                answer: Settled::Refused(1),
-                book: self,
-            };
-        }
-        let at = participant as usize;
-        let file = self.files[at];
-        let today = self.today;
-        let settled = settled_if_admitted(file, today, month, figures);
-        let answer = settled.answer;
-        let file = settled.file;
-        self.made += calls_of(answer);
-        self.files[at] = file;
-        BookSettled { answer, book: self }
+// Settles a month of a participant by its figures.
+pub fn settle(words: &mut [u64], participant: u64, month: Month, figures: &[i64]) -> Settled
+    requires { ⌜ WellFormed (now words) ⌝ }
+    ensures { λ r. ⌜ GivenWords (now (words .entry)) (on participant (settle (month .0) (now (figures .entry)))) (settledSays r) (now (words .exit)) ⌝ }
+{
+    if 63 < participant {
+        return Settled::Refused(1);
     }
+    let at = 2 + 96 * participant as usize;
+    let today = Day(number(words[1]));
+    let file = file_at(words, at);
+    let settled = settled_if_admitted(file, today, month, figures);
+    let answer = settled.answer;
+    let file = settled.file;
+    let made = words[2] + calls_of(answer);
+    put_file(words, at, file);
+    words[2] = made;
+    answer
+}
 
-    // Runs the annual calculation of a participant.
-    pub fn annual_run(mut self, participant: u64) -> BookAnnual
-        requires { ⌜ Reached self ⌝ }
-        ensures { λ r. ⌜ Given self (on participant annualRun) (annualSays (r .answer)) (r .book) ⌝ }
-    {
-        if 63 < participant {
-            return BookAnnual {
-                answer: AnnualRun::Refused(1),
-                book: self,
-            };
-        }
-        let at = participant as usize;
-        let file = self.files[at];
-        let today = self.today;
-        let ran = run_if_admitted(file, today);
-        let answer = ran.answer;
-        let file = ran.file;
-        self.files[at] = file;
-        BookAnnual { answer, book: self }
+// Runs the annual calculation of a participant.
+pub fn annual_run(words: &mut [u64], participant: u64) -> AnnualRun
+    requires { ⌜ WellFormed (now words) ⌝ }
+    ensures { λ r. ⌜ GivenWords (now (words .entry)) (on participant annualRun) (annualSays r) (now (words .exit)) ⌝ }
+{
+    if 63 < participant {
+        return AnnualRun::Refused(1);
     }
-
-    // The statement of a participant.
-    pub fn statement(self, participant: u64) -> Stated
-        requires { ⌜ Reached self ⌝ }
-        ensures { λ r. ⌜ Given self (statement participant) (statedSays r) self ⌝ }
-    {
-        if 63 < participant {
-            return Stated::Refused(1);
-        }
-        let at = participant as usize;
-        let file = self.files[at];
-        if !file.admitted {
-            return Stated::Refused(2);
-        }
-        let today = self.today;
-        Stated::Is(file.statement(today))
-    }
-
-    // The count of calls made.
-    pub fn calls_made(self) -> u64
-        requires { ⌜ Reached self ⌝ }
-        ensures { λ r. ⌜ Given self callsMade (counted r) self ⌝ }
-    {
-        self.made
-    }
+    let at = 2 + 96 * participant as usize;
+    let today = Day(number(words[1]));
+    let file = file_at(words, at);
+    let ran = run_if_admitted(file, today);
+    let file = ran.file;
+    put_file(words, at, file);
+    ran.answer
 }

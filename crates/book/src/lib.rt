@@ -1,21 +1,23 @@
-// The guarantee book: 64 files, today, and the count of calls made (paper 01, 'The calls').
-use calendar::Day;
-use file::AnnualRun;
-use file::File;
-use file::Outcome;
-use file::Settled;
+// The guarantee book, in lent words: 64 files, today, and the count of calls made (paper 01, 'The calls'). Crate `layout` says which words.
 use file::Statement;
 
-mod advance;
+mod begin;
 mod calls;
-mod fresh;
+mod days;
+mod questions;
 
-// The book. Participant P's file is at P of `files`.
-pub struct Book {
-    pub files: [File; 64],
-    pub today: Day,
-    pub made: u64,
-}
+pub use begin::fresh;
+pub use calls::admit;
+pub use calls::annual_run;
+pub use calls::lodge;
+pub use calls::release;
+pub use calls::settle;
+pub use days::advance;
+pub use questions::calls_made;
+pub use questions::is_admitted;
+pub use questions::role;
+pub use questions::statement;
+pub use questions::today;
 
 // What an advance answers: how many days it opened, or the number of its refusal.
 pub enum Advanced {
@@ -27,28 +29,4 @@ pub enum Advanced {
 pub enum Stated {
     Is(Statement),
     Refused(u32),
-}
-
-// A book beside the outcome of a fresh book, an admission, a lodging or a release.
-pub struct BookOutcome {
-    pub answer: Outcome,
-    pub book: Book,
-}
-
-// A book beside the answer of a settlement.
-pub struct BookSettled {
-    pub answer: Settled,
-    pub book: Book,
-}
-
-// A book beside the answer of an annual run.
-pub struct BookAnnual {
-    pub answer: AnnualRun,
-    pub book: Book,
-}
-
-// A book beside the answer of an advance.
-pub struct BookAdvanced {
-    pub answer: Advanced,
-    pub book: Book,
 }

@@ -3,3 +3,4 @@ pub mod Zigzag
 pub mod Backs
 pub mod Rows
 pub mod FileLaws
+pub mod BookLaws

@@ -1,6 +1,6 @@
 -- Which words are a book: those that a saved book must be before it is used.
 -- Assumes nothing.
-use Prim.Native.Nat.{ℕ, zero, _+_, _*_, _≤_}
+use Prim.Native.Nat.{ℕ, _+_, _*_, _≤_}
 use mathlib.Core.Path.{_≡_}
 use mathlib.Core.Bool.{false}
 use mathlib.Core.List.{List, [], _∷_}
@@ -21,10 +21,11 @@ openIn (f ∷ files) = f .count + openIn files
 abbrev pub BlankUnlessAdmitted : File → Type 0
 BlankUnlessAdmitted f = f .admitted ≡ false → f ≡ noFile
 
--- The bounds of a book's quantities: today lies in the calendar, each file is within its bounds today, and of the calls made those that
--- are no longer open ended on a day that was opened, at most four of each file on a day.
+-- The bounds of a book's quantities: today lies in the calendar, there are 64 files, each within its bounds today, and of the calls made
+-- those that are no longer open ended on a day that was opened, at most four of each file on a day.
 pub record SoundBook (b : Book) : Type 0 where
   pub day : b .today .0 ≤ 29219
+  pub many : length (b .files) ≡ 64
   pub files : All (Sound (b .today .0)) (b .files)
   pub blank : All BlankUnlessAdmitted (b .files)
   pub made : b .made ≤ 256 * b .today .0 + openIn (b .files)

@@ -18,15 +18,16 @@ use Rattle.file.specs.Answer.{Answer, refused, done, counted, decide, accepted,
 use Rattle.file.specs.Admit.{noFile, admittedFile}
 use Rattle.file.specs.Statement.{statementOf}
 use Rattle.file.specs.Sound.{Sound}
-use Rattle.book.specs.declared.Book.{Book}
+use Rattle.layout.specs.Book.{Book}
+use Rattle.layout.specs.WellFormed.{SoundBook}
 use Rattle.book.specs.Call.{Act, admit, lodge, release, settle, annualRun, Call, on, statement, callsMade, isCalled}
 use Rattle.book.specs.Account.{fileAt, withFile, ifNumbered, ifAdmitted, fileAnswer, answer, applied, step}
 use Rattle.book.specs.Left.{fileLeft}
-use Rattle.book.specs.Reached.{Reached, Given}
+use Rattle.book.specs.Reached.{Given}
 use Rattle.book.proofs.Participant.Decide.{decide-true, decide-false}
 use Rattle.book.proofs.Functions.OnFile.{above-answer, refused-left, known-answer, not-admitted, is-admitted, admitted-left, lodge-left, release-left, settle-left, annual-left}
 use Rattle.file.specs.KeepsPositions.{admitted-sound}
-use Rattle.book.proofs.Functions.SoundBook.{reached-sound, reached-made, sound-file}
+use Rattle.book.proofs.Functions.SoundBook.{sound-made, sound-file}
 use Rattle.book.proofs.History.Life.{given}
 
 -- An element within a list is the same whatever stands for those past its end.
@@ -41,21 +42,21 @@ unfolding fileAt
 file-read b p d f n h e = e ∙ getD-any (b .files) p d noFile (omega arith)
 
 -- Today lies in the calendar, and each file is sound.
-pub today-in : (b : Book) → Reached b → b .today .0 ≤ 29219
-today-in b r = reached-sound b r .day
+pub today-in : (b : Book) → SoundBook b → b .today .0 ≤ 29219
+today-in b s = s .day
 
-pub file-sound : (b : Book) (p : ℕ) (f : File) → Reached b → f ≡ fileAt b p → Sound (b .today .0) f
-file-sound b p f r e = subst (Sound (b .today .0)) (sym e) (sound-file b p (reached-sound b r))
+pub file-sound : (b : Book) (p : ℕ) (f : File) → SoundBook b → f ≡ fileAt b p → Sound (b .today .0) f
+file-sound b p f s e = subst (Sound (b .today .0)) (sym e) (sound-file b p s)
 
 -- A refused call: its number, and the book as it was.
-refusal : (b : Book) (c : Call) (n : ℕ) → Reached b → refused n ≡ answer b c → Given b c (refused n) b
-refusal b c n r e = given b c (refused n) b r e (refused-left b c n e)
+refusal : (b : Book) (c : Call) (n : ℕ) → refused n ≡ answer b c → Given b c (refused n) b
+refusal b c n e = given b c (refused n) b e (refused-left b c n e)
 
-pub above : (b : Book) (p : ℕ) (a : Act) → Reached b → 63 < p → Given b (on p a) (refused 1) b
-above b p a r h = refusal b (on p a) 1 r (above-answer b p a (lt-ltb 63 p h))
+pub above : (b : Book) (p : ℕ) (a : Act) → 63 < p → Given b (on p a) (refused 1) b
+above b p a h = refusal b (on p a) 1 (above-answer b p a (lt-ltb 63 p h))
 
 -- The calls on a participant's file, which is read from the book's array; d stands for what is past its end.
-module _ (b : Book) (p : ℕ) (d : File) (r : Reached b) (low : p ≤ 63) (long : length (b .files) ≡ 64) where
+module _ (b : Book) (p : ℕ) (d : File) (low : p ≤ 63) (long : length (b .files) ≡ 64) where
   -- The file.
   abbrev f : File
   f = getD (b .files) p d
@@ -63,8 +64,8 @@ module _ (b : Book) (p : ℕ) (d : File) (r : Reached b) (low : p ≤ 63) (long 
   same : f ≡ fileAt b p
   same = file-read b p d f long low refl
 
-  pub sound : Sound (b .today .0) (getD (b .files) p d)
-  sound = file-sound b p f r same
+  pub sound : SoundBook b → Sound (b .today .0) (getD (b .files) p d)
+  sound s = file-sound b p f s same
 
   numbered : ltb 63 p ≡ false
   numbered = le-ltb 63 p low
@@ -83,7 +84,7 @@ module _ (b : Book) (p : ℕ) (d : File) (r : Reached b) (low : p ≤ 63) (long 
   gave : (a : Act) (x : Answer) (n : ℕ) (g : File) (b′ : Book) → (x ≡ fileAnswer f (b .today .0) a) × (g ≡ fileLeft f (b .today .0) a)
       → b′ ≡ withFile b p g n → withFile b p (fileLeft (fileAt b p) (b .today .0) a) n ≡ step b (on p a) → Given b (on p a) x b′
   gave a x n g b′ both stored left =
-      given b (on p a) x b′ r
+      given b (on p a) x b′
       (known-answer b p a x numbered (both .0 ∙ ap (λ (z : File). fileAnswer z (b .today .0) a) same))
       (put b′ g (fileLeft (fileAt b p) (b .today .0) a) n (both .1 ∙ ap (λ (z : File). fileLeft z (b .today .0) a) same) stored ∙ left)
 
@@ -91,14 +92,14 @@ module _ (b : Book) (p : ℕ) (d : File) (r : Reached b) (low : p ≤ 63) (long 
   pub gave-admitted-already : (role : ℕ) → f .admitted ≡ true → Given b (on p (admit role)) (refused 3) b
   unfolding fileAnswer
   gave-admitted-already role e =
-      refusal b (on p (admit role)) 3 r
+      refusal b (on p (admit role)) 3
       (known-answer b p (admit role) (refused 3) numbered
       (sym (decide-true (record { number = 3; holds = fileAt b p .admitted }) _ done (known e))))
 
   pub gave-no-role : (role : ℕ) → f .admitted ≡ false → 5 < role → Given b (on p (admit role)) (refused 4) b
   unfolding fileAnswer
   gave-no-role role e h =
-      refusal b (on p (admit role)) 4 r
+      refusal b (on p (admit role)) 4
       (known-answer b p (admit role) (refused 4) numbered
       (sym (decide-false (record { number = 3; holds = fileAt b p .admitted }) (record { number = 4; holds = ltb 5 role } ∷ []) done (out e)
       ∙ decide-true (record { number = 4; holds = ltb 5 role }) [] done (lt-ltb 5 role h))))
@@ -115,17 +116,17 @@ module _ (b : Book) (p : ℕ) (d : File) (r : Reached b) (low : p ≤ 63) (long 
   unfolding admittedFile
   gave-admitted role g n b′ e h file number left =
       let a = admit-done role e h in
-      given b (on p (admit role)) done b′ r a
+      given b (on p (admit role)) done b′ a
       (put b′ g (admittedFile (b .today .0) role) n file left
       ∙ ap (withFile b p (admittedFile (b .today .0) role)) (number ∙ ap (λ (z : File). z .count) file)
       ∙ admitted-left b p role (ap accepted (sym a)))
 
 -- The statement.
-pub above-statement : (b : Book) (p : ℕ) → Reached b → 63 < p → Given b (statement p) (refused 1) b
+pub above-statement : (b : Book) (p : ℕ) → 63 < p → Given b (statement p) (refused 1) b
 unfolding answer ifNumbered
-above-statement b p r h = refusal b (statement p) 1 r (sym (decide-true (record { number = 1; holds = ltb 63 p }) [] _ (lt-ltb 63 p h)))
+above-statement b p h = refusal b (statement p) 1 (sym (decide-true (record { number = 1; holds = ltb 63 p }) [] _ (lt-ltb 63 p h)))
 
-module _ (b : Book) (p : ℕ) (d : File) (r : Reached b) (low : p ≤ 63) (long : length (b .files) ≡ 64) where
+module _ (b : Book) (p : ℕ) (d : File) (low : p ≤ 63) (long : length (b .files) ≡ 64) where
   at : getD (b .files) p d ≡ fileAt b p
   at = file-read b p d (getD (b .files) p d) long low refl
 
@@ -135,7 +136,7 @@ module _ (b : Book) (p : ℕ) (d : File) (r : Reached b) (low : p ≤ 63) (long 
 
   pub unknown-statement : getD (b .files) p d .admitted ≡ false → Given b (statement p) (refused 2) b
   unknown-statement e =
-      refusal b (statement p) 2 r
+      refusal b (statement p) 2
       (stated-by (refused 2) (not-admitted (fileAt b p) _ (sym (ap (λ (g : File). g .admitted) at) ∙ e)))
 
   same-book : b ≡ step b (statement p)
@@ -145,16 +146,16 @@ module _ (b : Book) (p : ℕ) (d : File) (r : Reached b) (low : p ≤ 63) (long 
   pub gave-statement : (st : Statement) → getD (b .files) p d .admitted ≡ true → st ≡ statementOf (getD (b .files) p d) (b .today .0)
       → Given b (statement p) (statementSays st) b
   gave-statement st e h =
-      given b (statement p) (statementSays st) b r
+      given b (statement p) (statementSays st) b
       (stated-by (statementSays st)
       (is-admitted (fileAt b p) _ (statementSays st) (sym (ap (λ (g : File). g .admitted) at) ∙ e)
       (ap statementSays (h ∙ ap (λ (z : File). statementOf z (b .today .0)) at))))
       same-book
 
 -- The count of calls made.
-pub gave-count : (b : Book) (n : ℕ) → Reached b → n ≡ b .made → Given b callsMade (counted n) b
+pub gave-count : (b : Book) (n : ℕ) → n ≡ b .made → Given b callsMade (counted n) b
 unfolding answer step applied
-gave-count b n r e = given b callsMade (counted n) b r (ap counted e) refl
+gave-count b n e = given b callsMade (counted n) b (ap counted e) refl
 
 -- ---- the same, as the code leaves the book
 
@@ -170,7 +171,7 @@ stored-more : (b : Book) (p : ℕ) (g : File) (n : ℕ) → storedIn b p g (b .m
 unfolding withFile
 stored-more b p g n = refl
 
-module _ (b : Book) (p : ℕ) (d : File) (r : Reached b) (low : p ≤ 63) (long : length (b .files) ≡ 64) where
+module _ (b : Book) (p : ℕ) (d : File) (low : p ≤ 63) (long : length (b .files) ≡ 64) where
   -- The file, as the array holds it.
   abbrev held : File
   held = getD (b .files) p d
@@ -178,17 +179,17 @@ module _ (b : Book) (p : ℕ) (d : File) (r : Reached b) (low : p ≤ 63) (long 
   pub left-lodge : (k : ℕ) (h : Position) (x : Answer) (g : File)
       → x ≡ fileAnswer held (b .today .0) (lodge k h) → g ≡ fileLeft held (b .today .0) (lodge k h)
       → Given b (on p (lodge k h)) x (storedIn b p g (b .made))
-  left-lodge k h x g e q = gave b p d r low long (lodge k h) x 0 g (storedIn b p g (b .made)) (e, q) (stored-none b p g) (lodge-left b p (le-ltb 63 p low) k h)
+  left-lodge k h x g e q = gave b p d low long (lodge k h) x 0 g (storedIn b p g (b .made)) (e, q) (stored-none b p g) (lodge-left b p (le-ltb 63 p low) k h)
 
   pub left-release : (k a : ℕ) (x : Answer) (g : File)
       → x ≡ fileAnswer held (b .today .0) (release k a) → g ≡ fileLeft held (b .today .0) (release k a)
       → Given b (on p (release k a)) x (storedIn b p g (b .made))
-  left-release k a x g e h = gave b p d r low long (release k a) x 0 g (storedIn b p g (b .made)) (e, h) (stored-none b p g) (release-left b p (le-ltb 63 p low) k a)
+  left-release k a x g e h = gave b p d low long (release k a) x 0 g (storedIn b p g (b .made)) (e, h) (stored-none b p g) (release-left b p (le-ltb 63 p low) k a)
 
   pub left-annual : (x : Answer) (g : File)
       → x ≡ fileAnswer held (b .today .0) annualRun → g ≡ fileLeft held (b .today .0) annualRun
       → Given b (on p annualRun) x (storedIn b p g (b .made))
-  left-annual x g e h = gave b p d r low long annualRun x 0 g (storedIn b p g (b .made)) (e, h) (stored-none b p g) (annual-left b p (le-ltb 63 p low))
+  left-annual x g e h = gave b p d low long annualRun x 0 g (storedIn b p g (b .made)) (e, h) (stored-none b p g) (annual-left b p (le-ltb 63 p low))
 
   pub left-settle : (m : ℕ) (figures : List ℤ) (x : Answer) (n : ℕ) (g : File)
       → x ≡ fileAnswer held (b .today .0) (settle m figures) → g ≡ fileLeft held (b .today .0) (settle m figures)
@@ -199,18 +200,18 @@ module _ (b : Book) (p : ℕ) (d : File) (r : Reached b) (low : p ≤ 63) (long 
       let same = file-read b p d held long low refl in
       let count : n ≡ cond (isCalled (fileAnswer (fileAt b p) (b .today .0) a)) 1 0 =
       number ∙ ap (λ (y : Answer). cond (isCalled y) 1 0) (e ∙ ap (λ (z : File). fileAnswer z (b .today .0) a) same) in
-      gave b p d r low long a x n g (storedIn b p g (b .made + n)) (e, h) (stored-more b p g n)
+      gave b p d low long a x n g (storedIn b p g (b .made + n)) (e, h) (stored-more b p g n)
       (ap (withFile b p (fileLeft (fileAt b p) (b .today .0) a)) count ∙ settle-left b p (le-ltb 63 p low) m figures)
 
   pub left-admit : (role : ℕ) (g : File) → getD (b .files) p d .admitted ≡ false → role ≤ 5
       → g ≡ admittedFile (b .today .0) role
       → Given b (on p (admit role)) done (storedIn b p g (b .made + g .count))
   left-admit role g e h file =
-      gave-admitted b p d r low long role g (g .count) (storedIn b p g (b .made + g .count)) e h file refl (stored-more b p g (g .count))
+      gave-admitted b p d low long role g (g .count) (storedIn b p g (b .made + g .count)) e h file refl (stored-more b p g (g .count))
 
 -- The sums of the count fit their word.
-pub count-fits : (b : Book) (n : ℕ) → Reached b → n ≤ 4 → b .made + n < 18446744073709551616
-count-fits b n r h = let few = reached-made b r in omega arith
+pub count-fits : (b : Book) (n : ℕ) → SoundBook b → n ≤ 4 → b .made + n < 18446744073709551616
+count-fits b n s h = let few = sound-made b s in omega arith
 
 pub admission-few : (t role : ℕ) (g : File) → t ≤ 29219 → g ≡ admittedFile t role → g .count ≤ 4
 admission-few t role g h e = subst (λ (z : File). z .count ≤ 4) (sym e) (admitted-sound t role h .count)

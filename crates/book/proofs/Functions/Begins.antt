@@ -8,7 +8,7 @@ use mathlib.Core.List.{List, [], _∷_}
 use borrow.Author.Tests.{lt-ltb, le-ltb}
 use lib.Dec.{ltb}
 use Rattle.file.specs.Answer.{Answer, refused, done, decide, accepted}
-use Rattle.book.specs.declared.Book.{Book}
+use Rattle.layout.specs.Book.{Book}
 use Rattle.book.specs.Account.{freshBook, freshAnswer, freshBookBeside, run}
 use Rattle.book.specs.Reached.{Reached, Begun}
 use Rattle.book.proofs.Participant.Decide.{decide-true, decide-false}

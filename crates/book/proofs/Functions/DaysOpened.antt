@@ -17,14 +17,15 @@ use Rattle.file.specs.declared.File.{File}
 use Rattle.file.specs.Answer.{Answer, refused, opened, decide, accepted}
 use Rattle.file.specs.Sound.{Sound}
 use Rattle.file.specs.Opening.{openedFile}
-use Rattle.book.specs.declared.Book.{Book}
+use Rattle.layout.specs.Book.{Book}
+use Rattle.layout.specs.WellFormed.{SoundBook}
 use Rattle.book.specs.Call.{Call, advance}
 use Rattle.book.specs.Account.{openedIfAdmitted, openDay, openDays, answer, applied, step}
 use Rattle.book.specs.Opened.{filesOpened}
-use Rattle.book.specs.Reached.{Reached, Given}
+use Rattle.book.specs.Reached.{Given}
 use Rattle.book.proofs.Participant.Decide.{decide-true, decide-false}
 use Rattle.book.proofs.Functions.OnFile.{refused-left}
-use Rattle.book.proofs.Functions.SoundBook.{SoundBook, sound-opened, reached-sound}
+use Rattle.book.proofs.Functions.SoundBook.{sound-opened}
 use Rattle.book.proofs.History.Life.{given}
 
 -- ---- one file at an opening
@@ -155,11 +156,11 @@ unfolding answer
 late-answer b day budget e =
     sym (decide-true (record { number = 17; holds = ltb 29219 day || ltb day (b .today .0) }) [] (opened (min budget (day - b .today .0))) e)
 
-pub refused-outside : (b : Book) (day budget : ℕ) (outside : Bool) → Reached b → outside ≡ (ltb 29219 day || ltb day (b .today .0))
+pub refused-outside : (b : Book) (day budget : ℕ) (outside : Bool) → outside ≡ (ltb 29219 day || ltb day (b .today .0))
     → outside ≡ true → Given b (advance day budget) (refused 17) b
-refused-outside b day budget outside r e h =
+refused-outside b day budget outside e h =
     let x = late-answer b day budget (sym e ∙ h) in
-    given b (advance day budget) (refused 17) b r x (refused-left b (advance day budget) 17 x)
+    given b (advance day budget) (refused 17) b x (refused-left b (advance day budget) 17 x)
 
 -- The two halves of the test where it fails.
 pub outside-not : (day t : ℕ) (outside : Bool) → outside ≡ (ltb 29219 day || ltb day t) → outside ≡ false → (day ≤ 29219) × (t ≤ day)
@@ -177,15 +178,15 @@ opened-answer b day budget h k =
     neither : (ltb 29219 day || ltb day (b .today .0)) ≡ false
     neither = ap (λ (t : Bool). t || ltb day (b .today .0)) (le-ltb 29219 day h) ∙ le-ltb day (b .today .0) k
 
-pub gave-days : (b : Book) (day budget n : ℕ) (outside : Bool) (files : List File) → Reached b
+pub gave-days : (b : Book) (day budget n : ℕ) (outside : Bool) (files : List File)
     → outside ≡ (ltb 29219 day || ltb day (b .today .0)) → outside ≡ false
     → n ≡ min budget (day - b .today .0) → files ≡ filesOpened n (b .today .0) (b .files)
     → Given b (advance day budget) (opened n) (record { files = files; today = record { 0 = b .today .0 + n }; made = b .made })
 unfolding step applied
-gave-days b day budget n outside files r test h number all =
+gave-days b day budget n outside files test h number all =
     let within = outside-not day (b .today .0) outside test h in
     let e = opened-answer b day budget (within .0) (within .1) in
-    given b (advance day budget) (opened n) (record { files = files; today = record { 0 = b .today .0 + n }; made = b .made }) r
+    given b (advance day budget) (opened n) (record { files = files; today = record { 0 = b .today .0 + n }; made = b .made })
     (ap opened number ∙ e)
     ((λ i. record { files = all i; today = record { 0 = b .today .0 + n }; made = b .made })
     ∙ sym (days-opened n b)
@@ -193,8 +194,8 @@ gave-days b day budget n outside files r test h number all =
     ∙ ap (λ (x : Answer). cond (accepted x) (openDays (min budget (day - b .today .0)) b) b) e)
 
 -- What opening the days asks: the files are sound, and the days stay within the calendar.
-pub files-sound : (b : Book) → Reached b → All (Sound (b .today .0)) (b .files)
-files-sound b r = reached-sound b r .files
+pub files-sound : (b : Book) → SoundBook b → All (Sound (b .today .0)) (b .files)
+files-sound b s = s .files
 
 module _ (day t : ℕ) (outside : Bool) (test : outside ≡ (ltb 29219 day || ltb day t)) (h : outside ≡ false) where
   pub not-before : t ≤ day

@@ -21,7 +21,7 @@ use Rattle.file.specs.Settle.{settleAnswer, settledFile, settledAnswer, settlem
 use Rattle.calendar.specs.Civil.{monthOf}
 use Rattle.manual.specs.Figures.{sumOf}
 use Rattle.file.specs.Annual.{annualAnswer, annualFile}
-use Rattle.book.specs.declared.Book.{Book}
+use Rattle.layout.specs.Book.{Book}
 use Rattle.book.specs.Call.{Act, admit, lodge, release, settle, annualRun, Call, on, isCalled}
 use Rattle.book.specs.Account.{fileAt, withFile, ifNumbered, ifAdmitted, fileAnswer, fileAfter, callsAdded, answer, applied, step}
 use Rattle.book.specs.Left.{fileLeft}

@@ -1,37 +1,37 @@
--- Every file of a book that a fresh book and calls lead to is sound, and the count of calls made is bounded: what the public functions' proofs
--- take from `Reached`.
+-- A sound book stays sound under every call, and a fresh one is sound: so every book that a fresh book and calls lead to is.
 -- Assumes nothing.
 use Prim.Native.Nat.{ℕ, zero, suc, _+_, _-_, _*_, _≤_, _<_, min}
+use native.Mathlib.Nat.{add-zero}
 use native.Mathlib.Omega.{arith}
 use mathlib.Core.Path.{_≡_, refl, sym, ap, subst, _∙_}
-use mathlib.Core.Bool.{Bool, true, false, cond, _||_}
+use mathlib.Core.Bool.{Bool, true, false, cond, not, _||_}
 use mathlib.Core.List.{List, [], _∷_, map}
 use borrow.Author.Tests.{ltb-false}
 use lib.Dec.{ltb}
-use lib.ListN.{length, getD, set, replicate}
+use lib.IntN.{ℤ}
+use lib.ListN.{length, getD, set, replicate, length-append, length-set, length-map, length-replicate}
 use Rattle.laws.specs.Lists.{All, all-default, all-set, all-replicate, all-map}
-use Rattle.laws.specs.Cases.{split, cond-true, cond-false, or-first, or-second}
+use Rattle.laws.specs.Cases.{split, clash, cond-true, cond-false, or-first, or-second}
 use Rattle.file.specs.declared.File.{File}
-use Rattle.file.specs.Answer.{Answer, opened, accepted}
-use Rattle.file.specs.Admit.{noFile}
+use Rattle.file.specs.Answer.{Answer, refused, done, opened, Cause, decide, accepted}
+use Rattle.file.specs.Admit.{noFile, admittedFile}
+use Rattle.file.specs.Fields.{openCalls, withSlots, withTotals, withNext, setTo}
+use Rattle.file.specs.Position.{slotOf}
+use Rattle.file.specs.Lodge.{lodgeAnswer, lodgedFile}
+use Rattle.file.specs.Release.{slotsLeft, releaseAnswer, releasedFile}
+use Rattle.file.specs.Settle.{settleAnswer, settledFile, settlementCalls, callsSettled}
+use Rattle.file.specs.Annual.{annualAmountOf, annualAnswer, annualFile}
 use Rattle.file.specs.Opening.{openedFile}
 use Rattle.file.specs.Sound.{Sound}
 use Rattle.file.specs.DecideLaws.{none-holds}
 use Rattle.file.specs.KeepsPositions.{none-sound, admitted-sound, lodged-sound, released-sound}
-use Rattle.file.specs.KeepsCalls.{opened-sound, settled-sound, annual-sound}
-use Rattle.book.specs.declared.Book.{Book}
+use Rattle.file.specs.KeepsCalls.{open-count, opened-sound, settled-sound, annual-sound}
+use Rattle.layout.specs.Book.{Book}
+use Rattle.layout.specs.WellFormed.{openIn, BlankUnlessAdmitted, SoundBook}
 use Rattle.book.specs.Call.{Act, admit, lodge, release, settle, annualRun, Call, on, advance, statement, callsMade}
-use Rattle.book.specs.Account.{freshBook, fileAt, withFile, fileAfter, openedIfAdmitted, openDay, openDays, answer, applied, step, run}
-use Rattle.book.specs.Reading.Decisions.{cause, eventsOf}
+use Rattle.book.specs.Account.{freshBook, fileAt, withFile, ifNumbered, ifAdmitted, fileAnswer, fileAfter, callsAdded, openedIfAdmitted, openDay, openDays, answer, applied, step, run}
+use Rattle.book.specs.Reading.Decisions.{cause}
 use Rattle.book.specs.Reached.{Reached}
-use Rattle.book.proofs.History.Events.{lawful-events}
-use Rattle.book.proofs.History.Made.{all-within}
-use Rattle.book.proofs.History.Life.{life}
-
--- A book whose files are sound today.
-pub record SoundBook (b : Book) : Type 0 where
-  pub day : b .today .0 ≤ 29219
-  pub files : All (Sound (b .today .0)) (b .files)
 
 -- A participant's file in it.
 pub sound-file : (b : Book) (p : ℕ) → SoundBook b → Sound (b .today .0) (fileAt b p)
@@ -62,9 +62,112 @@ sound-opened t f h s =
     (λ e. rw (cond-true (f .admitted) (openedFile f (suc t)) f e) (opened-sound f t s h))
     (λ e. rw (cond-false (f .admitted) (openedFile f (suc t)) f e) (sound-later t f h s))
 
-fresh-sound : (d : ℕ) → d ≤ 29219 → SoundBook (freshBook d)
+-- ---- the open calls of all files
+
+-- a sound file has at most four
+pub open-few : (t : ℕ) (files : List File) → All (Sound t) files → openIn files ≤ 4 * length files
+unfolding openIn
+open-few t [] all = omega arith
+open-few t (f ∷ files) all = omega (arith, all .0 .count, open-few t files (all .1))
+
+-- one file is replaced by another with at least n more
+open-more : (files : List File) (p n : ℕ) (g : File) → p < length files → getD files p noFile .count + n ≤ g .count
+    → openIn files + n ≤ openIn (set files p g)
+unfolding openIn
+open-more [] p n g h k = absurd (omega arith)
+open-more (f ∷ files) zero n g h k = omega arith
+open-more (f ∷ files) (suc p) n g h k = omega (arith, open-more files p n g (omega arith) k)
+
+none-open : (n : ℕ) → openIn (replicate n noFile) ≡ 0
+unfolding openIn
+none-open zero = refl
+none-open (suc n) = omega (arith, none-open n)
+
+-- The count of calls made has room for another call.
+pub sound-made : (b : Book) → SoundBook b → b .made ≤ 7480320
+sound-made b s = omega (arith, s .made, s .day, s .many, open-few (b .today .0) (b .files) (s .files))
+
+-- ---- a fresh book
+
+pub fresh-sound : (d : ℕ) → d ≤ 29219 → SoundBook (freshBook d)
 unfolding freshBook
-fresh-sound d h = record { day = h; files = all-replicate (Sound d) 64 noFile (none-sound d h) }
+fresh-sound d h =
+    record {
+      day = h;
+      many = length-replicate 64 noFile;
+      files = all-replicate (Sound d) 64 noFile (none-sound d h);
+      blank = all-replicate BlankUnlessAdmitted 64 noFile (λ e. refl);
+      made = omega arith;
+    }
+
+-- ---- a call on a file
+
+-- An accepted call's answer is the one that stands behind its causes.
+through : (causes : List Cause) (x : Answer) → accepted (decide causes x) ≡ true → accepted x ≡ true
+unfolding decide
+through [] x e = e
+through (c ∷ causes) x e =
+    split (c .holds)
+    (λ h. clash {t = false} (sym (ap accepted (cond-true _ (refused (c .number)) (decide causes x) h)) ∙ e) refl)
+    (λ h. through causes x (sym (ap accepted (cond-false _ (refused (c .number)) (decide causes x) h)) ∙ e))
+
+-- .. so its participant is numbered, and admitted where it asks that.
+numbered : (p : ℕ) (x : Answer) → accepted (ifNumbered p x) ≡ true → p ≤ 63
+unfolding ifNumbered
+numbered p x e = ltb-false 63 p (none-holds (cause 1 (ltb 63 p) ∷ []) x e .0)
+
+behind-number : (p : ℕ) (x : Answer) → accepted (ifNumbered p x) ≡ true → accepted x ≡ true
+unfolding ifNumbered
+behind-number p x e = through (cause 1 (ltb 63 p) ∷ []) x e
+
+is-admitted : (f : File) (x : Answer) → accepted (ifAdmitted f x) ≡ true → f .admitted ≡ true
+unfolding ifAdmitted
+is-admitted f x e = not-not (f .admitted) (none-holds (cause 2 (not (f .admitted)) ∷ []) x e .0)
+  where
+    not-not : (b : Bool) → not b ≡ false → b ≡ true
+    not-not true e = refl
+    not-not false e = sym e
+
+behind-admitted : (f : File) (x : Answer) → accepted (ifAdmitted f x) ≡ true → accepted x ≡ true
+unfolding ifAdmitted
+behind-admitted f x e = through (cause 2 (not (f .admitted)) ∷ []) x e
+
+-- What both files have, either has.
+either : (P : File → Type 0) (c : Bool) (f g : File) → P f → P g → P (cond c f g)
+either P true f g p q = p
+either P false f g p q = q
+
+-- The file that an accepted call leaves is admitted, and has as many more open calls as were made.
+module _ (f : File) (t : ℕ) (s : Sound t f) (blank : BlankUnlessAdmitted f) where
+  abbrev Grown : ℕ → File → Type 0
+  Grown n g = (g .admitted ≡ true) × (f .count + n ≤ g .count)
+
+  kept : (c : Bool) (g : File) → f .admitted ≡ true → g .admitted ≡ f .admitted → g .count ≡ f .count → Grown 0 (cond c g f)
+  kept c g known e q = either (Grown 0) c g f (e ∙ known, omega arith) (known, omega arith)
+
+  settled-count : (m : ℕ) (figures : List ℤ) → length (callsSettled f t m figures) ≡ f .count + cond (settlementCalls f t m figures) 1 0
+  unfolding callsSettled
+  settled-count m figures =
+      split (settlementCalls f t m figures)
+      (λ e. rw e (length-append (openCalls f) _ ∙ ap (λ (n : ℕ). n + 1) (open-count f t s)))
+      (λ e. rw e (open-count f t s ∙ sym (add-zero (f .count))))
+
+  grown : (a : Act) → accepted (fileAnswer f t a) ≡ true → Grown (callsAdded f t a) (fileAfter f t a)
+  unfolding fileAnswer fileAfter callsAdded admittedFile lodgedFile releasedFile annualFile settledFile
+  grown (admit role) e = (refl, omega (arith, none))
+    where
+      none : f .count ≡ 0
+      none = ap (λ (g : File). g .count) (blank (none-holds (cause 3 (f .admitted) ∷ cause 4 (ltb 5 role) ∷ []) done e .0))
+  grown (lodge k h) e =
+      kept (accepted (lodgeAnswer f t k h)) (withSlots f (set (f .slots) k (slotOf h))) (is-admitted f (lodgeAnswer f t k h) e) refl refl
+  grown (release k a) e =
+      kept (accepted (releaseAnswer f t k a)) (withSlots f (slotsLeft f k a)) (is-admitted f (releaseAnswer f t k a) e) refl refl
+  grown (settle m figures) e =
+      let ok = behind-admitted f (settleAnswer f t m figures) e in
+      rw (cond-true (accepted (settleAnswer f t m figures)) (withTotals f _ (callsSettled f t m figures)) f ok)
+      (is-admitted f (settleAnswer f t m figures) e, omega (arith, settled-count m figures))
+  grown annualRun e =
+      kept (accepted (annualAnswer f t)) (withNext f (setTo (annualAmountOf f t))) (is-admitted f (annualAnswer f t) e) refl refl
 
 -- The file that a call leaves.
 after-sound : (f : File) (t : ℕ) (a : Act) → t ≤ 29219 → Sound t f → Sound t (fileAfter f t a)
@@ -76,17 +179,32 @@ after-sound f t (settle m figures) h s = settled-sound f t m figures s
 after-sound f t annualRun h s = annual-sound f t s
 
 -- The book after n days were opened.
+blank-opened : (d : ℕ) (f : File) → BlankUnlessAdmitted f → BlankUnlessAdmitted (openedIfAdmitted d f)
+unfolding openedIfAdmitted openedFile
+blank-opened d f blank =
+    split (f .admitted)
+    (λ e. rw (cond-true (f .admitted) (openedFile f d) f e) (λ n. clash e n))
+    (λ e. rw (cond-false (f .admitted) (openedFile f d) f e) blank)
+
+day-sound : (b : Book) → suc (b .today .0) ≤ 29219 → SoundBook b → SoundBook (openDay b)
+unfolding openDay
+day-sound b h s =
+    record {
+      day = h;
+      many = length-map (b .files) (openedIfAdmitted (suc (b .today .0))) ∙ s .many;
+      files = all-map (Sound (b .today .0)) (Sound (suc (b .today .0))) (openedIfAdmitted (suc (b .today .0))) (b .files)
+          (λ f k. sound-opened (b .today .0) f h k)
+          (s .files);
+      blank = all-map BlankUnlessAdmitted BlankUnlessAdmitted (openedIfAdmitted (suc (b .today .0))) (b .files)
+          (λ f k. blank-opened (suc (b .today .0)) f k)
+          (s .blank);
+      made = omega (arith, s .made, s .many, open-few (b .today .0) (b .files) (s .files));
+    }
+
 days-sound : (n : ℕ) (b : Book) → b .today .0 + n ≤ 29219 → SoundBook b → SoundBook (openDays n b)
 unfolding openDays openDay
 days-sound zero b h s = s
-days-sound (suc n) b h s =
-    days-sound n (openDay b) (omega arith)
-    (record {
-      day = omega arith;
-      files = all-map (Sound (b .today .0)) (Sound (suc (b .today .0))) (openedIfAdmitted (suc (b .today .0))) (b .files)
-          (λ f k. sound-opened (b .today .0) f (omega arith) k)
-          (s .files);
-    })
+days-sound (suc n) b h s = days-sound n (openDay b) (omega arith) (day-sound b (omega arith) s)
 
 -- The days that an accepted advance opens.
 within : (b : Book) (day budget : ℕ) → accepted (answer b (advance day budget)) ≡ true → b .today .0 ≤ 29219
@@ -99,20 +217,26 @@ within b day budget e le =
     omega arith
 
 applied-sound : (b : Book) (c : Call) → accepted (answer b c) ≡ true → SoundBook b → SoundBook (applied b c)
-unfolding applied withFile
+unfolding answer applied withFile fileAt
 applied-sound b (on p a) e s =
+    let f = fileAt b p in
+    let t = b .today .0 in
+    let low = numbered p (fileAnswer f t a) e in
+    let more = grown f t (sound-file b p s) (all-default BlankUnlessAdmitted (b .files) p noFile (λ e. refl) (s .blank)) a
+    (behind-number p (fileAnswer f t a) e) in
     record {
       day = s .day;
-      files = all-set (Sound (b .today .0)) (b .files) p (fileAfter (fileAt b p) (b .today .0) a)
-          (after-sound (fileAt b p) (b .today .0) a (s .day) (sound-file b p s))
-          (s .files);
+      many = length-set (b .files) p (fileAfter f t a) ∙ s .many;
+      files = all-set (Sound t) (b .files) p (fileAfter f t a) (after-sound f t a (s .day) (sound-file b p s)) (s .files);
+      blank = all-set BlankUnlessAdmitted (b .files) p (fileAfter f t a) (λ n. clash (more .0) n) (s .blank);
+      made = omega (arith, s .made, open-more (b .files) p (callsAdded f t a) (fileAfter f t a) (omega (arith, s .many)) (more .1));
     }
 applied-sound b (advance day budget) e s =
     days-sound (min budget (day - b .today .0)) b (within b day budget e (s .day)) s
 applied-sound b (statement p) e s = s
 applied-sound b callsMade e s = s
 
-step-sound : (b : Book) (c : Call) → SoundBook b → SoundBook (step b c)
+pub step-sound : (b : Book) (c : Call) → SoundBook b → SoundBook (step b c)
 unfolding step
 step-sound b c s =
     split (accepted (answer b c))
@@ -127,11 +251,3 @@ run-sound s (c ∷ calls) h = step-sound (run s calls) c (run-sound s calls h)
 -- A reached book is sound.
 pub reached-sound : (b : Book) → Reached b → SoundBook b
 reached-sound b r = subst SoundBook (r .leads) (run-sound (r .start) (r .calls) (r .within))
-
--- .. and its count has room for another call.
-pub reached-made : (b : Book) → Reached b → b .made ≤ 7480320
-reached-made b r =
-    let made = life (r .start) (r .calls) (r .within) .made in
-    let few = all-within 64 (r .start) (eventsOf (r .start) (r .calls)) (lawful-events (r .start) (r .calls) (r .within)) in
-    let same = ap (λ (k : Book). k .made) (r .leads) in
-    omega arith

@@ -7,7 +7,7 @@ use mathlib.Core.Bool.{Bool, true, false, cond}
 use mathlib.Core.List.{List, [], _∷_}
 use Rattle.laws.specs.Cases.{split, cond-true, cond-false}
 use Rattle.file.specs.Answer.{accepted}
-use Rattle.book.specs.declared.Book.{Book}
+use Rattle.layout.specs.Book.{Book}
 use Rattle.book.specs.Call.{Call, on, advance, statement, callsMade}
 use Rattle.book.specs.Account.{openDay, openDays, answer, applied, step}
 use Rattle.book.specs.Life.{after, Advances, SameDays}

@@ -13,7 +13,7 @@ use Rattle.laws.specs.Cases.{split, cond-true, cond-false}
 use Rattle.file.specs.declared.File.{File}
 use Rattle.file.specs.Answer.{accepted}
 use Rattle.file.specs.Fields.{coverOf, shortfallOf}
-use Rattle.book.specs.declared.Book.{Book}
+use Rattle.layout.specs.Book.{Book}
 use Rattle.book.specs.Call.{Act, admit, lodge, release, settle, annualRun, Call, on, advance, statement, callsMade}
 use Rattle.book.specs.Account.{fileAt}
 use Rattle.book.specs.Reading.Events.{Event, did, Own, dayOpened, act, mine, todayOf, todayIn, withDays, admittedIn}

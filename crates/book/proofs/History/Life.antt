@@ -6,7 +6,7 @@ use mathlib.Core.Path.{_≡_, refl}
 use mathlib.Core.List.{List, [], _∷_}
 use lib.ListN.{length}
 use Rattle.file.specs.Answer.{Answer, decide}
-use Rattle.book.specs.declared.Book.{Book}
+use Rattle.layout.specs.Book.{Book}
 use Rattle.book.specs.Call.{Act, admit, lodge, release, settle, annualRun, Call}
 use Rattle.book.specs.Account.{fileAnswer, fileAfter, callsAdded, answer, step}
 use Rattle.book.specs.Reading.Events.{Own, act, todayIn}
@@ -88,5 +88,5 @@ pub life : (s : ℕ) (calls : List Call) → s ≤ 29219 → Life s calls
 life s calls h = Whole.whole parts s calls h
 
 -- What a public call gives, from its two equations.
-pub given : (b : Book) (c : Call) (x : Answer) (b′ : Book) → Reached b → x ≡ answer b c → b′ ≡ step b c → Given b c x b′
-given b c x b′ r answered left = Whole.given parts b c x b′ r answered left
+pub given : (b : Book) (c : Call) (x : Answer) (b′ : Book) → x ≡ answer b c → b′ ≡ step b c → Given b c x b′
+given b c x b′ answered left = Whole.given parts b c x b′ answered left

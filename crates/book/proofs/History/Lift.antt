@@ -17,7 +17,7 @@ use Rattle.file.specs.declared.File.{File}
 use Rattle.file.specs.Answer.{Answer, refused, opened, counted, Cause, decide, accepted, statementSays}
 use Rattle.file.specs.Admit.{noFile}
 use Rattle.file.specs.Statement.{statementOf}
-use Rattle.book.specs.declared.Book.{Book}
+use Rattle.layout.specs.Book.{Book}
 use Rattle.book.specs.Call.{Act, Call, on, advance, statement, callsMade}
 use Rattle.book.specs.Account.{freshBook, fileAt, withFile, ifNumbered, ifAdmitted, fileAnswer, fileAfter, callsAdded, openedIfAdmitted, openDay, openDays, answer, applied, step, run}
 use Rattle.book.specs.Reading.Events as E

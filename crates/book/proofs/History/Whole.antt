@@ -9,7 +9,7 @@ use Rattle.laws.specs.Cases.{split, cond-true, cond-false}
 use Rattle.file.specs.declared.File.{File}
 use Rattle.file.specs.Answer.{Answer, accepted}
 use Rattle.file.specs.Fields.{coverOf}
-use Rattle.book.specs.declared.Book.{Book}
+use Rattle.layout.specs.Book.{Book}
 use Rattle.book.specs.Call.{Call}
 use Rattle.book.specs.Account.{fileAt, answer, step, run}
 use Rattle.book.specs.Reading.Events.{Event, Own, dayOpened, act, mine, todayOf, todayIn, admittedIn}
@@ -122,14 +122,14 @@ module _ (parts : Parts) where
         today = today-is s calls h;
       }
 
-  -- A call on a reached book gives what its equations and the reading say.
-  pub given : (b : Book) (c : Call) (x : Answer) (b′ : Book) → Reached b → x ≡ answer b c → b′ ≡ step b c → Given b c x b′
+  -- A call gives what its equations and the reading say.
+  pub given : (b : Book) (c : Call) (x : Answer) (b′ : Book) → x ≡ answer b c → b′ ≡ step b c → Given b c x b′
   unfolding run
-  given b c x b′ r answered left =
+  given b c x b′ answered left =
       record {
         answered = answered;
         left = left;
-        reached =
+        reached = λ r.
             record {
               start = r .start;
               within = r .within;
