@@ -1,5 +1,6 @@
-// A benchmark of the book: one advance over the whole calendar for 64 participants, and mixed calls without and with advances. It writes
-// what was done; with an argument it makes ten times as many calls, and writes a sum of all answers and the processor time of each part too.
+// A benchmark of the book: one advance over the whole calendar for 64 participants, mixed calls without and with advances, and questions. It
+// writes what was done; with an argument it makes ten times as many calls and a hundred times as many questions, and writes a sum of all
+// answers and the processor time of each part too.
 use mixed::Plan;
 
 mod answers;
@@ -10,12 +11,7 @@ mod draws;
 mod mixed;
 mod output;
 mod participants;
-
-// A book beside the sum of what it answered.
-pub struct Bench {
-    pub book: book::Book,
-    pub sum: u64,
-}
+mod questions;
 
 fn main() {
     let timed = 1 < os::arg_count();
@@ -51,4 +47,6 @@ fn main() {
             days: 28,
         },
     );
+    let count = if timed { 10000000 } else { 100000 };
+    questions::run(timed, count);
 }

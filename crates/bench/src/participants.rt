@@ -1,11 +1,13 @@
 // A book with 64 participants that have letters.
 use crate::answers;
-use book::Book;
 use calendar::Day;
 use file::Position;
 use std::num::wrapping_add_u64;
 ghost use Prim.Native.Nat.{_<_, _≤_};
-ghost use Rattle.book.specs.Reached.{Reached};
+ghost use mathlib.Core.Path.{_≡_};
+ghost use lib.ListN.{length};
+ghost use Rattle.layout.specs.Words.{bookLength};
+ghost use Rattle.layout.specs.WellFormed.{WellFormed};
 
 // The letter at a position: the first four are in force for the whole calendar, the others lapse one after the other.
 fn letter(participant: u64, position: u64) -> Position
@@ -19,45 +21,41 @@ fn letter(participant: u64, position: u64) -> Position
     Position::Letter(amount, Day(0), Day(last as u32))
 }
 
-// The book with letters lodged at the first positions of a participant.
-fn with_letters(mut book: Book, participant: u64, letters: u64) -> Book
-    requires { ⌜ Reached book × (participant < 64) × (letters ≤ 8) ⌝ }
-    ensures { λ r. ⌜ Reached r ⌝ }
+// Lodges letters at the first positions of a participant.
+fn lodge_letters(book: &mut [u64], participant: u64, letters: u64)
+    requires { ⌜ WellFormed (now book) × (participant < 64) × (letters ≤ 8) ⌝ }
+    ensures { λ r. ⌜ WellFormed (now (book .exit)) ⌝ }
 {
     let mut position = 0;
     while position < letters {
-        let done = book.lodge(participant, position, letter(participant, position));
-        book = done.book;
+        let holding = letter(participant, position);
+        book::lodge(book, participant, position, holding);
         position += 1;
     }
-    book
 }
 
-// A fresh book of day 0 with every participant admitted, the roles in turn, and so many letters lodged for each.
-pub fn with_all(letters: u64) -> Book
-    requires { ⌜ letters ≤ 8 ⌝ }
-    ensures { λ r. ⌜ Reached r ⌝ }
+// Writes a fresh book of day 0 with every participant admitted, the roles in turn, and so many letters lodged for each.
+pub fn admit_all(book: &mut [u64], letters: u64)
+    requires { ⌜ (length (now book) ≡ bookLength) × (letters ≤ 8) ⌝ }
+    ensures { λ r. ⌜ WellFormed (now (book .exit)) ⌝ }
 {
-    let begun = Book::fresh(Day(0));
-    let mut book = begun.book;
+    book::fresh(book, Day(0));
     let mut participant = 0;
     while participant < 64 {
-        let done = book.admit(participant, participant % 6);
-        let admitted = done.book;
-        book = with_letters(admitted, participant, letters);
+        book::admit(book, participant, participant % 6);
+        lodge_letters(book, participant, letters);
         participant += 1;
     }
-    book
 }
 
 // The sum of the statements of all participants.
-pub fn statements(book: Book) -> u64
-    requires { ⌜ Reached book ⌝ }
+pub fn statements(book: &[u64]) -> u64
+    requires { ⌜ WellFormed (now book) ⌝ }
 {
     let mut sum = 0;
     let mut participant = 0;
     while participant < 64 {
-        let stated = answers::stated(book.statement(participant));
+        let stated = answers::stated(book::statement(book, participant));
         sum = wrapping_add_u64(sum, stated);
         participant += 1;
     }

@@ -1,4 +1,5 @@
-// The calls that name a participant (paper 01, 'The calls'): each takes one file out of the words, calls its method and puts it back.
+// The calls that name a participant (paper 01, 'The calls'): each takes one file out of the words, calls its method, and puts back what the
+// method changed.
 use calendar::Day;
 use calendar::Month;
 use file::AnnualRun;
@@ -9,19 +10,36 @@ use file::FileSettled;
 use file::Outcome;
 use file::Position;
 use file::Settled;
+use file::Slot;
 use layout::files::file_at;
 use layout::files::put_file;
+use layout::files::put_next;
 use layout::parts::flag;
 use layout::parts::number;
+use layout::parts::put_slot;
+use layout::parts::put_total;
 ghost use mathlib.Core.Path.{_≡_};
 ghost use mathlib.Core.Bool.{cond};
-ghost use Rattle.file.specs.Answer.{outcomeSays, settledSays, annualSays};
+ghost use Prim.Native.Nat.{_+_, _*_, _%_, _≤_};
+ghost use lib.ListN.{length, getD};
+ghost use Rattle.file.specs.declared.Position.the-variants.{Empty};
+ghost use Rattle.file.specs.Position.{slotOf};
+ghost use Rattle.file.specs.Totals.{noTotal};
+ghost use Rattle.layout.specs.Words.{fileIn, todayIn};
+ghost use Rattle.layout.specs.Parts.{totalWords, TotalBack, written};
+ghost use Rattle.file.specs.Answer.{accepted, outcomeSays, settledSays, annualSays};
 ghost use Rattle.file.specs.Sound.{Sound};
 ghost use Rattle.book.specs.Call.{admit, lodge, release, settle, annualRun, on, isCalled};
 ghost use Rattle.book.specs.Account.{fileAnswer};
 ghost use Rattle.book.specs.Left.{fileLeft};
 ghost use Rattle.book.specs.InWords.{GivenWords};
 ghost use Rattle.layout.specs.WellFormed.{WellFormed};
+
+// What a release answers, and the position that it leaves.
+struct SlotOutcome {
+    answer: Outcome,
+    slot: Slot,
+}
 
 // How many calls a settlement made.
 fn calls_of(answer: Settled) -> u64
@@ -32,6 +50,28 @@ fn calls_of(answer: Settled) -> u64
         Settled::Covered(_) => 0,
         Settled::Recorded(_) => 0,
         Settled::Refused(_) => 0,
+    }
+}
+
+// Whether an outcome is no refusal.
+fn is_done(answer: Outcome) -> bool
+    ensures { λ r. ⌜ r ≡ accepted (outcomeSays answer) ⌝ }
+{
+    match answer {
+        Outcome::Done => true,
+        Outcome::Refused(_) => false,
+    }
+}
+
+// Whether a settlement's answer is no refusal.
+fn is_settled(answer: Settled) -> bool
+    ensures { λ r. ⌜ r ≡ accepted (settledSays answer) ⌝ }
+{
+    match answer {
+        Settled::Called(_, _, _) => true,
+        Settled::Covered(_) => true,
+        Settled::Recorded(_) => true,
+        Settled::Refused(_) => false,
     }
 }
 
@@ -97,6 +137,18 @@ fn run_if_admitted(file: File, today: Day) -> FileAnnual
     }
 }
 
+// Writes a month's total, as a file has it.
+fn put_month(words: &mut [u64], at: usize, month: Month, file: File)
+    requires { ⌜ (at + 97 ≤ length (now words)) × (at ≤ 6050) ⌝ }
+    ensures { λ r. ⌜ (now (words .exit) ≡ written (now (words .entry)) (at + (49 + 3 * (month .0 % 16))) (totalWords (getD (file .totals) (month .0 % 16) noTotal)))
+        × TotalBack (getD (file .totals) (month .0 % 16) noTotal) ⌝ }
+{
+    let totals = file.totals;
+    let k = (month.0 % 16) as usize;
+    let total = totals[k];
+    put_total(words, at + (49 + 3 * k), total);
+}
+
 // Admits a participant with a role.
 pub fn admit(words: &mut [u64], participant: u64, role: u64) -> Outcome
     requires { ⌜ WellFormed (now words) ⌝ }
@@ -121,6 +173,17 @@ pub fn admit(words: &mut [u64], participant: u64, role: u64) -> Outcome
     Outcome::Done
 }
 
+// What a lodging on a participant's file answers.
+fn lodge_answer(words: &[u64], participant: u64, position: u64, holding: Position) -> Outcome
+    requires { ⌜ WellFormed (now words) × (participant ≤ 63) ⌝ }
+    ensures { λ r. ⌜ outcomeSays r ≡ fileAnswer (fileIn (now (words .entry)) participant) (todayIn (now (words .entry))) (lodge position holding) ⌝ }
+{
+    let today = Day(number(words[1]));
+    let file = file_at(words, 2 + 96 * participant as usize);
+    let lodged = lodged_if_admitted(file, today, position, holding);
+    lodged.answer
+}
+
 // Lodges cash or a letter at a position of a participant's file.
 pub fn lodge(words: &mut [u64], participant: u64, position: u64, holding: Position) -> Outcome
     requires { ⌜ WellFormed (now words) ⌝ }
@@ -129,13 +192,33 @@ pub fn lodge(words: &mut [u64], participant: u64, position: u64, holding: Positi
     if 63 < participant {
         return Outcome::Refused(1);
     }
-    let at = 2 + 96 * participant as usize;
+    let answer = lodge_answer(words, participant, position, holding);
+    if is_done(answer) {
+        let at = 2 + 96 * participant as usize;
+        let k = (position % 8) as usize; // which is `position`: a lodging elsewhere is refused
+        put_slot(words, at + (9 + 4 * k), Slot { position: holding });
+        return answer;
+    }
+    answer
+}
+
+// What a release on a participant's file answers, and the position that it leaves.
+fn release_outcome(words: &[u64], participant: u64, position: u64, amount: u64) -> SlotOutcome
+    requires { ⌜ WellFormed (now words) × (participant ≤ 63) ⌝ }
+    ensures { λ r. ⌜ (outcomeSays (r .answer) ≡ fileAnswer (fileIn (now (words .entry)) participant) (todayIn (now (words .entry))) (release position amount))
+        × (r .slot ≡ getD (fileLeft (fileIn (now (words .entry)) participant) (todayIn (now (words .entry))) (release position amount) .slots) (position % 8) (slotOf Empty)) ⌝ }
+{
     let today = Day(number(words[1]));
-    let file = file_at(words, at);
-    let lodged = lodged_if_admitted(file, today, position, holding);
-    let file = lodged.file;
-    put_file(words, at, file);
-    lodged.answer
+    let file = file_at(words, 2 + 96 * participant as usize);
+    let released = released_if_admitted(file, today, position, amount);
+    let answer = released.answer;
+    let file = released.file;
+    let slots = file.slots;
+    let at = (position % 8) as usize;
+    SlotOutcome {
+        answer,
+        slot: slots[at],
+    }
 }
 
 // Releases an amount at a position of a participant's file.
@@ -146,16 +229,31 @@ pub fn release(words: &mut [u64], participant: u64, position: u64, amount: u64) 
     if 63 < participant {
         return Outcome::Refused(1);
     }
-    let at = 2 + 96 * participant as usize;
-    let today = Day(number(words[1]));
-    let file = file_at(words, at);
-    let released = released_if_admitted(file, today, position, amount);
-    let file = released.file;
-    put_file(words, at, file);
-    released.answer
+    let released = release_outcome(words, participant, position, amount);
+    let answer = released.answer;
+    if is_done(answer) {
+        let at = 2 + 96 * participant as usize;
+        let k = (position % 8) as usize; // which is `position`: a release elsewhere is refused
+        let slot = released.slot;
+        put_slot(words, at + (9 + 4 * k), slot);
+        return answer;
+    }
+    answer
 }
 
-// Settles a month of a participant by its figures.
+// The settlement of a month on a participant's file.
+fn settle_outcome(words: &[u64], participant: u64, month: Month, figures: &[i64]) -> FileSettled
+    requires { ⌜ WellFormed (now words) × (participant ≤ 63) ⌝ }
+    ensures { λ r. ⌜ (settledSays (r .answer)
+        ≡ fileAnswer (fileIn (now (words .entry)) participant) (todayIn (now (words .entry))) (settle (month .0) (now (figures .entry))))
+        × (r .file ≡ fileLeft (fileIn (now (words .entry)) participant) (todayIn (now (words .entry))) (settle (month .0) (now (figures .entry)))) ⌝ }
+{
+    let today = Day(number(words[1]));
+    let file = file_at(words, 2 + 96 * participant as usize);
+    settled_if_admitted(file, today, month, figures)
+}
+
+// Settles a month of a participant by its figures: a call changes the file's calls besides the month's total, and the count.
 pub fn settle(words: &mut [u64], participant: u64, month: Month, figures: &[i64]) -> Settled
     requires { ⌜ WellFormed (now words) ⌝ }
     ensures { λ r. ⌜ GivenWords (now (words .entry)) (on participant (settle (month .0) (now (figures .entry)))) (settledSays r) (now (words .exit)) ⌝ }
@@ -163,16 +261,33 @@ pub fn settle(words: &mut [u64], participant: u64, month: Month, figures: &[i64]
     if 63 < participant {
         return Settled::Refused(1);
     }
-    let at = 2 + 96 * participant as usize;
-    let today = Day(number(words[1]));
-    let file = file_at(words, at);
-    let settled = settled_if_admitted(file, today, month, figures);
+    let settled = settle_outcome(words, participant, month, figures);
     let answer = settled.answer;
+    if !is_settled(answer) {
+        return answer;
+    }
+    let at = 2 + 96 * participant as usize;
     let file = settled.file;
-    let made = words[2] + calls_of(answer);
+    let calls = calls_of(answer);
+    if calls == 0 {
+        put_month(words, at, month, file);
+        return answer;
+    }
+    let made = words[2] + calls;
     put_file(words, at, file);
     words[2] = made;
     answer
+}
+
+// What an annual run on a participant's file answers.
+fn run_answer(words: &[u64], participant: u64) -> AnnualRun
+    requires { ⌜ WellFormed (now words) × (participant ≤ 63) ⌝ }
+    ensures { λ r. ⌜ annualSays r ≡ fileAnswer (fileIn (now (words .entry)) participant) (todayIn (now (words .entry))) annualRun ⌝ }
+{
+    let today = Day(number(words[1]));
+    let file = file_at(words, 2 + 96 * participant as usize);
+    let ran = run_if_admitted(file, today);
+    ran.answer
 }
 
 // Runs the annual calculation of a participant.
@@ -183,11 +298,11 @@ pub fn annual_run(words: &mut [u64], participant: u64) -> AnnualRun
     if 63 < participant {
         return AnnualRun::Refused(1);
     }
-    let at = 2 + 96 * participant as usize;
-    let today = Day(number(words[1]));
-    let file = file_at(words, at);
-    let ran = run_if_admitted(file, today);
-    let file = ran.file;
-    put_file(words, at, file);
-    ran.answer
+    match run_answer(words, participant) {
+        AnnualRun::Refused(cause) => AnnualRun::Refused(cause),
+        AnnualRun::Amount(amount, months) => {
+            put_next(words, 2 + 96 * participant as usize, amount);
+            AnnualRun::Amount(amount, months)
+        }
+    }
 }

@@ -2,9 +2,8 @@
 use crate::Stated;
 use calendar::Day;
 use file::Statement;
-use file::cover::cover;
 use file::cover::less_cover;
-use layout::files::slots;
+use layout::files::cover_at;
 use layout::parts::flag;
 use layout::parts::number;
 ghost use mathlib.Core.Path.{_≡_};
@@ -69,8 +68,7 @@ pub fn statement(words: &[u64], participant: u64) -> Stated
         return Stated::Refused(2);
     }
     let today = Day(number(words[1]));
-    let slots = slots(words, at);
-    let covered = cover(slots, today);
+    let covered = cover_at(words, at, today);
     let firm = words[at + 3];
     let shortfall = less_cover(firm, covered);
     Stated::Is(Statement {

@@ -16,7 +16,7 @@ fn day(number: u64) -> Day {
     }
 }
 
-// Has the book play the first `calls` calls of the words, and prints its answers.
+// Plays the first `calls` calls of the words on a fresh book, and prints its answers.
 fn answer(start: Day, words: &[u64; 2400], figures: &[i64; 4096], calls: usize)
     requires { ⌜ calls ≤ 400 ⌝ }
 {
@@ -24,7 +24,8 @@ fn answer(start: Day, words: &[u64; 2400], figures: &[i64; 4096], calls: usize)
     let all_words = &words[..];
     let all_figures = &figures[..];
     let mut out = [0i64; 2400];
-    replay::replay(start, &all_words[..end], all_figures, &mut out);
+    let mut book = [0u64; 6147];
+    replay::replay(start, &all_words[..end], all_figures, &mut out, &mut book);
     print::print_answers(&out, calls);
 }
 

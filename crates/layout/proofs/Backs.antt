@@ -5,7 +5,7 @@ use mathlib.Core.Path.{_≡_, refl, sym, ap, _∙_}
 use mathlib.Core.Bool.{Bool, true, false}
 use mathlib.Core.List.{List, [], _∷_}
 use native.Mathlib.Omega.{arith}
-use native.Mathlib.Numerals.{add-one, add-two, add-three}
+use native.Mathlib.Numerals.{add-one, add-two, add-three, add-five, add-six}
 use borrow.Author.Tests.{eq-eqb, ne-eqb}
 use lib.ListN.{length, set}
 use lib.IntN.{ℤ}
@@ -53,6 +53,10 @@ total-back t h = simp (number-back (t .month .0) h, flag-back (t .recorded), sig
 pub two-written : (l : List ℕ) (at a b : ℕ) → set (set l at a) (at + 1) b ≡ written l at (a ∷ b ∷ [])
 unfolding written
 two-written l at a b = simp add-one
+
+pub next-written : (l : List ℕ) (at a : ℕ) → set (set l (at + 5) 1) (at + 6) a ≡ written l (at + 5) (1 ∷ a ∷ [])
+unfolding written
+next-written l at a = simp (add-five, add-six)
 
 pub three-written : (l : List ℕ) (at a b c : ℕ) → set (set (set l at a) (at + 1) b) (at + 2) c ≡ written l at (a ∷ b ∷ c ∷ [])
 unfolding written

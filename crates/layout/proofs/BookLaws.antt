@@ -2,13 +2,13 @@
 -- Assumes nothing.
 use Prim.Native.Nat.{ℕ, zero, suc, _+_, _*_, _≤_, _<_}
 use mathlib.Core.Path.{_≡_, refl, sym, ap, subst, _∙_}
-use mathlib.Core.List.{List, [], _∷_, _++_, append-assoc}
+use mathlib.Core.List.{List, [], _∷_, _++_}
 use native.Mathlib.Nat.{mul-suc}
 use native.Mathlib.Omega.{arith}
 use borrow.Author.Tests.{ltb-true, ltb-false}
 use lib.Dec.{ltb}
-use lib.ListN.{length, getD, set, take, drop, replicate, length-append, replicate-append-replicate}
-use lib.Seq.{sets-eq, drop-at, take-append-add, drop-append-add, getD-set-same, getD-set-other}
+use lib.ListN.{length, getD, set, replicate, length-append, replicate-append-replicate}
+use lib.Seq.{getD-set-same, getD-set-other, set-getD}
 use Rattle.laws.specs.Cases.{split}
 use Rattle.laws.specs.Lists.{All, table}
 use Rattle.laws.specs.Tabulated.{length-table, getD-table, set-table-as, table-ext, replicate-table}
@@ -18,7 +18,7 @@ use Rattle.layout.specs.Parts.{numberOf, slotOfWords, callOfWords, total
 use Rattle.layout.specs.Files.{fileOfWords, slotsOfWords, callsOfWords, totalsOfWords, wordsAt, flat, fileWords, Put}
 use Rattle.layout.specs.Book.{Book}
 use Rattle.layout.specs.Words.{place, fileIn, todayIn, bookOfWords, bookWords}
-use Rattle.layout.proofs.Written.{length-written, written-before, written-behind}
+use Rattle.layout.proofs.Written.{length-written, written-before, written-behind, written-first, written-later}
 use Rattle.layout.proofs.Rows.{flat-length}
 use Rattle.layout.proofs.FileLaws.{file-ext}
 
@@ -110,25 +110,6 @@ today-book m d long h =
 
 -- ---- words that are those of their book stay so
 
--- parts of n words each, one of them replaced
-written-first : (us vs rest : List ℕ) → length us ≡ length vs → written (us ++ rest) 0 vs ≡ vs ++ rest
-unfolding written
-written-first us vs rest h =
-    sets-eq vs (us ++ rest) 0 (omega (arith, length-append us rest)) ∙ ap (λ (z : List ℕ). vs ++ z) (drop-at us rest (0 + length vs) (omega arith))
-
-written-later : (us vs rest : List ℕ) (k : ℕ) → k + length vs ≤ length rest
-    → written (us ++ rest) (length us + k) vs ≡ us ++ written rest k vs
-unfolding written
-written-later us vs rest k h =
-    let e : length us + k + length vs ≡ length us + (k + length vs) = omega arith in
-    sets-eq vs (us ++ rest) (length us + k) (omega (arith, length-append us rest))
-    ∙ ap (λ (j : ℕ). take (length us + k) (us ++ rest) ++ vs ++ drop j (us ++ rest)) e
-    ∙ ap (λ (z : List ℕ). take (length us + k) (us ++ rest) ++ vs ++ z) (drop-append-add us rest (k + length vs))
-    ∙ ap (λ (z : List ℕ). z ++ vs ++ drop (k + length vs) rest) (take-append-add us rest k)
-    ∙ ap (λ (z : List ℕ). z ++ drop (k + length vs) rest) (append-assoc us (take k rest) vs)
-    ∙ append-assoc us (take k rest ++ vs) (drop (k + length vs) rest)
-    ∙ ap (λ (z : List ℕ). us ++ z) (sym (sets-eq vs rest k h))
-
 -- the words of files, of 96 each
 abbrev Long : File → Type 0
 Long f = length (fileWords f) ≡ 96
@@ -182,6 +163,25 @@ canonical-put l m p g same low put =
     ∙ ap (λ (z : List ℕ). 1 ∷ b .today .0 ∷ b .made ∷ z)
     (sym (file-replaced (b .files) p g (files-long l) (omega arith) (put .long)))
     ∙ ap bookWords (sym (put-book l m p g low put))
+
+-- a file's words stand at its place
+pub words-stand : (l : List ℕ) (p : ℕ) → l ≡ bookWords (bookOfWords l) → p ≤ 63 → l ≡ written l (place p + 1) (fileWords (fileIn l p))
+unfolding bookWords
+words-stand l p same low =
+    let b = bookOfWords l in
+    let F = flat fileWords (b .files) in
+    let f = fileIn l p in
+    let at : 3 + 96 * p ≡ place p + 1 = omega arith in
+    let room = files-length (b .files) (files-long l) in
+    let many = book-long l in
+    let long = read-long (wordsAt l (place p)) in
+    let there : set (b .files) p f ≡ b .files = ap (set (b .files) p) (sym (book-file l p low)) ∙ set-getD (b .files) p noFile in
+    same
+    ∙ ap (λ (z : List File). 1 ∷ b .today .0 ∷ b .made ∷ flat fileWords z) (sym there)
+    ∙ ap (λ (z : List ℕ). 1 ∷ b .today .0 ∷ b .made ∷ z) (file-replaced (b .files) p f (files-long l) (omega arith) long)
+    ∙ sym (written-behind-head 1 (b .today .0) (b .made) F (fileWords f) (96 * p) (omega (arith, long)))
+    ∙ ap (λ (z : List ℕ). written z (3 + 96 * p) (fileWords f)) (sym same)
+    ∙ ap (λ (j : ℕ). written l j (fileWords f)) at
 
 -- another count
 pub canonical-made : (m : List ℕ) (n : ℕ) → m ≡ bookWords (bookOfWords m) → 3 ≤ length m

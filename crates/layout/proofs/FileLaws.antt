@@ -246,6 +246,21 @@ module _ (f : File) (eight : length (f .slots) ≡ 8) (four : length (f .calls) 
 
 -- ---- a file is put
 
+-- Words with a file's written behind a place: the file is read there.
+pub put-of : (f : File) (l m : List ℕ) (at : ℕ) → length (f .slots) ≡ 8 → length (f .calls) ≡ 4 → length (f .totals) ≡ 16
+    → All SlotBack (f .slots) → All CallBack (f .calls) → All TotalBack (f .totals) → at + 97 ≤ length l
+    → m ≡ written l (at + 1) (fileWords f) → Put l at f m
+put-of f l m at ls lc lt bs bc bt h e =
+    record {
+      stored = e;
+      long = file-long f ls lc lt bs bc bt;
+      back =
+          ap (λ (z : List ℕ). fileOfWords (wordsAt z at)) e
+          ∙ file-ext (wordsAt (written l (at + 1) (fileWords f)) at) (λ k. getD (0 ∷ fileWords f) k 0)
+          (λ k a b. placed f ls lc lt bs bc bt l at k h a b)
+          ∙ file-back f ls lc lt bs bc bt;
+    }
+
 pub put-is : (f : File) (l m n o p : List ℕ) (at : ℕ) → at + 97 ≤ length l → m ≡ written l (at + 1) (ownWords f)
     → PutRows slotWords SlotBack 8 (f .slots) m (at + 9) n
     → PutRows callWords CallBack 4 (f .calls) n (at + 41) o
@@ -258,23 +273,14 @@ put-is f l m n o p at h first s c t =
     let S = flat slotWords (f .slots) in
     let C = flat callWords (f .calls) in
     let O = flat totalWords (f .totals) in
-    let all : p ≡ written l (at + 1) (ownWords f ++ (S ++ (C ++ O))) =
-    t .stored
+    put-of f l p at (s .long) (c .long) (t .long) (s .backs) (c .backs) (t .backs) h
+    (t .stored
     ∙ ap (λ (z : List ℕ). written z (at + 49) O) (c .stored ∙ ap (λ (z : List ℕ). written z (at + 41) C) (s .stored))
     ∙ ap (λ (z : List ℕ). written z (at + 49) O) (written-next m (at + 9) (at + 41) S C (omega arith))
     ∙ written-next m (at + 9) (at + 49) (S ++ C) O (omega (arith, length-append S C))
     ∙ ap (λ (z : List ℕ). written m (at + 9) z) (append-assoc S C O)
     ∙ ap (λ (z : List ℕ). written z (at + 9) (S ++ (C ++ O))) first
-    ∙ written-next l (at + 1) (at + 9) (ownWords f) (S ++ (C ++ O)) (omega arith) in
-    record {
-      stored = all;
-      long = file-long f (s .long) (c .long) (t .long) (s .backs) (c .backs) (t .backs);
-      back =
-          ap (λ (z : List ℕ). fileOfWords (wordsAt z at)) all
-          ∙ file-ext (wordsAt (written l (at + 1) (fileWords f)) at) (λ k. getD (0 ∷ fileWords f) k 0)
-          (λ k a b. placed f (s .long) (c .long) (t .long) (s .backs) (c .backs) (t .backs) l at k h a b)
-          ∙ file-back f (s .long) (c .long) (t .long) (s .backs) (c .backs) (t .backs);
-    }
+    ∙ written-next l (at + 1) (at + 9) (ownWords f) (S ++ (C ++ O)) (omega arith))
 
 -- The words of its own.
 pub own-written : (l : List ℕ) (at a b c d e f g h a′ e′ : ℕ) → a′ ≡ a → e′ ≡ e

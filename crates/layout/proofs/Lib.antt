@@ -4,3 +4,5 @@ pub mod Backs
 pub mod Rows
 pub mod FileLaws
 pub mod BookLaws
+pub mod PartLaws
+pub mod CoverLaws

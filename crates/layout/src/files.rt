@@ -7,14 +7,21 @@ use crate::parts::put_slot;
 use crate::parts::put_total;
 use crate::parts::slot;
 use crate::parts::total;
+use calendar::Day;
 use file::File;
 use file::MonthTotal;
 use file::NextAmount;
 use file::OpenCall;
 use file::Slot;
+use file::cover::counts;
 ghost use mathlib.Core.Path.{_≡_};
 ghost use Prim.Native.Nat.{_+_, _≤_, _<_};
+ghost use mathlib.Core.List.{[], _∷_};
 ghost use lib.ListN.{length};
+ghost use Rattle.laws.specs.Lists.{All};
+ghost use Rattle.file.specs.declared.Slot.{Slot};
+ghost use Rattle.file.specs.Position.{coverOn};
+ghost use Rattle.file.specs.Sound.{SoundPosition};
 ghost use Rattle.layout.specs.Parts.{slotWords, callWords, totalWords, written, SlotBack, CallBack, TotalBack};
 ghost use Rattle.layout.specs.Files.{slotIn, callIn, totalIn, slotsOfWords, callsOfWords, totalsOfWords, fileOfWords, wordsAt, ownWords, Put, PutRows};
 
@@ -193,4 +200,29 @@ pub fn put_file(words: &mut [u64], at: usize, file: File)
     put_slots(words, at + 9, slots);
     put_calls(words, at + 41, calls);
     put_totals(words, at + 49, totals);
+}
+
+// Writes a next amount, set, of the file behind a place.
+pub fn put_next(words: &mut [u64], at: usize, amount: u64)
+    requires { ⌜ at + 97 ≤ length (now words) ⌝ }
+    ensures { λ r. ⌜ now (words .exit) ≡ written (now (words .entry)) (at + 5) (1 ∷ amount ∷ []) ⌝ }
+{
+    words[at + 5] = 1;
+    words[at + 6] = amount;
+}
+
+// What the positions of the file behind a place give on a day.
+pub fn cover_at(words: &[u64], at: usize, day: Day) -> u64
+    requires { ⌜ (at + 97 ≤ length (now words)) × All (λ (s : Slot). SoundPosition (s .position)) (slotsOfWords (wordsAt (now words) at)) ⌝ }
+    ensures { λ r. ⌜ r ≡ coverOn (day .0) (slotsOfWords (wordsAt (now (words .entry)) at)) ⌝ }
+{
+    let mut sum = 0;
+    let mut k = 0;
+    while k < 8 {
+        let slot = slot_at(words, at + (9 + 4 * k));
+        let position = slot.position;
+        sum += counts(position, day);
+        k += 1;
+    }
+    sum
 }

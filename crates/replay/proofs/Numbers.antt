@@ -1,6 +1,6 @@
 -- The numbers of an answer: a signed word holds each of them, and what is read back from it is the number.
 -- Assumes nothing.
-use Prim.Native.Nat.{ℕ, _-_, _≤_}
+use Prim.Native.Nat.{ℕ, _+_, _-_, _*_, _≤_}
 use native.Mathlib.Omega.{arith}
 use mathlib.Core.Path.{_≡_, sym, ap, subst, _∙_}
 use mathlib.Core.List.{List, [], _∷_}
@@ -18,7 +18,6 @@ use Rattle.manual.specs.Figures.{sumOf}
 use Rattle.manual.specs.Laws.{summed-total}
 use Rattle.file.specs.declared.File.{File}
 use Rattle.file.specs.Answer.{Answer, done, annual, opened, Cause, decide, statementSays}
-use Rattle.file.specs.Position.{slotOf}
 use Rattle.file.specs.Fields.{shortfallOf}
 use Rattle.file.specs.Totals.{totalAt}
 use Rattle.file.specs.TotalLaws.{totals-length}
@@ -30,20 +29,19 @@ use Rattle.file.specs.Statement.{statementOf}
 use Rattle.file.specs.Sound.{Sound}
 use Rattle.file.specs.KeepsPositions.{sound-cover}
 use Rattle.file.specs.KeepsCalls.{annual-bound}
-use Rattle.book.specs.declared.Book.{Book}
+use Rattle.layout.specs.Parts.{slotOfWords}
+use Rattle.layout.specs.Files.{slotsOfWords, fileOfWords, wordsAt}
+use Rattle.layout.specs.Words.{place, bookOfWords}
+use Rattle.layout.specs.WellFormed.{WellFormed}
 use Rattle.book.specs.Call.{Act, admit, lodge, release, settle, annualRun, Call, on, advance, statement, callsMade}
 use Rattle.book.specs.Account.{fileAt, ifNumbered, ifAdmitted, fileAnswer, daysToOpen, answer}
-use Rattle.book.specs.Reading.Events.{mine, todayOf}
-use Rattle.book.specs.Reading.Holdings.{positionIn}
-use Rattle.book.specs.Reading.Decisions.{eventsOf}
-use Rattle.book.specs.Kept.{fileIn}
 use Rattle.book.specs.Lawful.{NoneHolds}
-use Rattle.book.specs.Reached.{Reached, Given}
-use Rattle.replay.specs.Words.{largestSigned, six, WithinSigned}
+use Rattle.book.specs.Reached.{Given}
+use Rattle.book.specs.InWords.{GivenWords}
+use Rattle.replay.specs.Encoding.{largestSigned, six, WithinSigned}
 use Rattle.book.proofs.Participant.Decide.{decide-true, decide-false}
-use Rattle.book.proofs.History.Lift.{file-at}
-use Rattle.book.proofs.History.Life.{life}
-use Rattle.book.proofs.Functions.SoundBook.{sound-file, reached-sound, reached-made}
+use Rattle.book.proofs.Functions.SoundBook.{sound-file, sound-made}
+use Rattle.book.proofs.Functions.OnWords.{file-there}
 
 -- What a signed word that was made of a number reads.
 abbrev read : ℤ → ℤ
@@ -114,27 +112,31 @@ file-within f t (release k a) s = decide-within _ (releaseAnswer f t k a) (λ n.
 file-within f t (settle m figures) s = decide-within _ (settleAnswer f t m figures) (λ n. settle-within f t m figures)
 file-within f t annualRun s = decide-within _ (annualAnswer f t) (λ n. annual-within f t s)
 
--- A participant's file of a reached book has eight positions.
-eight : (b : Book) (p : ℕ) → Reached b → p ≤ 63 → length (fileAt b p .slots) ≡ 8
-unfolding fileIn
-eight b p r h =
-    let events = eventsOf (r .start) (r .calls) in
-    ap (λ (k : Book). length (fileAt k p .slots)) (sym (r .leads) ∙ life (r .start) (r .calls) (r .within) .kept)
-    ∙ ap (λ (f : File). length (f .slots)) (file-at (r .start) p events (omega arith))
-    ∙ length-table 8 (λ k. slotOf (positionIn (todayOf (r .start) events) k (mine p events)))
+-- A participant's file in words has eight positions.
+eight : (l : List ℕ) (p : ℕ) → p ≤ 63 → length (fileAt (bookOfWords l) p .slots) ≡ 8
+unfolding fileOfWords slotsOfWords
+eight l p h =
+    let w = wordsAt l (place p) in
+    ap (λ (f : File). length (f .slots)) (file-there l p h)
+    ∙ length-table 8 (λ k. slotOfWords (w (9 + 4 * k)) (w (10 + 4 * k)) (w (11 + 4 * k)) (w (12 + 4 * k)))
 
--- The numbers of every answer of a reached book are within.
-answer-within : (b : Book) (c : Call) → Reached b → WithinSigned (answer b c)
+-- The numbers of every answer of a book in well-formed words are within.
+answer-within : (l : List ℕ) (c : Call) → WellFormed l → WithinSigned (answer (bookOfWords l) c)
 unfolding answer ifNumbered ifAdmitted
-answer-within b (on p a) r =
-    decide-within _ (fileAnswer (fileAt b p) (b .today .0) a) (λ n. file-within (fileAt b p) (b .today .0) a (sound-file b p (reached-sound b r)))
-answer-within b (advance day budget) r = decide-within _ (opened (daysToOpen b day budget)) (λ n. tt)
-answer-within b (statement p) r =
+answer-within l (on p a) w =
+    let b = bookOfWords l in
+    decide-within _ (fileAnswer (fileAt b p) (b .today .0) a) (λ n. file-within (fileAt b p) (b .today .0) a (sound-file b p (w .sound)))
+answer-within l (advance day budget) w = decide-within _ (opened (daysToOpen (bookOfWords l) day budget)) (λ n. tt)
+answer-within l (statement p) w =
+    let b = bookOfWords l in
     decide-within _ (ifAdmitted (fileAt b p) (statementSays (statementOf (fileAt b p) (b .today .0))))
     (λ n. decide-within _ (statementSays (statementOf (fileAt b p) (b .today .0)))
-    (λ m. statement-within (fileAt b p) (b .today .0) (sound-file b p (reached-sound b r)) (eight b p r (ltb-false 63 p (n .0)))))
-answer-within b callsMade r = let few = reached-made b r in omega arith
+    (λ m. statement-within (fileAt b p) (b .today .0) (sound-file b p (w .sound)) (eight l p (ltb-false 63 p (n .0)))))
+answer-within l callsMade w = let few = sound-made (bookOfWords l) (w .sound) in omega arith
 
--- .. so those of what a public call gives are.
-pub given-within : (b : Book) (c : Call) (x : Answer) (b′ : Book) → Reached b → Given b c x b′ → WithinSigned x
-given-within b c x b′ r g = subst WithinSigned (sym (g .answered)) (answer-within b c r)
+-- .. so those of what a question or a call gives are.
+pub asked-within : (l : List ℕ) (c : Call) (x : Answer) → WellFormed l → Given (bookOfWords l) c x (bookOfWords l) → WithinSigned x
+asked-within l c x w g = subst WithinSigned (sym (g .answered)) (answer-within l c w)
+
+pub given-within : (l m : List ℕ) (c : Call) (x : Answer) → WellFormed l → GivenWords l c x m → WithinSigned x
+given-within l m c x w g = subst WithinSigned (sym (g .given .answered)) (answer-within l c w)

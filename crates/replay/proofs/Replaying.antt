@@ -18,23 +18,27 @@ use Rattle.laws.specs.Clipped.{take-clipped, drop-clipped}
 use Rattle.file.specs.declared.Position.{Position}
 use Rattle.file.specs.declared.Position.the-variants.{Cash, Letter}
 use Rattle.file.specs.Answer.{Answer, refused, done, called, covered, recorded, annual, opened, stated, counted, decide}
-use Rattle.book.specs.declared.Book.{Book}
+use Rattle.layout.specs.Book.{Book}
+use Rattle.layout.specs.Words.{bookLength, bookOfWords}
+use Rattle.layout.specs.WellFormed.{WellFormed}
 use Rattle.book.specs.Call.{admit, lodge, release, settle, annualRun, Call, on, advance, statement, callsMade}
 use Rattle.book.specs.Account.{freshBook, freshAnswer, freshBookBeside, answer, step, run}
 use Rattle.book.specs.Reading.Decisions.{decision, eventsOf}
-use Rattle.book.specs.Reached.{Reached, Given, Begun}
-use Rattle.replay.specs.Words.{number, letterOf, callOf, callAt, callsUpTo, numbersOf, decided}
+use Rattle.book.specs.Reached.{Given, Begun}
+use Rattle.book.specs.InWords.{GivenWords, BegunWords}
+use Rattle.replay.specs.Encoding.{number, letterOf, callOf, callAt, callsUpTo, numbersOf, decided}
 use Rattle.replay.specs.Replayed.{GivenNumbers, callCount, Replayed, ReplayedFrom}
 use Rattle.book.proofs.History.Life.{life, given}
 
 -- ---- the numbers of what a public call gives
 
-pub gave : (b : Book) (c : Call) (x : Answer) (b′ b″ : Book) (l : List ℤ) → Given b c x b′ → (l ≡ numbersOf x) × (b″ ≡ b′)
-    → GivenNumbers b c l b″
-gave b c x b′ b″ l g h = record { answered = h .0 ∙ ap numbersOf (g .answered); left = h .1 ∙ g .left }
+gave : (l m : List ℕ) (c : Call) (x : Answer) (z : List ℤ) → GivenWords l c x m → z ≡ numbersOf x → GivenNumbers l c z m
+gave l m c x z g h = record { answered = h ∙ ap numbersOf (g .given .answered); left = g .given .left; formed = g .formed }
 
-pub gave-beside : (b : Book) (c : Call) (x : Answer) (l : List ℤ) → Given b c x b → l ≡ numbersOf x → GivenNumbers b c l b
-gave-beside b c x l g h = gave b c x b b l g (h, refl)
+-- A question leaves the words as they were.
+asked : (l : List ℕ) (c : Call) (x : Answer) (z : List ℤ) → WellFormed l → Given (bookOfWords l) c x (bookOfWords l) → z ≡ numbersOf x
+    → GivenNumbers l c z l
+asked l c x z w g h = record { answered = h ∙ ap numbersOf (g .answered); left = g .left; formed = w }
 
 -- A letter is as its words say.
 pub letter-is : (a first last x y : ℕ) → x ≡ number first → y ≡ number last
@@ -52,65 +56,66 @@ part-is l from count start n p q =
 
 -- ---- which call the words are
 
-module _ (figures : List ℤ) (k a b c d e : ℕ) (book b′ : Book) (l : List ℤ) where
+module _ (figures : List ℤ) (k a b c d e : ℕ) (l : List ℕ) (z : List ℤ) where
   -- The call is this one.
-  is-call : (call : Call) → callOf figures k a b c d e ≡ call → GivenNumbers book call l b′
-      → GivenNumbers book (callOf figures k a b c d e) l b′
-  is-call call p g = subst (λ (z : Call). GivenNumbers book z l b′) (sym p) g
+  is-call : (m : List ℕ) (call : Call) → callOf figures k a b c d e ≡ call → GivenNumbers l call z m
+      → GivenNumbers l (callOf figures k a b c d e) z m
+  is-call m call p g = subst (λ (y : Call). GivenNumbers l y z m) (sym p) g
 
   -- A kind below 8 is the named one.
-  of-kind : (n : ℕ) (call : Call) → k ≡ n → callOf figures n a b c d e ≡ call → GivenNumbers book call l b′
-      → GivenNumbers book (callOf figures k a b c d e) l b′
-  of-kind n call p q g = is-call call (ap (λ (z : ℕ). callOf figures z a b c d e) p ∙ q) g
+  of-kind : (m : List ℕ) (n : ℕ) (call : Call) → k ≡ n → callOf figures n a b c d e ≡ call → GivenNumbers l call z m
+      → GivenNumbers l (callOf figures k a b c d e) z m
+  of-kind m n call p q g = is-call m call (ap (λ (y : ℕ). callOf figures y a b c d e) p ∙ q) g
 
-  module _ (x : Answer) (b″ : Book) (h : (l ≡ numbersOf x) × (b′ ≡ b″)) where
-    pub as-admit : k ≡ 0 → Given book (on a (admit b)) x b″ → GivenNumbers book (callOf figures k a b c d e) l b′
+  module _ (x : Answer) (m : List ℕ) (h : z ≡ numbersOf x) where
+    pub as-admit : k ≡ 0 → GivenWords l (on a (admit b)) x m → GivenNumbers l (callOf figures k a b c d e) z m
     unfolding callOf
-    as-admit p g = of-kind 0 (on a (admit b)) p refl (gave book (on a (admit b)) x b″ b′ l g h)
+    as-admit p g = of-kind m 0 (on a (admit b)) p refl (gave l m (on a (admit b)) x z g h)
 
-    pub as-cash : k ≡ 1 → Given book (on a (lodge b (Cash c))) x b″ → GivenNumbers book (callOf figures k a b c d e) l b′
+    pub as-cash : k ≡ 1 → GivenWords l (on a (lodge b (Cash c))) x m → GivenNumbers l (callOf figures k a b c d e) z m
     unfolding callOf
-    as-cash p g = of-kind 1 (on a (lodge b (Cash c))) p refl (gave book (on a (lodge b (Cash c))) x b″ b′ l g h)
+    as-cash p g = of-kind m 1 (on a (lodge b (Cash c))) p refl (gave l m (on a (lodge b (Cash c))) x z g h)
 
-    pub as-letter : (held : Position) → k ≡ 2 → held ≡ letterOf c d e → Given book (on a (lodge b held)) x b″
-        → GivenNumbers book (callOf figures k a b c d e) l b′
+    pub as-letter : (held : Position) → k ≡ 2 → held ≡ letterOf c d e → GivenWords l (on a (lodge b held)) x m
+        → GivenNumbers l (callOf figures k a b c d e) z m
     unfolding callOf
     as-letter held p q g =
-        of-kind 2 (on a (lodge b held)) p (ap (λ (z : Position). on a (lodge b z)) (sym q)) (gave book (on a (lodge b held)) x b″ b′ l g h)
+        of-kind m 2 (on a (lodge b held)) p (ap (λ (y : Position). on a (lodge b y)) (sym q)) (gave l m (on a (lodge b held)) x z g h)
 
-    pub as-release : k ≡ 3 → Given book (on a (release b c)) x b″ → GivenNumbers book (callOf figures k a b c d e) l b′
+    pub as-release : k ≡ 3 → GivenWords l (on a (release b c)) x m → GivenNumbers l (callOf figures k a b c d e) z m
     unfolding callOf
-    as-release p g = of-kind 3 (on a (release b c)) p refl (gave book (on a (release b c)) x b″ b′ l g h)
+    as-release p g = of-kind m 3 (on a (release b c)) p refl (gave l m (on a (release b c)) x z g h)
 
-    pub as-settle : (m : ℕ) (lent : List ℤ) → k ≡ 4 → m ≡ number b → lent ≡ take d (drop c figures)
-        → Given book (on a (settle m lent)) x b″ → GivenNumbers book (callOf figures k a b c d e) l b′
+    pub as-settle : (mo : ℕ) (lent : List ℤ) → k ≡ 4 → mo ≡ number b → lent ≡ take d (drop c figures)
+        → GivenWords l (on a (settle mo lent)) x m → GivenNumbers l (callOf figures k a b c d e) z m
     unfolding callOf
-    as-settle m lent p q r g =
-        of-kind 4 (on a (settle m lent)) p (ap₂ (λ (y : ℕ) (z : List ℤ). on a (settle y z)) (sym q) (sym r))
-        (gave book (on a (settle m lent)) x b″ b′ l g h)
+    as-settle mo lent p q r g =
+        of-kind m 4 (on a (settle mo lent)) p (ap₂ (λ (y : ℕ) (f : List ℤ). on a (settle y f)) (sym q) (sym r))
+        (gave l m (on a (settle mo lent)) x z g h)
 
-    pub as-annual : k ≡ 5 → Given book (on a annualRun) x b″ → GivenNumbers book (callOf figures k a b c d e) l b′
+    pub as-annual : k ≡ 5 → GivenWords l (on a annualRun) x m → GivenNumbers l (callOf figures k a b c d e) z m
     unfolding callOf
-    as-annual p g = of-kind 5 (on a annualRun) p refl (gave book (on a annualRun) x b″ b′ l g h)
+    as-annual p g = of-kind m 5 (on a annualRun) p refl (gave l m (on a annualRun) x z g h)
 
-    pub as-advance : (day : ℕ) → k ≡ 6 → day ≡ number a → Given book (advance day b) x b″
-        → GivenNumbers book (callOf figures k a b c d e) l b′
+    pub as-advance : (day : ℕ) → k ≡ 6 → day ≡ number a → GivenWords l (advance day b) x m
+        → GivenNumbers l (callOf figures k a b c d e) z m
     unfolding callOf
     as-advance day p q g =
-        of-kind 6 (advance day b) p (ap (λ (y : ℕ). advance y b) (sym q)) (gave book (advance day b) x b″ b′ l g h)
+        of-kind m 6 (advance day b) p (ap (λ (y : ℕ). advance y b) (sym q)) (gave l m (advance day b) x z g h)
 
-  pub as-statement : k ≡ 7 → GivenNumbers book (statement a) l b′ → GivenNumbers book (callOf figures k a b c d e) l b′
-  unfolding callOf
-  as-statement p g = of-kind 7 (statement a) p refl g
+  module _ (x : Answer) (w : WellFormed l) (h : z ≡ numbersOf x) where
+    pub as-statement : k ≡ 7 → Given (bookOfWords l) (statement a) x (bookOfWords l) → GivenNumbers l (callOf figures k a b c d e) z l
+    unfolding callOf
+    as-statement p g = of-kind l 7 (statement a) p refl (asked l (statement a) x z w g h)
 
-  -- A kind above 7.
-  pub as-count : (k ≡ 0 → ⊥) → (k ≡ 1 → ⊥) → (k ≡ 2 → ⊥) → (k ≡ 3 → ⊥) → (k ≡ 4 → ⊥) → (k ≡ 5 → ⊥) → (k ≡ 6 → ⊥) → (k ≡ 7 → ⊥)
-      → GivenNumbers book callsMade l b′ → GivenNumbers book (callOf figures k a b c d e) l b′
-  unfolding callOf
-  as-count n₀ n₁ n₂ n₃ n₄ n₅ n₆ n₇ g =
-      is-call callsMade
-      (simp (ne-eqb k 0 n₀, ne-eqb k 1 n₁, ne-eqb k 2 n₂, ne-eqb k 3 n₃, ne-eqb k 4 n₄, ne-eqb k 5 n₅, ne-eqb k 6 n₆, ne-eqb k 7 n₇))
-      g
+    -- A kind above 7.
+    pub as-count : (k ≡ 0 → ⊥) → (k ≡ 1 → ⊥) → (k ≡ 2 → ⊥) → (k ≡ 3 → ⊥) → (k ≡ 4 → ⊥) → (k ≡ 5 → ⊥) → (k ≡ 6 → ⊥) → (k ≡ 7 → ⊥)
+        → Given (bookOfWords l) callsMade x (bookOfWords l) → GivenNumbers l (callOf figures k a b c d e) z l
+    unfolding callOf
+    as-count n₀ n₁ n₂ n₃ n₄ n₅ n₆ n₇ g =
+        is-call l callsMade
+        (simp (ne-eqb k 0 n₀, ne-eqb k 1 n₁, ne-eqb k 2 n₂, ne-eqb k 3 n₃, ne-eqb k 4 n₄, ne-eqb k 5 n₅, ne-eqb k 6 n₆, ne-eqb k 7 n₇))
+        (asked l callsMade x z w g h)
 
 -- ---- six numbers are written
 
@@ -144,22 +149,23 @@ numbers-long (opened n) = refl
 numbers-long (stated f c s d a) = refl
 numbers-long (counted n) = refl
 
-decided-long : (s : ℕ) (words : List ℕ) (figures : List ℤ) (n : ℕ) → length (decided s words figures n) ≡ 6 * n
+decided-long : (s : ℕ) (calls : List ℕ) (figures : List ℤ) (n : ℕ) → length (decided s calls figures n) ≡ 6 * n
 unfolding decided
-decided-long s words figures zero = refl
-decided-long s words figures (suc n) =
-    let x = numbersOf (decision s (eventsOf s (callsUpTo words figures n)) (callAt words figures n)) in
-    let six = numbers-long (decision s (eventsOf s (callsUpTo words figures n)) (callAt words figures n)) in
-    omega (arith, length-append (decided s words figures n) x, decided-long s words figures n)
+decided-long s calls figures zero = refl
+decided-long s calls figures (suc n) =
+    let x = numbersOf (decision s (eventsOf s (callsUpTo calls figures n)) (callAt calls figures n)) in
+    let six = numbers-long (decision s (eventsOf s (callsUpTo calls figures n)) (callAt calls figures n)) in
+    omega (arith, length-append (decided s calls figures n) x, decided-long s calls figures n)
 
--- After i calls of `count` from a fresh book on day s: what was written and the book are those of the first i calls.
-pub record Turn (words : List ℕ) (figures out₀ : List ℤ) (s count i : ℕ) (out : List ℤ) (b : Book) : Type 0 where
+-- After i calls of `count` from a fresh book on day s: what was written and the book in the words m are those of the first i calls.
+pub record Turn (calls : List ℕ) (figures out₀ : List ℤ) (s count i : ℕ) (out : List ℤ) (m : List ℕ) : Type 0 where
   pub day : s ≤ 29219
-  pub all : count ≡ callCount words out₀
+  pub all : count ≡ callCount calls out₀
   pub made : i ≤ count
   pub long : length out ≡ length out₀
-  pub written : out ≡ decided s words figures i ++ drop (6 * i) out₀
-  pub left : b ≡ run s (callsUpTo words figures i)
+  pub written : out ≡ decided s calls figures i ++ drop (6 * i) out₀
+  pub left : bookOfWords m ≡ run s (callsUpTo calls figures i)
+  pub formed : WellFormed m
 
 -- A fresh book on a day of the calendar, and on a later one.
 begun-on : (d : ℕ) (x : Answer) (b : Book) → d ≤ 29219 → Begun d x b → b ≡ freshBook d
@@ -175,115 +181,134 @@ unfolding freshBook
 begun-today d x b h g = ap (λ (z : Book). z .today .0) (begun-on d x b h g)
 
 -- A refusal.
-pub turn-none : (words : List ℕ) (figures out : List ℤ) (d : ℕ) (x : Answer) (b : Book) → 29219 < d → Begun d x b
-    → ReplayedFrom d words figures out out x b
-turn-none words figures out d x b h g =
+pub turn-none : (calls : List ℕ) (figures out : List ℤ) (d : ℕ) (x : Answer) (m : List ℕ) → 29219 < d → BegunWords d x m
+    → ReplayedFrom d calls figures out out x m
+turn-none calls figures out d x m h g =
     record {
-      answered = g .answered;
+      answered = g .begun .answered;
       replayed = λ k. absurd (omega arith);
-      late = λ k. (refl, begun-late d x b h g);
+      late = λ k. (refl, begun-late d x (bookOfWords m) h (g .begun));
+      formed = g .formed;
     }
 
+-- A fresh book has as many words as were lent.
+pub begun-long : (d : ℕ) (x : Answer) (l m : List ℕ) → length l ≡ bookLength → BegunWords d x m → length m ≡ length l
+begun-long d x l m h g = g .formed .long ∙ sym h
+
+-- The day of the fresh book, as its words have it.
+abbrev pub firstDay : List ℕ → ℕ
+firstDay m = bookOfWords m .today .0
+
 -- No call yet.
-pub turn-first : (words : List ℕ) (figures out : List ℤ) (d count : ℕ) (x : Answer) (b : Book) → d ≤ 29219 → Begun d x b
-    → count ≡ min (length words / 6) (length out / 6) → Turn words figures out (b .today .0) count 0 out b
+pub turn-first : (calls : List ℕ) (figures out : List ℤ) (d count : ℕ) (x : Answer) (m : List ℕ) → d ≤ 29219 → BegunWords d x m
+    → count ≡ min (length calls / 6) (length out / 6) → Turn calls figures out (firstDay m) count 0 out m
 unfolding decided callsUpTo run
-turn-first words figures out d count x b h g e =
-    let t = begun-today d x b h g in
+turn-first calls figures out d count x m h g e =
+    let t = begun-today d x (bookOfWords m) h (g .begun) in
     record {
       day = omega arith;
       all = e;
       made = omega arith;
       long = refl;
       written = refl;
-      left = begun-on d x b h g ∙ ap freshBook (sym t);
+      left = begun-on d x (bookOfWords m) h (g .begun) ∙ ap freshBook (sym t);
+      formed = g .formed;
     }
 
-module _ (words : List ℕ) (figures out₀ : List ℤ) (s count i : ℕ) (out : List ℤ) (b : Book) (t : Turn words figures out₀ s count i out b) where
-  -- The book is reached.
-  pub turn-reached : Reached b
-  turn-reached = record { start = s; within = t .day; calls = callsUpTo words figures i; leads = sym (t .left) }
+module _ (calls : List ℕ) (figures out₀ : List ℤ) (s count i : ℕ) (out : List ℤ) (m : List ℕ) (t : Turn calls figures out₀ s count i out m) where
+  -- A call may be made on the words.
+  pub turn-formed : WellFormed m
+  turn-formed = t .formed
+
+  pub turn-long : (l : List ℕ) → length l ≡ bookLength → length m ≡ length l
+  turn-long l h = t .formed .long ∙ sym h
 
   -- The next call has its words, and room for its numbers.
-  pub turn-words : i < count → 6 * i + 6 ≤ length words
+  pub turn-words : i < count → 6 * i + 6 ≤ length calls
   turn-words h = omega (arith, t .all)
 
   pub turn-room : i < count → 6 * i + 6 ≤ length out
   turn-room h = omega (arith, t .all, t .long)
 
   -- Its answer is the reading's decision.
-  turn-decided : answer b (callAt words figures i) ≡ decision s (eventsOf s (callsUpTo words figures i)) (callAt words figures i)
+  turn-decided : answer (bookOfWords m) (callAt calls figures i) ≡ decision s (eventsOf s (callsUpTo calls figures i)) (callAt calls figures i)
   turn-decided =
-      given b (callAt words figures i) (answer b (callAt words figures i)) (step b (callAt words figures i)) turn-reached refl refl
-      .decided s (callsUpTo words figures i) (t .day) (sym (t .left))
+      given (bookOfWords m) (callAt calls figures i) (answer (bookOfWords m) (callAt calls figures i))
+      (step (bookOfWords m) (callAt calls figures i))
+      refl
+      refl
+      .decided s (callsUpTo calls figures i) (t .day) (sym (t .left))
 
   -- What was written stays, and what is behind the next six numbers.
-  turn-before : take (6 * i) out ≡ decided s words figures i
+  turn-before : take (6 * i) out ≡ decided s calls figures i
   turn-before =
       ap (take (6 * i)) (t .written)
-      ∙ take-at (decided s words figures i) (drop (6 * i) out₀) (6 * i) (decided-long s words figures i)
+      ∙ take-at (decided s calls figures i) (drop (6 * i) out₀) (6 * i) (decided-long s calls figures i)
 
   turn-behind : drop (6 * i + 6) out ≡ drop (6 * i + 6) out₀
   turn-behind =
       sym (drop-drop 6 (6 * i) out)
       ∙ ap (λ (l : List ℤ). drop 6 (drop (6 * i) l)) (t .written)
-      ∙ ap (drop 6) (drop-at (decided s words figures i) (drop (6 * i) out₀) (6 * i) (decided-long s words figures i))
+      ∙ ap (drop 6) (drop-at (decided s calls figures i) (drop (6 * i) out₀) (6 * i) (decided-long s calls figures i))
       ∙ drop-drop 6 (6 * i) out₀
 
   -- What is written after the next call.
-  turn-written : (l out′ : List ℤ) (b′ : Book) → GivenNumbers b (callAt words figures i) l b′
-      → out′ ≡ take (6 * i) out ++ l ++ drop (6 * i + 6) out → out′ ≡ decided s words figures (i + 1) ++ drop (6 * (i + 1)) out₀
+  turn-written : (l out′ : List ℤ) (m′ : List ℕ) → GivenNumbers m (callAt calls figures i) l m′
+      → out′ ≡ take (6 * i) out ++ l ++ drop (6 * i + 6) out → out′ ≡ decided s calls figures (i + 1) ++ drop (6 * (i + 1)) out₀
   unfolding decided
-  turn-written l out′ b′ g e =
+  turn-written l out′ m′ g e =
       let n : 6 * i + 6 ≡ 6 * (i + 1) = omega arith in
       e
       ∙ ap₂ (λ (x y : List ℤ). x ++ l ++ y) turn-before turn-behind
-      ∙ ap (λ (x : List ℤ). decided s words figures i ++ x ++ drop (6 * i + 6) out₀) (g .answered ∙ ap numbersOf turn-decided)
-      ∙ ap₂ (λ (m k : ℕ). decided s words figures m ++ drop k out₀) (sym (add-one i)) n
+      ∙ ap (λ (x : List ℤ). decided s calls figures i ++ x ++ drop (6 * i + 6) out₀) (g .answered ∙ ap numbersOf turn-decided)
+      ∙ ap₂ (λ (j k : ℕ). decided s calls figures j ++ drop k out₀) (sym (add-one i)) n
 
   -- One call more.
-  pub turn-next : (l out′ : List ℤ) (b′ : Book) → i < count → GivenNumbers b (callAt words figures i) l b′
-      → out′ ≡ take (6 * i) out ++ l ++ drop (6 * i + 6) out → Turn words figures out₀ s count (i + 1) out′ b′
+  pub turn-next : (l out′ : List ℤ) (m′ : List ℕ) → i < count → GivenNumbers m (callAt calls figures i) l m′
+      → out′ ≡ take (6 * i) out ++ l ++ drop (6 * i + 6) out → Turn calls figures out₀ s count (i + 1) out′ m′
   unfolding callsUpTo run
-  turn-next l out′ b′ h g e =
-      let w = turn-written l out′ b′ g e in
+  turn-next l out′ m′ h g e =
+      let w = turn-written l out′ m′ g e in
       record {
         day = t .day;
         all = t .all;
         made = omega arith;
         long =
             ap length w
-            ∙ length-append (decided s words figures (i + 1)) (drop (6 * (i + 1)) out₀)
-            ∙ omega (arith, decided-long s words figures (i + 1), length-drop (6 * (i + 1)) out₀, t .all);
+            ∙ length-append (decided s calls figures (i + 1)) (drop (6 * (i + 1)) out₀)
+            ∙ omega (arith, decided-long s calls figures (i + 1), length-drop (6 * (i + 1)) out₀, t .all);
         written = w;
         left =
             g .left
-            ∙ ap (λ (z : Book). step z (callAt words figures i)) (t .left)
-            ∙ ap (λ (n : ℕ). run s (callsUpTo words figures n)) (sym (add-one i));
+            ∙ ap (λ (z : Book). step z (callAt calls figures i)) (t .left)
+            ∙ ap (λ (n : ℕ). run s (callsUpTo calls figures n)) (sym (add-one i));
+        formed = g .formed;
       }
 
 -- All calls.
-turn-all : (words : List ℕ) (figures out₀ : List ℤ) (s count i : ℕ) (out : List ℤ) (b : Book) → Turn words figures out₀ s count i out b
-    → count ≤ i → Replayed s (callCount words out₀) words figures out₀ out b
-turn-all words figures out₀ s count i out b t h =
+turn-all : (calls : List ℕ) (figures out₀ : List ℤ) (s count i : ℕ) (out : List ℤ) (m : List ℕ) → Turn calls figures out₀ s count i out m
+    → count ≤ i → Replayed s (callCount calls out₀) calls figures out₀ out (bookOfWords m)
+turn-all calls figures out₀ s count i out m t h =
     let made = t .made in
     let n : i ≡ count = omega arith in
-    subst (λ (k : ℕ). Replayed s k words figures out₀ out b) (n ∙ t .all)
+    subst (λ (k : ℕ). Replayed s k calls figures out₀ out (bookOfWords m)) (n ∙ t .all)
     (record {
       written = t .written;
-      kept = t .left ∙ life s (callsUpTo words figures i) (t .day) .kept;
+      kept = t .left ∙ life s (callsUpTo calls figures i) (t .day) .kept;
       left = t .left;
-      life = life s (callsUpTo words figures i) (t .day);
-      reached = turn-reached words figures out₀ s count i out b t;
+      life = life s (callsUpTo calls figures i) (t .day);
+      reached = record { start = s; within = t .day; calls = callsUpTo calls figures i; leads = sym (t .left) };
     })
 
-pub turn-last : (words : List ℕ) (figures out₀ out : List ℤ) (d count i : ℕ) (x : Answer) (b₀ b : Book) → d ≤ 29219 → Begun d x b₀
-    → Turn words figures out₀ (b₀ .today .0) count i out b → count ≤ i → ReplayedFrom d words figures out₀ out x b
-turn-last words figures out₀ out d count i x b₀ b h g t k =
+pub turn-last : (calls : List ℕ) (figures out₀ out : List ℤ) (d count i : ℕ) (x : Answer) (m₀ m : List ℕ) → d ≤ 29219 → BegunWords d x m₀
+    → Turn calls figures out₀ (firstDay m₀) count i out m → count ≤ i → ReplayedFrom d calls figures out₀ out x m
+turn-last calls figures out₀ out d count i x m₀ m h g t k =
     record {
-      answered = g .answered;
+      answered = g .begun .answered;
       replayed = λ low.
-          subst (λ (s : ℕ). Replayed s (callCount words out₀) words figures out₀ out b) (begun-today d x b₀ h g)
-          (turn-all words figures out₀ (b₀ .today .0) count i out b t k);
+          subst (λ (s : ℕ). Replayed s (callCount calls out₀) calls figures out₀ out (bookOfWords m))
+          (begun-today d x (bookOfWords m₀) h (g .begun))
+          (turn-all calls figures out₀ (firstDay m₀) count i out m t k);
       late = λ high. absurd (omega arith);
+      formed = t .formed;
     }

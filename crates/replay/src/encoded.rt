@@ -10,7 +10,7 @@ ghost use Prim.Native.Nat.{_≤_};
 ghost use lib.IntN.{pos};
 ghost use Rattle.file.specs.Answer.{counted, outcomeSays, settledSays, annualSays, statementSays};
 ghost use Rattle.book.specs.Call.{advancedSays, statedSays};
-ghost use Rattle.replay.specs.Words.{largestSigned, six, numbersOf, WithinSigned};
+ghost use Rattle.replay.specs.Encoding.{largestSigned, six, numbersOf, WithinSigned};
 
 // A number of a signed word.
 fn signed(x: u64) -> i64

@@ -1,20 +1,20 @@
 // A list of calls given as words, from a fresh book on: the claim about a whole list of calls.
 use crate::apply;
-use book::Book;
-use book::BookOutcome;
 use calendar::Day;
+use file::Outcome;
 ghost use mathlib.Core.Path.{_≡_};
 ghost use mathlib.Core.List.{_++_};
 ghost use Prim.Native.Nat.{_+_, _/_, _≤_, min};
 ghost use lib.ListN.{length, take, drop};
 ghost use Rattle.file.specs.Answer.{outcomeSays};
+ghost use Rattle.layout.specs.Words.{bookLength};
 ghost use Rattle.replay.specs.Replayed.{ReplayedFrom};
 
 // How many calls have their six words, and room for their six numbers.
-fn call_count(words: usize, out: usize) -> usize
-    ensures { λ r. ⌜ r ≡ min (words / 6) (out / 6) ⌝ }
+fn call_count(calls: usize, out: usize) -> usize
+    ensures { λ r. ⌜ r ≡ min (calls / 6) (out / 6) ⌝ }
 {
-    let given = words / 6;
+    let given = calls / 6;
     let room = out / 6;
     if given <= room { given } else { room }
 }
@@ -31,25 +31,29 @@ fn put(out: &mut [i64], at: usize, numbers: [i64; 6])
     }
 }
 
-// Makes the calls in turn on a fresh book on a day, and writes the six numbers of each answer; says what the fresh book answered, and gives
-// the book at the end. Six words are a call; a settlement's figures are a part of `figures`.
-pub fn replay(start: Day, words: &[u64], figures: &[i64], out: &mut [i64]) -> BookOutcome
-    ensures { λ r. ⌜ ReplayedFrom (start .0) (now (words .entry)) (now (figures .entry)) (now (out .entry)) (now (out .exit)) (outcomeSays (r .answer)) (r .book) ⌝ }
+// Writes a fresh book on a day into lent words, makes the calls in turn on it, and writes the six numbers of each answer; says what the fresh
+// book answered, and leaves the book at the end. Six words are a call; a settlement's figures are a part of `figures`.
+pub fn replay(
+    start: Day,
+    calls: &[u64],
+    figures: &[i64],
+    out: &mut [i64],
+    book: &mut [u64],
+) -> Outcome
+    requires { ⌜ length (now book) ≡ bookLength ⌝ }
+    ensures { λ r. ⌜ ReplayedFrom (start .0) (now (calls .entry)) (now (figures .entry)) (now (out .entry)) (now (out .exit)) (outcomeSays r)
+        (now (book .exit)) ⌝ }
 {
-    let fresh = Book::fresh(start);
+    let answer = book::fresh(book, start);
     if 29219 < start.0 {
-        return fresh;
+        return answer;
     }
-    let answer = fresh.answer;
-    let mut book = fresh.book;
-    let count = call_count(words.len(), out.len());
+    let count = call_count(calls.len(), out.len());
     let mut i = 0;
     while i < count {
-        let applied = apply::apply_at(book, words, figures, i);
-        let numbers = applied.numbers;
+        let numbers = apply::apply_at(book, calls, figures, i);
         put(out, 6 * i, numbers);
-        book = applied.book;
         i += 1;
     }
-    BookOutcome { answer, book }
+    answer
 }

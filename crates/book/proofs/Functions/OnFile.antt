@@ -182,7 +182,7 @@ module _ (f : File) (t : ℕ) where
   known-annual x g e = known f t annualRun (annualAnswer f t) refl e (annual-refused f t) x g
 
   -- A settlement that isn't refused called where the manual's check calls.
-  called-is : (m : ℕ) (figures : List ℤ) → accepted (fileAnswer f t (settle m figures)) ≡ true
+  pub called-is : (m : ℕ) (figures : List ℤ) → accepted (fileAnswer f t (settle m figures)) ≡ true
       → isCalled (fileAnswer f t (settle m figures)) ≡ settlementCalls f t m figures
   unfolding fileAnswer ifAdmitted settleAnswer
   called-is m figures e =

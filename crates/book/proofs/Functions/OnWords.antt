@@ -1,38 +1,60 @@
 -- What each public call gives on words, from what it did: the participant's file taken out, its method's answer, and the file put back.
 -- Assumes nothing.
-use Prim.Native.Nat.{ℕ, zero, suc, _+_, _-_, _*_, _≤_, _<_}
+use Prim.Native.Nat.{ℕ, zero, suc, _+_, _-_, _*_, _%_, _≤_, _<_}
+use native.Mathlib.Nat.{add-zero}
 use native.Mathlib.Omega.{arith}
 use native.Mathlib.Numerals.{add-one}
 use mathlib.Core.Path.{_≡_, refl, sym, ap, subst, _∙_}
-use mathlib.Core.Bool.{Bool, true, false, cond}
+use mathlib.Core.Bool.{Bool, true, false, cond, not}
 use mathlib.Core.List.{List, [], _∷_, _++_, append-nil}
-use lib.IntN.{ℤ}
+use borrow.Author.Tests.{le-ltb, ltb-false}
+use lib.Dec.{ltb}
+use lib.IntN.{ℤ, natAbs}
+use lib.Seq.{getD-set-same}
 use lib.ListN.{length, getD, set, drop, replicate, length-set, length-replicate, drop-of-length-le, List·getD-eq-default}
+use Rattle.laws.specs.Cases.{cond-true, cond-false}
 use Rattle.laws.specs.Lists.{All}
+use Rattle.manual.specs.Figures.{sumOf}
 use Rattle.file.specs.declared.File.{File}
 use Rattle.file.specs.declared.Position.{Position}
+use Rattle.file.specs.declared.Position.the-variants.{Empty}
+use Rattle.file.specs.declared.MonthTotal.{MonthTotal}
+use Rattle.file.specs.declared.AnnualRun.{AnnualRun}
 use Rattle.file.specs.declared.Slot.{Slot}
 use Rattle.file.specs.declared.Statement.{Statement}
-use Rattle.file.specs.Answer.{Answer, refused, done, counted, accepted, statementSays}
+use Rattle.file.specs.Answer.{Answer, refused, done, called, covered, recorded, annual, opened, stated, counted, accepted, annualSays, statementSays}
 use Rattle.file.specs.Admit.{noFile, admittedFile}
-use Rattle.file.specs.Fields.{coverOf, shortfallOf}
-use Rattle.file.specs.Position.{coverOn}
+use Rattle.file.specs.Annual.{annualAmountOf, annualAnswer, annualFile}
+use Rattle.file.specs.Calls.{callOf}
+use Rattle.file.specs.DecideLaws.{none-holds}
+use Rattle.file.specs.Fields.{openCalls, coverOf, shortfallOf, withSlots, withTotals, withNext, setTo}
+use Rattle.file.specs.KeepsCalls.{open-count}
+use Rattle.file.specs.Lodge.{lodgeAnswer, lodgedFile}
+use Rattle.file.specs.Position.{coverOn, slotOf, positionAt, lessReleased}
+use Rattle.file.specs.Release.{slotsLeft, releaseAnswer, releasedFile}
+use Rattle.file.specs.Settle.{settleAnswer, settledFile, settlementCalls, callsSettled}
+use Rattle.file.specs.Totals.{noTotal, totalOf, withTotal}
 use Rattle.file.specs.Sound.{Sound, SoundPosition}
 use Rattle.file.specs.Statement.{statementOf}
 use Rattle.layout.specs.Book.{Book}
-use Rattle.layout.specs.Parts.{flagOf, numberOf}
-use Rattle.layout.specs.Files.{fileOfWords, slotsOfWords, wordsAt, Put}
+use Rattle.layout.specs.Parts.{flagOf, slotWords, totalWords, SlotBack, TotalBack, written}
+use Rattle.layout.specs.Files.{fileOfWords, slotsOfWords, totalsOfWords, wordsAt, Put}
 use Rattle.layout.specs.Words.{bookLength, place, fileIn, todayIn, bookOfWords, bookWords}
 use Rattle.layout.specs.WellFormed.{SoundBook, WellFormed}
 use Rattle.layout.proofs.BookLaws.{book-long, book-file, put-book, put-length, made-book, canonical-put, canonical-made, freshWords, fresh-words, canonical-fresh}
+use Rattle.layout.proofs.PartLaws.{withMonths, slot-put, total-put, next-put}
 use Rattle.book.specs.Call.{Act, admit, lodge, release, settle, annualRun, Call, on, statement, callsMade, isCalled}
-use Rattle.book.specs.Account.{fileAt, freshBook, fileAnswer, answer, step, applied}
+use Rattle.book.specs.Account.{fileAt, freshBook, ifAdmitted, fileAnswer, fileAfter, answer, step, applied}
+use Rattle.book.specs.Reading.Decisions.{cause}
 use Rattle.book.specs.Left.{fileLeft}
 use Rattle.book.specs.Reached.{Given, Begun}
 use Rattle.book.specs.InWords.{GivenWords, BegunWords}
 use Rattle.book.proofs.Functions.Answers.{storedIn, above, sound, left-lodge, left-release, left-annual, left-settle, left-admit, gave-admitted-already, gave-no-role, admission-few, settlement-few, count-fits, today-in, above-statement, unknown-statement, gave-statement, gave-count}
 use Rattle.book.proofs.Functions.Begins.{begun-refused, begun-done}
-use Rattle.book.proofs.Functions.SoundBook.{step-sound, fresh-sound}
+use Rattle.book.proofs.Functions.OnFile.{known-answer, called-is}
+use Rattle.book.proofs.Functions.SoundBook.{step-sound, fresh-sound, behind-admitted}
+use Rattle.book.proofs.Participant.Decide.{decide-accepted}
+use Rattle.book.proofs.History.Life.{given}
 
 -- ---- from the book to its words
 
@@ -80,7 +102,52 @@ admit-room l t role g w e h = room l (g .count) w (admission-few t role g (day-w
 pub settle-room : (l : List ℕ) (t : Bool) (n : ℕ) → WellFormed l → n ≡ cond t 1 0 → getD l 2 0 + n < 18446744073709551616
 settle-room l t n w e = room l n w (settlement-few t n e)
 
+-- A participant above 63 has none.
+pub none-there : (l : List ℕ) (p : ℕ) → 63 < p → fileAt (bookOfWords l) p ≡ noFile
+unfolding fileAt
+none-there l p h = List·getD-eq-default (bookOfWords l .files) noFile (omega (arith, book-long l))
+
+pub file-there : (l : List ℕ) (p : ℕ) → p ≤ 63 → fileAt (bookOfWords l) p ≡ fileIn l p
+unfolding fileAt
+file-there l p h = book-file l p h
+
+-- A file that is read has eight positions and sixteen month totals.
+file-slots : (l : List ℕ) (p : ℕ) → length (fileIn l p .slots) ≡ 8
+unfolding fileOfWords slotsOfWords
+file-slots l p = refl
+
+file-totals : (l : List ℕ) (p : ℕ) → length (fileIn l p .totals) ≡ 16
+unfolding fileOfWords totalsOfWords
+file-totals l p = refl
+
 -- ---- the calls on a participant's file
+
+-- A settlement's answer behind cause 2.
+admitted-answer : (f : File) (t m : ℕ) (figures : List ℤ) → accepted (fileAnswer f t (settle m figures)) ≡ true
+    → accepted (ifAdmitted f (settleAnswer f t m figures)) ≡ true
+unfolding fileAnswer
+admitted-answer f t m figures e = e
+
+-- What stands behind cause 2 is the answer.
+is-behind : (f : File) (x : Answer) → accepted (ifAdmitted f x) ≡ true → ifAdmitted f x ≡ x
+unfolding ifAdmitted
+is-behind f x e = decide-accepted (cause 2 (not (f .admitted)) ∷ []) x e
+
+no-call : (called : Bool) → _≡_ {A = ℕ} (cond called 1 0) 0 → called ≡ false
+no-call true e = absurd (omega (arith, e))
+no-call false e = refl
+
+-- The amount that an annual run answers.
+abbrev amountIn : Answer → ℕ
+amountIn (refused n) = 0
+amountIn done = 0
+amountIn (called e asked last) = 0
+amountIn (covered e) = 0
+amountIn (recorded e) = 0
+amountIn (annual a n) = a
+amountIn (opened n) = 0
+amountIn (stated f c s d a) = 0
+amountIn (counted n) = 0
 
 pub above-given : (l : List ℕ) (p : ℕ) (a : Act) → WellFormed l → 63 < p → GivenWords l (on p a) (refused 1) l
 above-given l p a w h = nothing-written l (on p a) (refused 1) w (above (bookOfWords l) p a h)
@@ -120,7 +187,7 @@ module _ (l : List ℕ) (p : ℕ) (w : WellFormed l) (low : p ≤ 63) where
         (length-set m 2 n ∙ put-length l m p g low put)
         (canonical-made m n (canonical-put l m p g (w .canonical) low put) (omega (arith, put-length l m p g low put, w .long)))
 
-    pub given-lodge : (k : ℕ) (h : Position) (x : Answer) → x ≡ fileAnswer f t (lodge k h) → g ≡ fileLeft f t (lodge k h)
+    given-lodge : (k : ℕ) (h : Position) (x : Answer) → x ≡ fileAnswer f t (lodge k h) → g ≡ fileLeft f t (lodge k h)
         → GivenWords l (on p (lodge k h)) x m
     unfolding bookOfWords
     given-lodge k h x a b =
@@ -128,7 +195,7 @@ module _ (l : List ℕ) (p : ℕ) (w : WellFormed l) (low : p ≤ 63) where
         (left-lodge (bookOfWords l) p noFile low (book-long l) k h x g
         (moved (λ z d. fileAnswer z d (lodge k h)) x a) (moved (λ z d. fileLeft z d (lodge k h)) g b))
 
-    pub given-release : (k n : ℕ) (x : Answer) → x ≡ fileAnswer f t (release k n) → g ≡ fileLeft f t (release k n)
+    given-release : (k n : ℕ) (x : Answer) → x ≡ fileAnswer f t (release k n) → g ≡ fileLeft f t (release k n)
         → GivenWords l (on p (release k n)) x m
     unfolding bookOfWords
     given-release k n x a b =
@@ -136,7 +203,7 @@ module _ (l : List ℕ) (p : ℕ) (w : WellFormed l) (low : p ≤ 63) where
         (left-release (bookOfWords l) p noFile low (book-long l) k n x g
         (moved (λ z d. fileAnswer z d (release k n)) x a) (moved (λ z d. fileLeft z d (release k n)) g b))
 
-    pub given-annual : (x : Answer) → x ≡ fileAnswer f t annualRun → g ≡ fileLeft f t annualRun → GivenWords l (on p annualRun) x m
+    given-annual : (x : Answer) → x ≡ fileAnswer f t annualRun → g ≡ fileLeft f t annualRun → GivenWords l (on p annualRun) x m
     unfolding bookOfWords
     given-annual x a b =
         one annualRun x
@@ -151,6 +218,172 @@ module _ (l : List ℕ) (p : ℕ) (w : WellFormed l) (low : p ≤ 63) where
         both (settle mo figures) x (getD l 2 0 + k)
         (left-settle (bookOfWords l) p noFile low (book-long l) mo figures x k g
         (moved (λ z d. fileAnswer z d (settle mo figures)) x a) (moved (λ z d. fileLeft z d (settle mo figures)) g b) c)
+
+    -- a settlement that made no call
+    given-settled : (mo : ℕ) (figures : List ℤ) (x : Answer) → x ≡ fileAnswer f t (settle mo figures) → g ≡ fileLeft f t (settle mo figures)
+        → _≡_ {A = ℕ} (cond (isCalled x) 1 0) 0 → GivenWords l (on p (settle mo figures)) x m
+    unfolding bookOfWords
+    given-settled mo figures x a b c =
+        one (settle mo figures) x
+        (subst (λ (n : ℕ). Given (bookOfWords l) (on p (settle mo figures)) x (storedIn (bookOfWords l) p g n)) (add-zero (getD l 2 0))
+        (left-settle (bookOfWords l) p noFile low (book-long l) mo figures x 0 g
+        (moved (λ z d. fileAnswer z d (settle mo figures)) x a) (moved (λ z d. fileLeft z d (settle mo figures)) g b) (sym c)))
+
+  -- a refused call writes nothing, and an accepted one what it changed
+  module _ where
+    abbrev f : File
+    f = fileIn l p
+
+    abbrev t : ℕ
+    t = todayIn l
+
+    pub given-refused : (a : Act) (x : Answer) (ok : Bool) → x ≡ fileAnswer f t a → ok ≡ accepted x → ok ≡ false → GivenWords l (on p a) x l
+    unfolding bookOfWords step
+    given-refused a x ok b r bad =
+        let is : x ≡ answer (bookOfWords l) (on p a) =
+        known-answer (bookOfWords l) p a x (le-ltb 63 p low) (b ∙ ap (λ (z : File). fileAnswer z t a) (sym (file-there l p low))) in
+        nothing-written l (on p a) x w
+        (given (bookOfWords l) (on p a) x (bookOfWords l) is
+        (sym (cond-false (accepted (answer (bookOfWords l) (on p a))) (applied (bookOfWords l) (on p a)) (bookOfWords l)
+        (ap accepted (sym is) ∙ sym r ∙ bad))))
+
+    -- the file that an accepted call leaves
+    after : (a : Act) (x : Answer) (ok : Bool) → x ≡ fileAnswer f t a → ok ≡ accepted x → ok ≡ true
+        → (accepted (fileAnswer f t a) ≡ true) × (fileLeft f t a ≡ fileAfter f t a)
+    unfolding fileLeft
+    after a x ok b r good =
+        let go : accepted (fileAnswer f t a) ≡ true = ap accepted (sym b) ∙ sym r ∙ good in
+        (go, cond-true (accepted (fileAnswer f t a)) (fileAfter f t a) f go)
+
+    -- a lodging is at one of eight places, and leaves what was lodged there
+    lodge-is : (k : ℕ) (h : Position) (x : Answer) (ok : Bool) → x ≡ fileAnswer f t (lodge k h) → ok ≡ accepted x → ok ≡ true
+        → (k ≤ 7) × (withSlots f (set (f .slots) k (slotOf h)) ≡ fileLeft f t (lodge k h))
+    unfolding fileAnswer fileAfter lodgeAnswer lodgedFile
+    lodge-is k h x ok b r good =
+        let go = after (lodge k h) x ok b r good in
+        let own = behind-admitted f (lodgeAnswer f t k h) (go .0) in (
+          ltb-false 7 k (none-holds _ done own .0),
+          sym (go .1 ∙ cond-true (accepted (lodgeAnswer f t k h)) (withSlots f (set (f .slots) k (slotOf h))) f own),
+        )
+
+    pub given-lodged : (m : List ℕ) (k : ℕ) (h : Position) (x : Answer) (ok : Bool) → x ≡ fileAnswer f t (lodge k h) → ok ≡ accepted x → ok ≡ true
+        → m ≡ written l (place p + (9 + 4 * (k % 8))) (slotWords (slotOf h)) → SlotBack (slotOf h) → GivenWords l (on p (lodge k h)) x m
+    given-lodged m k h x ok b r good stored back =
+        let is = lodge-is k h x ok b r good in
+        let at : k % 8 ≡ k = omega (arith, is .0) in
+        let put = slot-put l m p (w .canonical) (w .long) low k (slotOf h) (omega (arith, is .0)) back
+        (stored ∙ ap (λ (j : ℕ). written l (place p + (9 + 4 * j)) (slotWords (slotOf h))) at) in
+        given-lodge m f (withSlots f (set (f .slots) k (slotOf h))) t refl refl put k h x b (is .1)
+
+    -- a release is at one of eight places, and leaves there what its file has there
+    release-is : (k n : ℕ) (x : Answer) (ok : Bool) → x ≡ fileAnswer f t (release k n) → ok ≡ accepted x → ok ≡ true
+        → (k ≤ 7) × (fileLeft f t (release k n) ≡ withSlots f (slotsLeft f k n))
+    unfolding fileAnswer fileAfter releaseAnswer releasedFile
+    release-is k n x ok b r good =
+        let go = after (release k n) x ok b r good in
+        let own = behind-admitted f (releaseAnswer f t k n) (go .0) in (
+          ltb-false 7 k (none-holds _ done own .0),
+          go .1 ∙ cond-true (accepted (releaseAnswer f t k n)) (withSlots f (slotsLeft f k n)) f own,
+        )
+
+    slot-left : (k n : ℕ) (g : File) → k ≤ 7 → g ≡ withSlots f (slotsLeft f k n)
+        → withSlots f (set (f .slots) k (getD (g .slots) k (slotOf Empty))) ≡ g
+    unfolding slotsLeft
+    slot-left k n g h is =
+        ap (λ (z : Slot). withSlots f (set (f .slots) k z))
+        (ap (λ (z : File). getD (z .slots) k (slotOf Empty)) is
+        ∙ getD-set-same (f .slots) k (slotOf (lessReleased n (positionAt (f .slots) k))) (slotOf Empty) (omega (arith, eight)))
+        ∙ sym is
+      where
+        eight : length (f .slots) ≡ 8
+        eight = file-slots l p
+
+    pub given-released : (m : List ℕ) (k n : ℕ) (x : Answer) (ok : Bool) (s : Slot) → x ≡ fileAnswer f t (release k n)
+        → s ≡ getD (fileLeft f t (release k n) .slots) (k % 8) (slotOf Empty)
+        → ok ≡ accepted x → ok ≡ true → m ≡ written l (place p + (9 + 4 * (k % 8))) (slotWords s) → SlotBack s → GivenWords l (on p (release k n)) x m
+    given-released m k n x ok s b c r good stored back =
+        let is = release-is k n x ok b r good in
+        let g = fileLeft f t (release k n) in
+        let at : k % 8 ≡ k = omega (arith, is .0) in
+        let same : s ≡ getD (g .slots) k (slotOf Empty) = c ∙ ap (λ (j : ℕ). getD (g .slots) j (slotOf Empty)) at in
+        given-release m f (withSlots f (set (f .slots) k s)) t refl refl
+        (slot-put l m p (w .canonical) (w .long) low k s (omega (arith, is .0)) back
+        (stored ∙ ap (λ (j : ℕ). written l (place p + (9 + 4 * j)) (slotWords s)) at))
+        k n x b (ap (λ (z : Slot). withSlots f (set (f .slots) k z)) same ∙ slot-left k n g (is .0) (is .1))
+
+    -- a settlement that called nothing changes a month's total and no more
+    month-left : (mo : ℕ) (figures : List ℤ) (x : Answer) (ok : Bool) (n : ℕ) (g : File) → x ≡ fileAnswer f t (settle mo figures)
+        → g ≡ fileLeft f t (settle mo figures) → ok ≡ accepted x → ok ≡ true → n ≡ cond (isCalled x) 1 0 → n ≡ 0
+        → withMonths f (set (f .totals) (mo % 16) (getD (g .totals) (mo % 16) noTotal)) ≡ g
+    unfolding fileAfter settledFile callsSettled withTotal
+    month-left mo figures x ok n g b c r good number none =
+        let s = file-sound f t refl refl in
+        let go = after (settle mo figures) x ok b r good in
+        let own = behind-admitted f (settleAnswer f t mo figures) (admitted-answer f t mo figures (go .0)) in
+        let not : settlementCalls f t mo figures ≡ false =
+        sym (called-is f t mo figures (go .0)) ∙ ap isCalled (sym b) ∙ no-call (isCalled x) (sym number ∙ none) in
+        let T = totalOf mo (sumOf figures) in
+        let same : callsSettled f t mo figures ≡ openCalls f =
+        cond-false (settlementCalls f t mo figures) (openCalls f ++ (callOf (natAbs (sumOf figures)) (t + 10) ∷ [])) (openCalls f) not in
+        let is : g ≡ withMonths f (set (f .totals) (mo % 16) T) =
+        c
+        ∙ go .1
+        ∙ cond-true (accepted (settleAnswer f t mo figures)) (withTotals f (withTotal (f .totals) mo (sumOf figures)) (callsSettled f t mo figures)) f own
+        ∙ ap (withTotals f (set (f .totals) (mo % 16) T)) same
+        ∙ (λ i. record {
+          admitted = f .admitted;
+          role = f .role;
+          firm = f .firm;
+          slots = f .slots;
+          calls = sym (s .places) i;
+          count = open-count f t s i;
+          next = f .next;
+          totals = set (f .totals) (mo % 16) T;
+          charged = f .charged;
+          accrued = f .accrued;
+        }) in
+        ap (λ (z : MonthTotal). withMonths f (set (f .totals) (mo % 16) z))
+        (ap (λ (z : File). getD (z .totals) (mo % 16) noTotal) is
+        ∙ getD-set-same (f .totals) (mo % 16) T noTotal (omega (arith, sixteen)))
+        ∙ sym is
+      where
+        sixteen : length (f .totals) ≡ 16
+        sixteen = file-totals l p
+
+    -- .. and leaves that total
+    pub given-recorded : (m : List ℕ) (mo : ℕ) (figures : List ℤ) (x : Answer) (ok : Bool) (n : ℕ) (g : File)
+        → x ≡ fileAnswer f t (settle mo figures) → g ≡ fileLeft f t (settle mo figures) → ok ≡ accepted x → ok ≡ true
+        → n ≡ cond (isCalled x) 1 0 → n ≡ 0
+        → m ≡ written l (place p + (49 + 3 * (mo % 16))) (totalWords (getD (g .totals) (mo % 16) noTotal))
+        → TotalBack (getD (g .totals) (mo % 16) noTotal) → GivenWords l (on p (settle mo figures)) x m
+    given-recorded m mo figures x ok n g b c r good number none stored back =
+        let z = getD (g .totals) (mo % 16) noTotal in
+        let put = total-put l m p (w .canonical) (w .long) low (mo % 16) z (omega arith) back stored in
+        given-settled m f (withMonths f (set (f .totals) (mo % 16) z)) t refl refl put mo figures x b (month-left mo figures x ok n g b c r good number none ∙ c) (sym number ∙ none)
+
+    -- one that called leaves its file, and the count
+    pub given-called : (m : List ℕ) (mo : ℕ) (figures : List ℤ) (x : Answer) (g : File) (k : ℕ)
+        → x ≡ fileAnswer f t (settle mo figures) → g ≡ fileLeft f t (settle mo figures) → k ≡ cond (isCalled x) 1 0 → Put l (place p) g m
+        → GivenWords l (on p (settle mo figures)) x (set m 2 (getD l 2 0 + k))
+    given-called m mo figures x g k b c number put = given-settle m f g t refl refl put mo figures x k b c number
+
+    -- an annual run leaves the next amount
+    pub given-no-run : (r : AnnualRun) (n : ℕ) → annualSays r ≡ fileAnswer f t annualRun → r ≡ AnnualRun.Refused n
+        → GivenWords l (on p annualRun) (refused n) l
+    given-no-run r n b e = given-refused annualRun (refused n) false (ap annualSays (sym e) ∙ b) refl refl
+
+    pub given-run : (m : List ℕ) (r : AnnualRun) (a n : ℕ) → annualSays r ≡ fileAnswer f t annualRun → r ≡ AnnualRun.Amount a n
+        → m ≡ written l (place p + 5) (1 ∷ a ∷ []) → GivenWords l (on p annualRun) (annual a n) m
+    unfolding fileAnswer fileAfter annualAnswer annualFile
+    given-run m r a n said e stored =
+        let b : annual a n ≡ fileAnswer f t annualRun = ap annualSays (sym e) ∙ said in
+        let go = after annualRun (annual a n) true b refl refl in
+        let own = behind-admitted f (annualAnswer f t) (go .0) in
+        let amount : a ≡ annualAmountOf f t = ap amountIn (b ∙ is-behind f (annualAnswer f t) (go .0) ∙ decide-accepted _ _ own) in
+        given-annual m f (withNext f (setTo a)) t refl refl (next-put l m p (w .canonical) (w .long) low a stored)
+        (annual a n) b
+        (ap (λ (y : ℕ). withNext f (setTo y)) amount
+        ∙ sym (go .1 ∙ cond-true (accepted (annualAnswer f t)) (withNext f (setTo (annualAmountOf f t))) f own))
 
   -- whether it is admitted, by its word
   module _ (a : Bool) (ea : a ≡ flagOf (getD l (place p + 1) 0)) where
@@ -180,8 +413,7 @@ module _ (l : List ℕ) (p : ℕ) (w : WellFormed l) (low : p ≤ 63) where
     pub given-unknown : a ≡ false → Given (bookOfWords l) (statement p) (refused 2) (bookOfWords l)
     given-unknown h = unknown-statement (bookOfWords l) p noFile low (book-long l) (sym flag-is ∙ h)
 
-    pub given-statement : a ≡ true → (t : ℕ) (s : List Slot) (c n : ℕ) → t ≡ todayIn l → s ≡ slotsOfWords (wordsAt l (place p))
-        → c ≡ coverOn t s → n ≡ getD l (place p + 3) 0 - c
+    pub given-statement : a ≡ true → (t c n : ℕ) → t ≡ todayIn l → c ≡ coverOn t (slotsOfWords (wordsAt l (place p))) → n ≡ getD l (place p + 3) 0 - c
         → Given (bookOfWords l) (statement p)
         (statementSays (record {
           firm = getD l (place p + 3) 0;
@@ -192,8 +424,8 @@ module _ (l : List ℕ) (p : ℕ) (w : WellFormed l) (low : p ≤ 63) where
         }))
         (bookOfWords l)
     unfolding bookOfWords fileOfWords statementOf coverOf shortfallOf
-    given-statement h t s c n q es ec en =
-        let covered : c ≡ coverOn (todayIn l) (slotsOfWords (wordsAt l (place p))) = ec ∙ (λ i. coverOn (q i) (es i)) in
+    given-statement h t c n q ec en =
+        let covered : c ≡ coverOn (todayIn l) (slotsOfWords (wordsAt l (place p))) = ec ∙ ap (λ (d : ℕ). coverOn d (slotsOfWords (wordsAt l (place p)))) q in
         let st : Statement =
         record {
           firm = getD l (place p + 3) 0;
@@ -213,9 +445,9 @@ module _ (l : List ℕ) (p : ℕ) (w : WellFormed l) (low : p ≤ 63) where
         ∙ ap (λ (z : File). statementOf z (todayIn l)) (sym (book-file l p low)))
 
   -- its positions are sound
-  pub slots-sound : (s : List Slot) → s ≡ slotsOfWords (wordsAt l (place p)) → All (λ (z : Slot). SoundPosition (z .position)) s
+  pub slots-sound : All (λ (z : Slot). SoundPosition (z .position)) (slotsOfWords (wordsAt l (place p)))
   unfolding fileOfWords
-  slots-sound s e = rw e (file-sound (fileIn l p) (todayIn l) refl refl .slots)
+  slots-sound = file-sound (fileIn l p) (todayIn l) refl refl .slots
 
 pub above-stated : (l : List ℕ) (p : ℕ) → 63 < p → Given (bookOfWords l) (statement p) (refused 1) (bookOfWords l)
 above-stated l p h = above-statement (bookOfWords l) p h
@@ -228,16 +460,22 @@ pub today-there : (l : List ℕ) (t : ℕ) → t ≡ todayIn l → record { 0 = 
 unfolding bookOfWords
 today-there l t e = λ i. record { 0 = e i }
 
+-- ---- a file's method on the file read
+
+-- What is answered of the file taken out and its day is answered of the words.
+pub answer-read : (l : List ℕ) (p : ℕ) (a : Act) (f : File) (t : ℕ) (x : Answer) → f ≡ fileIn l p → t ≡ todayIn l → x ≡ fileAnswer f t a
+    → x ≡ fileAnswer (fileIn l p) (todayIn l) a
+answer-read l p a f t x e q h = h ∙ (λ i. fileAnswer (e i) (q i) a)
+
+pub left-read : (l : List ℕ) (p : ℕ) (a : Act) (f g : File) (t : ℕ) → f ≡ fileIn l p → t ≡ todayIn l → g ≡ fileLeft f t a
+    → g ≡ fileLeft (fileIn l p) (todayIn l) a
+left-read l p a f g t e q h = h ∙ (λ i. fileLeft (e i) (q i) a)
+
+pub slot-read : (l : List ℕ) (p k : ℕ) (a : Act) (f g : File) (t : ℕ) → f ≡ fileIn l p → t ≡ todayIn l → g ≡ fileLeft f t a
+    → getD (g .slots) k (slotOf Empty) ≡ getD (fileLeft (fileIn l p) (todayIn l) a .slots) k (slotOf Empty)
+slot-read l p k a f g t e q h = ap (λ (z : File). getD (z .slots) k (slotOf Empty)) (left-read l p a f g t e q h)
+
 -- ---- what is read of a file
-
--- A participant above 63 has none.
-pub none-there : (l : List ℕ) (p : ℕ) → 63 < p → fileAt (bookOfWords l) p ≡ noFile
-unfolding fileAt
-none-there l p h = List·getD-eq-default (bookOfWords l .files) noFile (omega (arith, book-long l))
-
-pub file-there : (l : List ℕ) (p : ℕ) → p ≤ 63 → fileAt (bookOfWords l) p ≡ fileIn l p
-unfolding fileAt
-file-there l p h = book-file l p h
 
 pub none-admitted : (l : List ℕ) (p : ℕ) → 63 < p → false ≡ fileAt (bookOfWords l) p .admitted
 none-admitted l p h = sym (ap (λ (z : File). z .admitted) (none-there l p h))

@@ -128,7 +128,7 @@ is-admitted f x e = not-not (f .admitted) (none-holds (cause 2 (not (f .admitted
     not-not true e = refl
     not-not false e = sym e
 
-behind-admitted : (f : File) (x : Answer) → accepted (ifAdmitted f x) ≡ true → accepted x ≡ true
+pub behind-admitted : (f : File) (x : Answer) → accepted (ifAdmitted f x) ≡ true → accepted x ≡ true
 unfolding ifAdmitted
 behind-admitted f x e = through (cause 2 (not (f .admitted)) ∷ []) x e
 

@@ -1,19 +1,16 @@
--- `bench::mixed::round` meets its contract: every call hands back a book that is reached, so each turn of the loop begins with one. The measure is
--- the number of calls left. Assumes nothing.
-use Prim.Native.Nat.{_≤_, _-_}
-use mathlib.Core.Path.{_≡_}
-use mathlib.Core.Logic.{⊎-elim}
-use Rattle.bench.specs.declared.Bench.{Bench}
-use Rattle.book.specs.Reached.{Reached}
+-- `bench::mixed::round` meets its contract: every call leaves a book, so each turn of the loop begins with one.
+-- Assumes nothing.
 use borrow.Author.Needs.{needs}
+use Prim.Native.Nat.{_≤_, _-_}
+use Rattle.layout.specs.WellFormed.{WellFormed}
 use Rattle.bench.proofs.mixed.round.Statement.{statement}
 use Rattle.bench.proofs.mixed.round.Tie as tie
 
 abbrev Inv-loop : tie.InvT-loop
-Inv-loop bench₀ seed count draw₀ i₀ bench draw i = (i ≤ count) × Reached (bench .book)
+Inv-loop book₀ seed count sum₀ draw₀ i₀ book sum draw i = (i ≤ count) × WellFormed book
 
 abbrev μ-loop : tie.MeasureT-loop
-μ-loop bench₀ seed count draw₀ i₀ bench draw i = count - i
+μ-loop book₀ seed count sum₀ draw₀ i₀ book sum draw i = count - i
 
 loop-holds : tie.Need-loop-holds Inv-loop μ-loop
 loop-holds c = search needs
@@ -30,23 +27,11 @@ argument-requires c κs = search needs
 kind-requires : tie.Need-kind-requires Inv-loop μ-loop
 kind-requires c κs = search needs
 
-lodge-requires : tie.Need-lodge-requires Inv-loop μ-loop
-lodge-requires c κs = search needs
+make-requires : tie.Need-make-requires Inv-loop μ-loop
+make-requires c κs = search needs
 
-annual-run-requires : tie.Need-annual-run-requires Inv-loop μ-loop
-annual-run-requires c κs = search needs
-
-admit-requires : tie.Need-admit-requires Inv-loop μ-loop
-admit-requires c κs = search needs
-
-release-requires : tie.Need-release-requires Inv-loop μ-loop
-release-requires c κs = search needs
-
-settle-requires : tie.Need-settle-requires Inv-loop μ-loop
-settle-requires c κs = search needs
-
-statement-requires : tie.Need-statement-requires Inv-loop μ-loop
-statement-requires c κs = search needs
+wrapping-add-u64-requires : tie.Need-wrapping-add-u64-requires Inv-loop μ-loop
+wrapping-add-u64-requires c κs = search needs
 
 add-i : tie.Need-add-i Inv-loop μ-loop
 add-i c = search needs
@@ -54,20 +39,11 @@ add-i c = search needs
 loop-less : tie.Need-loop-less Inv-loop μ-loop
 loop-less c = search needs
 
--- what an arm's call handed back is reached, so the book where the arms meet is
-kept : (b r : Bench) → b ≡ r → Reached (r .book) → Reached (b .book)
-kept b r e h = rw e h
-
 loop-again : tie.Need-loop-again Inv-loop μ-loop
-loop-again c = (
-  search needs,
-  ⊎-elim (λ w. kept _ _ (w .2) (w .1 .ensures))
-      (⊎-elim (λ w. kept _ _ (w .2) (w .1 .ensures))
-      (⊎-elim (λ w. kept _ _ (w .2) (w .1 .ensures))
-      (⊎-elim (λ w. kept _ _ (w .3) (w .2 .ensures))
-      (⊎-elim (λ w. kept _ _ (w .4) (w .3 .ensures)) (λ w. kept _ _ (w .4) (w .3 .ensures))))))
-      (c .match .came),
-)
+loop-again c = search needs
+
+same-length : tie.Need-same-length Inv-loop μ-loop
+same-length c = search needs
 
 returns : tie.Need-returns Inv-loop μ-loop
 returns c = search needs
@@ -83,13 +59,10 @@ round-spec =
     participant-requires
     argument-requires
     kind-requires
-    lodge-requires
-    annual-run-requires
-    admit-requires
-    release-requires
-    settle-requires
-    statement-requires
+    make-requires
+    wrapping-add-u64-requires
     add-i
     loop-less
     loop-again
+    same-length
     returns)

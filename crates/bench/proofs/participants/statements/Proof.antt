@@ -1,7 +1,7 @@
--- `bench::participants::statements` meets its contract: the book stays the one given, which is reached. The measure is the number of participants
--- left. Assumes nothing.
-use Prim.Native.Nat.{_≤_, _-_}
+-- `bench::participants::statements` meets its contract: it asks for the statement of each of the 64.
+-- Assumes nothing.
 use borrow.Author.Needs.{needs}
+use Prim.Native.Nat.{_≤_, _-_}
 use Rattle.bench.proofs.participants.statements.Statement.{statement}
 use Rattle.bench.proofs.participants.statements.Tie as tie
 

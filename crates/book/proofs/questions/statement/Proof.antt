@@ -36,11 +36,8 @@ shared-slice-read-number c = search needs
 number-requires : tie.Need-number-requires
 number-requires c κs = search needs
 
-slots-requires : tie.Need-slots-requires
-slots-requires c κs = search needs
-
-cover-requires : tie.Need-cover-requires
-cover-requires c κs = search (slots-sound, needs)
+cover-at-requires : tie.Need-cover-at-requires
+cover-at-requires c κs = (search needs, search (slots-sound, needs))
 
 add-firm : tie.Need-add-firm
 add-firm c = search needs
@@ -54,23 +51,23 @@ shared-slice-read-firm c = search needs
 less-cover-requires : tie.Need-less-cover-requires
 less-cover-requires c κs = search needs
 
-add-t11 : tie.Need-add-t11
-add-t11 c = search needs
+add-t10 : tie.Need-add-t10
+add-t10 c = search needs
 
-mul-t12 : tie.Need-mul-t12
-mul-t12 c = search needs
+mul-t11 : tie.Need-mul-t11
+mul-t11 c = search needs
 
-shared-slice-read-t14 : tie.Need-shared-slice-read-t14
-shared-slice-read-t14 c = search needs
+shared-slice-read-t13 : tie.Need-shared-slice-read-t13
+shared-slice-read-t13 c = search needs
 
-add-t19 : tie.Need-add-t19
-add-t19 c = search needs
+add-t18 : tie.Need-add-t18
+add-t18 c = search needs
 
-mul-t20 : tie.Need-mul-t20
-mul-t20 c = search needs
+mul-t19 : tie.Need-mul-t19
+mul-t19 c = search needs
 
-shared-slice-read-t22 : tie.Need-shared-slice-read-t22
-shared-slice-read-t22 c = search needs
+shared-slice-read-t21 : tie.Need-shared-slice-read-t21
+shared-slice-read-t21 c = search needs
 
 returns-3 : tie.Need-returns-3
 returns-3 c = search (given-statement, not-false, needs)
@@ -89,16 +86,15 @@ statement-spec =
     returns-2
     shared-slice-read-number
     number-requires
-    slots-requires
-    cover-requires
+    cover-at-requires
     add-firm
     mul-firm
     shared-slice-read-firm
     less-cover-requires
-    add-t11
-    mul-t12
-    shared-slice-read-t14
-    add-t19
-    mul-t20
-    shared-slice-read-t22
+    add-t10
+    mul-t11
+    shared-slice-read-t13
+    add-t18
+    mul-t19
+    shared-slice-read-t21
     returns-3)

@@ -1,8 +1,8 @@
--- `replay::apply::apply` meets its contract: each arm makes the call that the definition has for its kind, and turns what the call gives
--- into numbers, which are within, the book being reached.
+-- `replay::apply::apply` meets its contract: each arm makes the call that the definition has for its kind, and turns its answer into numbers,
+-- which are within, the words being well formed.
 -- Assumes nothing.
 use borrow.Author.Needs.{needs}
-use Rattle.replay.proofs.Numbers.{given-within}
+use Rattle.replay.proofs.Numbers.{asked-within, given-within}
 use Rattle.replay.proofs.Replaying.{as-admit, as-cash, as-letter, as-release, as-settle, as-annual, as-advance, as-statement, as-count}
 use Rattle.replay.proofs.apply.apply.Statement.{statement}
 use Rattle.replay.proofs.apply.apply.Tie as tie
@@ -10,14 +10,14 @@ use Rattle.replay.proofs.apply.apply.Tie as tie
 admit-requires : tie.Need-admit-requires
 admit-requires c κs = search needs
 
-of-outcome-requires : tie.Need-of-outcome-requires
-of-outcome-requires c κs = search needs
+outcome-numbers-requires : tie.Need-outcome-numbers-requires
+outcome-numbers-requires c κs = search needs
 
 lodge-requires : tie.Need-lodge-requires
 lodge-requires c κs = search needs
 
-of-outcome-requires-2 : tie.Need-of-outcome-requires-2
-of-outcome-requires-2 c κs = search needs
+outcome-numbers-requires-2 : tie.Need-outcome-numbers-requires-2
+outcome-numbers-requires-2 c κs = search needs
 
 letter-requires : tie.Need-letter-requires
 letter-requires c κs = search needs
@@ -25,14 +25,14 @@ letter-requires c κs = search needs
 lodge-requires-2 : tie.Need-lodge-requires-2
 lodge-requires-2 c κs = search needs
 
-of-outcome-requires-3 : tie.Need-of-outcome-requires-3
-of-outcome-requires-3 c κs = search needs
+outcome-numbers-requires-3 : tie.Need-outcome-numbers-requires-3
+outcome-numbers-requires-3 c κs = search needs
 
 release-requires : tie.Need-release-requires
 release-requires c κs = search needs
 
-of-outcome-requires-4 : tie.Need-of-outcome-requires-4
-of-outcome-requires-4 c κs = search needs
+outcome-numbers-requires-4 : tie.Need-outcome-numbers-requires-4
+outcome-numbers-requires-4 c κs = search needs
 
 clipped-requires : tie.Need-clipped-requires
 clipped-requires c κs = search needs
@@ -43,14 +43,14 @@ part-requires c κs = search needs
 settle-requires : tie.Need-settle-requires
 settle-requires c κs = search needs
 
-of-settled-requires : tie.Need-of-settled-requires
-of-settled-requires c κs = given-within _ _ _ _ (c .before .before .before .before .pre) (c .settle .ensures)
+settled-numbers-requires : tie.Need-settled-numbers-requires
+settled-numbers-requires c κs = search (given-within, needs)
 
 annual-run-requires : tie.Need-annual-run-requires
 annual-run-requires c κs = search needs
 
-of-annual-requires : tie.Need-of-annual-requires
-of-annual-requires c κs = given-within _ _ _ _ (c .before .before .pre) (c .annual-run .ensures)
+annual-numbers-requires : tie.Need-annual-numbers-requires
+annual-numbers-requires c κs = search (given-within, needs)
 
 clipped-requires-2 : tie.Need-clipped-requires-2
 clipped-requires-2 c κs = search needs
@@ -58,38 +58,71 @@ clipped-requires-2 c κs = search needs
 advance-requires : tie.Need-advance-requires
 advance-requires c κs = search needs
 
-of-advanced-requires : tie.Need-of-advanced-requires
-of-advanced-requires c κs = search needs
+advanced-numbers-requires : tie.Need-advanced-numbers-requires
+advanced-numbers-requires c κs = search needs
 
-stated-requires : tie.Need-stated-requires
-stated-requires c κs = search needs
+statement-requires : tie.Need-statement-requires
+statement-requires c κs = search needs
 
-counted-requires : tie.Need-counted-requires
-counted-requires c κs = search needs
+stated-numbers-requires : tie.Need-stated-numbers-requires
+stated-numbers-requires c κs = search (asked-within, needs)
+
+calls-made-requires : tie.Need-calls-made-requires
+calls-made-requires c κs = search needs
+
+counted-numbers-requires : tie.Need-counted-numbers-requires
+counted-numbers-requires c κs = search (asked-within, needs)
+
+same-length : tie.Need-same-length
+same-length c = search needs
 
 returns : tie.Need-returns
 returns c = search (as-admit, needs)
 
+same-length-2 : tie.Need-same-length-2
+same-length-2 c = search needs
+
 returns-2 : tie.Need-returns-2
 returns-2 c = search (as-cash, needs)
+
+same-length-3 : tie.Need-same-length-3
+same-length-3 c = search needs
 
 returns-3 : tie.Need-returns-3
 returns-3 c = search (as-letter, needs)
 
+same-length-4 : tie.Need-same-length-4
+same-length-4 c = search needs
+
 returns-4 : tie.Need-returns-4
 returns-4 c = search (as-release, needs)
+
+same-length-5 : tie.Need-same-length-5
+same-length-5 c = search needs
 
 returns-5 : tie.Need-returns-5
 returns-5 c = search (as-settle, needs)
 
+same-length-6 : tie.Need-same-length-6
+same-length-6 c = search needs
+
 returns-6 : tie.Need-returns-6
 returns-6 c = search (as-annual, needs)
+
+same-length-7 : tie.Need-same-length-7
+same-length-7 c = search needs
 
 returns-7 : tie.Need-returns-7
 returns-7 c = search (as-advance, needs)
 
+same-length-8 : tie.Need-same-length-8
+same-length-8 c = search needs
+
 returns-8 : tie.Need-returns-8
 returns-8 c = search (as-statement, needs)
+
+same-length-9 : tie.Need-same-length-9
+same-length-9 c = search needs
 
 returns-9 : tie.Need-returns-9
 returns-9 c = search (as-count, needs)
@@ -99,31 +132,42 @@ apply-spec =
     tie.close
     (tie.spec
     admit-requires
-    of-outcome-requires
+    outcome-numbers-requires
     lodge-requires
-    of-outcome-requires-2
+    outcome-numbers-requires-2
     letter-requires
     lodge-requires-2
-    of-outcome-requires-3
+    outcome-numbers-requires-3
     release-requires
-    of-outcome-requires-4
+    outcome-numbers-requires-4
     clipped-requires
     part-requires
     settle-requires
-    of-settled-requires
+    settled-numbers-requires
     annual-run-requires
-    of-annual-requires
+    annual-numbers-requires
     clipped-requires-2
     advance-requires
-    of-advanced-requires
-    stated-requires
-    counted-requires
+    advanced-numbers-requires
+    statement-requires
+    stated-numbers-requires
+    calls-made-requires
+    counted-numbers-requires
+    same-length
     returns
+    same-length-2
     returns-2
+    same-length-3
     returns-3
+    same-length-4
     returns-4
+    same-length-5
     returns-5
+    same-length-6
     returns-6
+    same-length-7
     returns-7
+    same-length-8
     returns-8
+    same-length-9
     returns-9)

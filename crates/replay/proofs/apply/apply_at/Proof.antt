@@ -1,7 +1,7 @@
 -- `replay::apply::apply_at` meets its contract: the six words are those that the definition reads at the place.
 -- Assumes nothing.
 use borrow.Author.Needs.{needs}
-use Rattle.replay.specs.Words.{callAt}
+use Rattle.replay.specs.Encoding.{callAt}
 use Rattle.replay.proofs.apply.apply_at.Statement.{statement}
 use Rattle.replay.proofs.apply.apply_at.Tie as tie
 
@@ -62,9 +62,12 @@ shared-slice-read-apply-6 c = search needs
 apply-requires : tie.Need-apply-requires
 apply-requires c κs = search needs
 
+same-length : tie.Need-same-length
+same-length c = search needs
+
 returns : tie.Need-returns
 unfolding callAt
-returns c = c .apply .ensures
+returns c = c .before .before .apply .ensures
 
 pub apply-at-spec : {M : Type 1} → statement M
 apply-at-spec =
@@ -89,4 +92,5 @@ apply-at-spec =
     mul-apply-6
     shared-slice-read-apply-6
     apply-requires
+    same-length
     returns)

@@ -11,7 +11,9 @@ cast-values : tie.Need-cast-values
 cast-values c = search needs
 
 values-requires : tie.Need-values-requires
-values-requires c κs = let w = rw (c .before .before .answer .given .1) at (c .before .before .before .before .pre) in (search needs, w .0, w .1, search needs)
+values-requires c κs =
+    let w = rw (c .before .before .answer .given .1) at (c .before .before .before .before .pre) in
+    (search needs, w .0, w .1, search needs)
 
 enum-known-answer-2 : tie.Need-enum-known-answer-2
 enum-known-answer-2 c = search needs

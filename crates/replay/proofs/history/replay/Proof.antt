@@ -3,18 +3,22 @@
 -- Assumes nothing.
 use Prim.Native.Nat.{_-_}
 use borrow.Author.Needs.{needs}
-use Rattle.replay.proofs.Replaying.{Turn, turn-none, turn-first, turn-reached, turn-words, turn-room, turn-next, turn-last}
+use Rattle.replay.proofs.Replaying.{Turn, firstDay, begun-long, turn-none, turn-first, turn-formed, turn-long}
+use Rattle.replay.proofs.Replaying.{turn-words, turn-room, turn-next, turn-last}
 use Rattle.replay.proofs.history.replay.Statement.{statement}
 use Rattle.replay.proofs.history.replay.Tie as tie
 
 abbrev Inv-loop : tie.InvT-loop
-Inv-loop words figures out₀ answer book₀ count i₀ out book i = Turn words figures out₀ (book₀ .today .0) count i out book
+Inv-loop calls figures out₀ book₀ answer count i₀ out book i = Turn calls figures out₀ (firstDay book₀) count i out book
 
 abbrev μ-loop : tie.MeasureT-loop
-μ-loop words figures out₀ answer book₀ count i₀ out book i = count - i
+μ-loop calls figures out₀ book₀ answer count i₀ out book i = count - i
 
 fresh-requires : tie.Need-fresh-requires Inv-loop μ-loop
 fresh-requires c κs = search needs
+
+same-length : tie.Need-same-length Inv-loop μ-loop
+same-length c = search (begun-long, needs)
 
 returns : tie.Need-returns Inv-loop μ-loop
 returns c = search (turn-none, needs)
@@ -26,7 +30,7 @@ loop-holds : tie.Need-loop-holds Inv-loop μ-loop
 loop-holds c = search (turn-first, needs)
 
 apply-at-requires : tie.Need-apply-at-requires Inv-loop μ-loop
-apply-at-requires c κs = (search (turn-reached, needs), search (turn-words, needs))
+apply-at-requires c κs = (search (turn-formed, needs), search (turn-words, needs))
 
 mul-put : tie.Need-mul-put Inv-loop μ-loop
 mul-put c = search needs
@@ -42,13 +46,16 @@ loop-less c = search needs
 
 loop-again : tie.Need-loop-again Inv-loop μ-loop
 loop-again c =
-    turn-next _ _ _ _ _ _ _ _ (c .before .before .before .before .before .before .before .loop .inv) _ _ _
-    (c .before .before .before .before .before .before .loop-test .taken)
+    turn-next _ _ _ _ _ _ _ _ (c .before .before .before .before .before .before .before .before .loop .inv) _ _ _
+    (c .before .before .before .before .before .before .before .loop-test .taken)
     (c .before .before .before .before .before .apply-at .ensures)
-    (c .before .before .put .ensures)
+    (c .before .put .ensures)
 
-same-length : tie.Need-same-length Inv-loop μ-loop
-same-length c = search needs
+same-length-2 : tie.Need-same-length-2 Inv-loop μ-loop
+same-length-2 c = search needs
+
+same-length-3 : tie.Need-same-length-3 Inv-loop μ-loop
+same-length-3 c = search (turn-long, needs)
 
 returns-2 : tie.Need-returns-2 Inv-loop μ-loop
 returns-2 c = search (turn-last, needs)
@@ -60,6 +67,7 @@ replay-spec =
     Inv-loop
     μ-loop
     fresh-requires
+    same-length
     returns
     call-count-requires
     loop-holds
@@ -69,5 +77,6 @@ replay-spec =
     add-i
     loop-less
     loop-again
-    same-length
+    same-length-2
+    same-length-3
     returns-2)

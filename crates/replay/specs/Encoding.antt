@@ -1,5 +1,5 @@
--- A list of calls as words in lent slices, and a list of answers as numbers: what `replay` reads and writes. Paper 01 has the calls and the
--- answers; how they are spelled as words and numbers is this crate's own choice.
+-- A list of calls as words in a lent slice, six to a call, and a list of answers as numbers: what `replay` reads and writes. Paper 01 has the
+-- calls and the answers; how they are spelled as words and numbers is this crate's own choice.
 -- Assumes nothing.
 use Prim.Native.Nat.{ℕ, zero, suc, _+_, _*_, _≤_, min}
 use mathlib.Core.Bool.{cond}
@@ -34,21 +34,21 @@ callOf figures kind a b c d e =
     (cond (eqb kind 6) (advance (number a) b)
     (cond (eqb kind 7) (statement a) callsMade)))))))
 
--- The call at place n of the words.
+-- The call at place n of a list of calls.
 unfoldable pub callAt : List ℕ → List ℤ → ℕ → Call
-callAt words figures n =
+callAt calls figures n =
     callOf figures
-    (getD words (6 * n) 0)
-    (getD words (6 * n + 1) 0)
-    (getD words (6 * n + 2) 0)
-    (getD words (6 * n + 3) 0)
-    (getD words (6 * n + 4) 0)
-    (getD words (6 * n + 5) 0)
+    (getD calls (6 * n) 0)
+    (getD calls (6 * n + 1) 0)
+    (getD calls (6 * n + 2) 0)
+    (getD calls (6 * n + 3) 0)
+    (getD calls (6 * n + 4) 0)
+    (getD calls (6 * n + 5) 0)
 
 -- The first n calls, the newest first.
 unfoldable pub callsUpTo : List ℕ → List ℤ → ℕ → List Call
-callsUpTo words figures zero = []
-callsUpTo words figures (suc n) = callAt words figures n ∷ callsUpTo words figures n
+callsUpTo calls figures zero = []
+callsUpTo calls figures (suc n) = callAt calls figures n ∷ callsUpTo calls figures n
 
 -- Six numbers, the first of them natural.
 abbrev pub six : ℕ → ℤ → ℤ → ℤ → ℤ → ℤ → List ℤ
@@ -89,7 +89,7 @@ WithinSigned (counted n) = n ≤ largestSigned
 
 -- The numbers of the reading's decisions on the first n calls from a fresh book on day s, in the calls' order.
 unfoldable pub decided : ℕ → List ℕ → List ℤ → ℕ → List ℤ
-decided s words figures zero = []
-decided s words figures (suc n) =
-    decided s words figures n
-    ++ numbersOf (decision s (eventsOf s (callsUpTo words figures n)) (callAt words figures n))
+decided s calls figures zero = []
+decided s calls figures (suc n) =
+    decided s calls figures n
+    ++ numbersOf (decision s (eventsOf s (callsUpTo calls figures n)) (callAt calls figures n))

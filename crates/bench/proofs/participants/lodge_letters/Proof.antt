@@ -1,13 +1,13 @@
--- `bench::participants::with_letters` meets its contract: each lodging hands back a book that is reached. The measure is the number of letters left.
+-- `bench::participants::lodge_letters` meets its contract: every lodging leaves a book.
 -- Assumes nothing.
-use Prim.Native.Nat.{_≤_, _-_}
-use Rattle.book.specs.Reached.{Reached}
 use borrow.Author.Needs.{needs}
-use Rattle.bench.proofs.participants.with_letters.Statement.{statement}
-use Rattle.bench.proofs.participants.with_letters.Tie as tie
+use Prim.Native.Nat.{_≤_, _-_}
+use Rattle.layout.specs.WellFormed.{WellFormed}
+use Rattle.bench.proofs.participants.lodge_letters.Statement.{statement}
+use Rattle.bench.proofs.participants.lodge_letters.Tie as tie
 
 abbrev Inv-loop : tie.InvT-loop
-Inv-loop book₀ participant letters position₀ book position = (position ≤ letters) × Reached book
+Inv-loop book₀ participant letters position₀ book position = (position ≤ letters) × WellFormed book
 
 abbrev μ-loop : tie.MeasureT-loop
 μ-loop book₀ participant letters position₀ book position = letters - position
@@ -30,11 +30,14 @@ loop-less c = search needs
 loop-again : tie.Need-loop-again Inv-loop μ-loop
 loop-again c = search needs
 
+same-length : tie.Need-same-length Inv-loop μ-loop
+same-length c = search needs
+
 returns : tie.Need-returns Inv-loop μ-loop
 returns c = search needs
 
-pub with-letters-spec : {M : Type 1} → statement M
-with-letters-spec =
+pub lodge-letters-spec : {M : Type 1} → statement M
+lodge-letters-spec =
     tie.close
     (tie.spec
     Inv-loop
@@ -45,4 +48,5 @@ with-letters-spec =
     add-position
     loop-less
     loop-again
+    same-length
     returns)

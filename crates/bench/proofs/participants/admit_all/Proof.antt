@@ -1,16 +1,16 @@
--- `bench::participants::with_all` meets its contract: a fresh book is reached, and so is the book after each admission and its lodgings. The measure
--- is the number of participants left. Assumes nothing.
-use Prim.Native.Nat.{_≤_, _-_}
-use Rattle.book.specs.Reached.{Reached}
+-- `bench::participants::admit_all` meets its contract: the fresh book, each admission and the lodgings leave a book.
+-- Assumes nothing.
 use borrow.Author.Needs.{needs}
-use Rattle.bench.proofs.participants.with_all.Statement.{statement}
-use Rattle.bench.proofs.participants.with_all.Tie as tie
+use Prim.Native.Nat.{_≤_, _-_}
+use Rattle.layout.specs.WellFormed.{WellFormed}
+use Rattle.bench.proofs.participants.admit_all.Statement.{statement}
+use Rattle.bench.proofs.participants.admit_all.Tie as tie
 
 abbrev Inv-loop : tie.InvT-loop
-Inv-loop letters book₀ participant₀ book participant = (participant ≤ 64) × Reached book
+Inv-loop book₀ letters participant₀ book participant = (participant ≤ 64) × WellFormed book
 
 abbrev μ-loop : tie.MeasureT-loop
-μ-loop letters book₀ participant₀ book participant = 64 - participant
+μ-loop book₀ letters participant₀ book participant = 64 - participant
 
 fresh-requires : tie.Need-fresh-requires Inv-loop μ-loop
 fresh-requires c κs = search needs
@@ -21,8 +21,8 @@ loop-holds c = search needs
 admit-requires : tie.Need-admit-requires Inv-loop μ-loop
 admit-requires c κs = search needs
 
-with-letters-requires : tie.Need-with-letters-requires Inv-loop μ-loop
-with-letters-requires c κs = search needs
+lodge-letters-requires : tie.Need-lodge-letters-requires Inv-loop μ-loop
+lodge-letters-requires c κs = search needs
 
 add-participant : tie.Need-add-participant Inv-loop μ-loop
 add-participant c = search needs
@@ -33,11 +33,14 @@ loop-less c = search needs
 loop-again : tie.Need-loop-again Inv-loop μ-loop
 loop-again c = search needs
 
+same-length : tie.Need-same-length Inv-loop μ-loop
+same-length c = search needs
+
 returns : tie.Need-returns Inv-loop μ-loop
 returns c = search needs
 
-pub with-all-spec : {M : Type 1} → statement M
-with-all-spec =
+pub admit-all-spec : {M : Type 1} → statement M
+admit-all-spec =
     tie.close
     (tie.spec
     Inv-loop
@@ -45,8 +48,9 @@ with-all-spec =
     fresh-requires
     loop-holds
     admit-requires
-    with-letters-requires
+    lodge-letters-requires
     add-participant
     loop-less
     loop-again
+    same-length
     returns)

@@ -1,0 +1,47 @@
+-- `bench::questions::counts` meets its contract: it asks so many times.
+-- Assumes nothing.
+use borrow.Author.Needs.{needs}
+use Prim.Native.Nat.{_≤_, _-_}
+use Rattle.bench.proofs.questions.counts.Statement.{statement}
+use Rattle.bench.proofs.questions.counts.Tie as tie
+
+abbrev Inv-loop : tie.InvT-loop
+Inv-loop book count sum₀ i₀ sum i = i ≤ count
+
+abbrev μ-loop : tie.MeasureT-loop
+μ-loop book count sum₀ i₀ sum i = count - i
+
+loop-holds : tie.Need-loop-holds Inv-loop μ-loop
+loop-holds c = search needs
+
+calls-made-requires : tie.Need-calls-made-requires Inv-loop μ-loop
+calls-made-requires c κs = search needs
+
+wrapping-add-u64-requires : tie.Need-wrapping-add-u64-requires Inv-loop μ-loop
+wrapping-add-u64-requires c κs = search needs
+
+add-i : tie.Need-add-i Inv-loop μ-loop
+add-i c = search needs
+
+loop-less : tie.Need-loop-less Inv-loop μ-loop
+loop-less c = search needs
+
+loop-again : tie.Need-loop-again Inv-loop μ-loop
+loop-again c = search needs
+
+returns : tie.Need-returns Inv-loop μ-loop
+returns c = search needs
+
+pub counts-spec : {M : Type 1} → statement M
+counts-spec =
+    tie.close
+    (tie.spec
+    Inv-loop
+    μ-loop
+    loop-holds
+    calls-made-requires
+    wrapping-add-u64-requires
+    add-i
+    loop-less
+    loop-again
+    returns)

@@ -1,0 +1,39 @@
+-- `book::calls::settle_outcome` meets its contract: the file is the one read at the participant's place.
+-- Assumes nothing.
+use borrow.Author.Needs.{needs}
+use Rattle.book.proofs.Functions.OnWords.{file-sound, answer-read, left-read}
+use Rattle.book.proofs.calls.settle_outcome.Statement.{statement}
+use Rattle.book.proofs.calls.settle_outcome.Tie as tie
+
+shared-slice-read-number : tie.Need-shared-slice-read-number
+shared-slice-read-number c = search needs
+
+number-requires : tie.Need-number-requires
+number-requires c κs = search needs
+
+mul-file-at : tie.Need-mul-file-at
+mul-file-at c = search needs
+
+add-file-at : tie.Need-add-file-at
+add-file-at c = search needs
+
+file-at-requires : tie.Need-file-at-requires
+file-at-requires c κs = search needs
+
+settled-if-admitted-requires : tie.Need-settled-if-admitted-requires
+settled-if-admitted-requires c κs = search (file-sound, needs)
+
+returns : tie.Need-returns
+returns c = (search (answer-read, needs), search (left-read, needs))
+
+pub settle-outcome-spec : {M : Type 1} → statement M
+settle-outcome-spec =
+    tie.close
+    (tie.spec
+    shared-slice-read-number
+    number-requires
+    mul-file-at
+    add-file-at
+    file-at-requires
+    settled-if-admitted-requires
+    returns)

@@ -1,0 +1,55 @@
+-- The cover of the positions of a file in words, summed one position after the other.
+-- Assumes nothing.
+use Prim.Native.Nat.{ℕ, _+_, _*_, _≤_, _<_}
+use mathlib.Core.Path.{_≡_, refl, sym, ap, _∙_}
+use mathlib.Core.List.{List}
+use native.Mathlib.Omega.{arith}
+use mir.Val.{Fits}
+use mir.Syntax.{w64}
+use lib.ListN.{length, getD, drop}
+use Rattle.laws.specs.Lists.{All}
+use Rattle.laws.specs.Tabulated.{getD-table}
+use Rattle.file.specs.declared.Slot.{Slot}
+use Rattle.file.specs.declared.Position.the-variants.{Empty}
+use Rattle.file.specs.Position.{slotOf, countsOn, coverOn}
+use Rattle.file.specs.Sound.{SoundPosition}
+use Rattle.file.proofs.Sums as sums
+use Rattle.layout.specs.Parts.{slotOfWords}
+use Rattle.layout.specs.Files.{slotIn, slotsOfWords, wordsAt}
+use Rattle.layout.proofs.PartLaws.{slots-long}
+
+-- The position at place k.
+slot-there : (l : List ℕ) (at k : ℕ) (z : Slot) → k < 8 → getD (slotsOfWords (wordsAt l at)) k z ≡ slotIn l (at + (9 + 4 * k))
+unfolding slotsOfWords
+slot-there l at k z h =
+    let first : at + (10 + 4 * k) ≡ at + (9 + 4 * k) + 1 = omega arith in
+    let second : at + (11 + 4 * k) ≡ at + (9 + 4 * k) + 2 = omega arith in
+    let third : at + (12 + 4 * k) ≡ at + (9 + 4 * k) + 3 = omega arith in
+    getD-table 8
+    (λ j. slotOfWords (wordsAt l at (9 + 4 * j)) (wordsAt l at (10 + 4 * j)) (wordsAt l at (11 + 4 * j)) (wordsAt l at (12 + 4 * j))) k z h
+    ∙ (λ i. slotOfWords (getD l (at + (9 + 4 * k)) 0) (getD l (first i) 0) (getD l (second i) 0) (getD l (third i) 0))
+
+module _ (l : List ℕ) (at d k sum x : ℕ) (s : Slot) (h : k < 8) where
+  abbrev slots : List Slot
+  slots = slotsOfWords (wordsAt l at)
+
+  counted : s ≡ slotIn l (at + (9 + 4 * k)) → x ≡ countsOn d (s .position) → x ≡ countsOn d (getD slots k (slotOf Empty) .position)
+  counted e q = q ∙ ap (λ (z : Slot). countsOn d (z .position)) (e ∙ sym (slot-there l at k (slotOf Empty) h))
+
+  -- One more position.
+  pub cover-step : sum + coverOn d (drop k slots) ≡ coverOn d slots → s ≡ slotIn l (at + (9 + 4 * k)) → x ≡ countsOn d (s .position)
+      → sum + x + coverOn d (drop (k + 1) slots) ≡ coverOn d slots
+  cover-step so e q = sums.cover-step d k sum x slots (slotOf Empty) h (slots-long (wordsAt l at)) so (counted e q)
+
+  -- The sum fits.
+  pub cover-fits : sum + coverOn d (drop k slots) ≡ coverOn d slots → s ≡ slotIn l (at + (9 + 4 * k)) → x ≡ countsOn d (s .position)
+      → All (λ (z : Slot). SoundPosition (z .position)) slots → Fits w64 (sum + x)
+  cover-fits so e q all = sums.cover-fits d k sum x slots (slotOf Empty) h (slots-long (wordsAt l at)) so (counted e q) all
+
+-- All positions are summed.
+pub cover-end : (l : List ℕ) (at d k sum : ℕ) → 8 ≤ k → k ≤ 8
+    → sum + coverOn d (drop k (slotsOfWords (wordsAt l at))) ≡ coverOn d (slotsOfWords (wordsAt l at)) → sum ≡ coverOn d (slotsOfWords (wordsAt l at))
+cover-end l at d k sum h g so = sums.cover-end d k sum (slotsOfWords (wordsAt l at)) h g (slots-long (wordsAt l at)) so
+
+pub cover-none : (l : List ℕ) (at d : ℕ) → 0 + coverOn d (drop 0 (slotsOfWords (wordsAt l at))) ≡ coverOn d (slotsOfWords (wordsAt l at))
+cover-none l at d = omega arith
