@@ -56,11 +56,11 @@ fn annual(answer: Result<Annual, Refusal>) -> u64 {
     number(answer, |annual| annual.amount.wrapping_add(annual.months))
 }
 
-/// A statement.
+/// A statement: its figures, added and combined by 'exclusive or' in turn.
 fn stated(answer: Result<Statement, Refusal>) -> u64 {
     number(answer, |s| {
-        let amounts = s.firm.wrapping_add(s.cover).wrapping_add(s.shortfall);
-        amounts.wrapping_add(s.charged).wrapping_add(s.accrued)
+        let charge = s.charged.wrapping_add(s.accrued);
+        s.cover.wrapping_add(s.shortfall ^ charge) ^ s.firm
     })
 }
 

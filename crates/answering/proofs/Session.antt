@@ -1,8 +1,8 @@
 -- The claim about a whole session, and about what a kept journal holds of it.
 -- Assumes nothing.
 use Prim.Native.Nat.{ℕ, _≤_}
-use mathlib.Core.Path.{_≡_, refl, sym, ap, ap₂, subst, _∙_}
-use mathlib.Core.Bool.{Bool, true, false, cond, true≢false}
+use mathlib.Core.Path.{_≡_, refl, sym, ap, subst, _∙_}
+use mathlib.Core.Bool.{true, false, cond}
 use mathlib.Core.List.{List, [], _∷_}
 use native.Mathlib.Omega.{arith}
 use borrow.Author.Tests.{ltb-false}
@@ -10,15 +10,13 @@ use lib.Dec.{ltb}
 use Rattle.laws.specs.Cases.{split}
 use Rattle.file.specs.Answer as Said
 use Rattle.file.specs.Answer.{accepted, decide}
-use Rattle.special.specs.declared.Special.{Special}
-use Rattle.book.specs.declared.Book.{Book}
+use Rattle.layout.specs.Book.{Book}
 use Rattle.book.specs.Call.{Call}
 use Rattle.book.specs.Account.{freshBook, freshAnswer, answer, step, run}
 use Rattle.book.specs.Reading.Decisions.{decision, eventsOf}
-use Rattle.book.specs.Reached.{Reached}
 use Rattle.book.proofs.History.Life.{life, given}
 use Rattle.printing.specs.declared.Answer.{Answer}
-use Rattle.answering.specs.Shown.{shown, guaranteeShown}
+use Rattle.answering.specs.Shown.{shown}
 use Rattle.answering.specs.Asked.{Asked, call, fresh, guarantee, nothing, fault, answerTo, bookAfter}
 use Rattle.answering.specs.Kept.{takes}
 use Rattle.answering.specs.Session.{bookOf, Since, since, Session, keptOf, Accepted, Replays}
@@ -72,8 +70,7 @@ session lines =
   where
     decided : (s : ℕ) (calls : List Call) (b : Book) → s ≤ 29219 → b ≡ run s calls → (c : Call) → answer b c ≡ decision s (eventsOf s calls) c
     decided s calls b h e c =
-        let r : Reached b = record { start = s; within = h; calls = calls; leads = sym e } in
-        given b c (answer b c) (step b c) r refl refl .decided s calls h (sym e)
+        given b c (answer b c) (step b c) refl refl .decided s calls h (sym e)
 
 -- ---- what a kept journal holds
 
@@ -90,15 +87,15 @@ takes-shown (Said.stated f c s d a) = refl
 takes-shown (Said.counted n) = refl
 
 -- A line that is not taken leaves the book.
-not-taken : (b : Book) (a : Asked) → takes (answerTo b 0 a) ≡ false → bookAfter b a ≡ b
+pub not-taken : (b : Book) (n : ℕ) (a : Asked) → takes (answerTo b n a) ≡ false → bookAfter b a ≡ b
 unfolding step
-not-taken b (call c) h =
+not-taken b n (call c) h =
     let e : accepted (answer b c) ≡ false = sym (takes-shown (answer b c)) ∙ h in rw e
-not-taken b (fresh d) h =
+not-taken b n (fresh d) h =
     let e : accepted (freshAnswer d) ≡ false = sym (takes-shown (freshAnswer d)) ∙ h in rw e
-not-taken b (guarantee x) h = refl
-not-taken b nothing h = refl
-not-taken b (fault e) h = refl
+not-taken b n (guarantee x) h = refl
+not-taken b n nothing h = refl
+not-taken b n (fault e) h = refl
 
 -- One line more: it is kept and accepted again, or it leaves the book.
 kept-more : (a : Asked) (before : List Asked) → Replays before → Replays (a ∷ before)
@@ -114,7 +111,7 @@ kept-more a before w =
     (λ e.
     let kept : keptOf (a ∷ before) ≡ keptOf before = rw e in
     record {
-      same = ap bookOf kept ∙ w .same ∙ sym (not-taken (bookOf before) a e);
+      same = ap bookOf kept ∙ w .same ∙ sym (not-taken (bookOf before) 0 a e);
       accepted = subst Accepted (sym kept) (w .accepted);
     })
 

@@ -1,6 +1,6 @@
 -- What a line of the journal asks, what it is answered, and the book that it leaves.
 -- Assumes nothing.
-use Prim.Native.Nat.{ℕ, _≤_}
+use Prim.Native.Nat.{ℕ}
 use mathlib.Core.Path.{_≡_}
 use mathlib.Core.Bool.{cond}
 use mathlib.Core.List.{List, map}
@@ -10,7 +10,7 @@ use Rattle.file.specs.declared.Position.the-variants.{Cash, Letter}
 use Rattle.file.specs.Answer.{accepted}
 use Rattle.special.specs.declared.Special.{Special}
 use Rattle.special.specs.Guarantee.{specialGuarantee}
-use Rattle.book.specs.declared.Book.{Book}
+use Rattle.layout.specs.Book.{Book}
 use Rattle.book.specs.Call.{Call, on, admit, lodge, release, settle, annualRun, advance, statement, callsMade}
 use Rattle.book.specs.Account.{freshAnswer, freshBook, answer, step}
 use Rattle.book.specs.Reached.{Reached}
@@ -92,5 +92,5 @@ bookAfter b (fault e) = b
 pub record Answered (b : Book) (n : ℕ) (a : Asked) (x : Answer) (b′ : Book) : Type 0 where
   pub answered : x ≡ answerTo b n a
   pub left : b′ ≡ bookAfter b a
-  -- the next line may be answered
-  pub reached : Reached b′
+  -- a reached book stays one
+  pub reached : Reached b → Reached b′

@@ -32,12 +32,12 @@ pub fn annual(answer: AnnualRun) -> u64 {
     }
 }
 
-// A statement.
+// A statement: its figures, added and combined by 'exclusive or' in turn.
 pub fn stated(answer: Stated) -> u64 {
     match answer {
         Stated::Is(s) => {
-            let amounts = wrapping_add_u64(s.firm, wrapping_add_u64(s.cover, s.shortfall));
-            wrapping_add_u64(amounts, wrapping_add_u64(s.charged, s.accrued))
+            let charge = wrapping_add_u64(s.charged, s.accrued);
+            wrapping_add_u64(s.cover, s.shortfall ^ charge) ^ s.firm
         }
         Stated::Refused(number) => number as u64,
     }

@@ -5,4 +5,5 @@ pub mod Begins
 pub mod Answers
 pub mod DaysOpened
 pub mod OnWords
+pub mod OnPositions
 pub mod FilesInWords

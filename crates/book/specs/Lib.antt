@@ -7,4 +7,5 @@ pub mod Life
 pub mod Reached
 pub mod InWords
 pub mod Opened
+pub mod Positions
 pub mod Left

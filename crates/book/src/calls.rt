@@ -1,45 +1,33 @@
-// The calls that name a participant (paper 01, 'The calls'): each takes one file out of the words, calls its method, and puts back what the
-// method changed.
+// Admissions, settlements and annual runs (paper 01, 'The calls'): each takes one file out of the words, calls its method, and puts back what
+// the method changed.
 use calendar::Day;
 use calendar::Month;
 use file::AnnualRun;
 use file::File;
 use file::FileAnnual;
-use file::FileOutcome;
 use file::FileSettled;
 use file::Outcome;
-use file::Position;
 use file::Settled;
-use file::Slot;
 use layout::files::file_at;
 use layout::files::put_file;
 use layout::files::put_next;
 use layout::parts::flag;
 use layout::parts::number;
-use layout::parts::put_slot;
 use layout::parts::put_total;
 ghost use mathlib.Core.Path.{_≡_};
 ghost use mathlib.Core.Bool.{cond};
 ghost use Prim.Native.Nat.{_+_, _*_, _%_, _≤_};
 ghost use lib.ListN.{length, getD};
-ghost use Rattle.file.specs.declared.Position.the-variants.{Empty};
-ghost use Rattle.file.specs.Position.{slotOf};
 ghost use Rattle.file.specs.Totals.{noTotal};
 ghost use Rattle.layout.specs.Words.{fileIn, todayIn};
 ghost use Rattle.layout.specs.Parts.{totalWords, TotalBack, written};
 ghost use Rattle.file.specs.Answer.{accepted, outcomeSays, settledSays, annualSays};
 ghost use Rattle.file.specs.Sound.{Sound};
-ghost use Rattle.book.specs.Call.{admit, lodge, release, settle, annualRun, on, isCalled};
+ghost use Rattle.book.specs.Call.{admit, settle, annualRun, on, isCalled};
 ghost use Rattle.book.specs.Account.{fileAnswer};
 ghost use Rattle.book.specs.Left.{fileLeft};
 ghost use Rattle.book.specs.InWords.{GivenWords};
 ghost use Rattle.layout.specs.WellFormed.{WellFormed};
-
-// What a release answers, and the position that it leaves.
-struct SlotOutcome {
-    answer: Outcome,
-    slot: Slot,
-}
 
 // How many calls a settlement made.
 fn calls_of(answer: Settled) -> u64
@@ -53,16 +41,6 @@ fn calls_of(answer: Settled) -> u64
     }
 }
 
-// Whether an outcome is no refusal.
-fn is_done(answer: Outcome) -> bool
-    ensures { λ r. ⌜ r ≡ accepted (outcomeSays answer) ⌝ }
-{
-    match answer {
-        Outcome::Done => true,
-        Outcome::Refused(_) => false,
-    }
-}
-
 // Whether a settlement's answer is no refusal.
 fn is_settled(answer: Settled) -> bool
     ensures { λ r. ⌜ r ≡ accepted (settledSays answer) ⌝ }
@@ -72,37 +50,6 @@ fn is_settled(answer: Settled) -> bool
         Settled::Covered(_) => true,
         Settled::Recorded(_) => true,
         Settled::Refused(_) => false,
-    }
-}
-
-// A lodging on a participant's file; one that isn't admitted is refused with 2.
-fn lodged_if_admitted(file: File, today: Day, position: u64, holding: Position) -> FileOutcome
-    ensures { λ r. ⌜ (outcomeSays (r .answer) ≡ fileAnswer file (today .0) (lodge position holding))
-        × (r .file ≡ fileLeft file (today .0) (lodge position holding)) ⌝ }
-{
-    if file.admitted {
-        file.lodge(today, position, holding)
-    } else {
-        FileOutcome {
-            answer: Outcome::Refused(2),
-            file,
-        }
-    }
-}
-
-// A release on a participant's file; one that isn't admitted is refused with 2.
-fn released_if_admitted(file: File, today: Day, position: u64, amount: u64) -> FileOutcome
-    requires { ⌜ Sound (today .0) file ⌝ }
-    ensures { λ r. ⌜ (outcomeSays (r .answer) ≡ fileAnswer file (today .0) (release position amount))
-        × (r .file ≡ fileLeft file (today .0) (release position amount)) ⌝ }
-{
-    if file.admitted {
-        file.release(today, position, amount)
-    } else {
-        FileOutcome {
-            answer: Outcome::Refused(2),
-            file,
-        }
     }
 }
 
@@ -171,74 +118,6 @@ pub fn admit(words: &mut [u64], participant: u64, role: u64) -> Outcome
     put_file(words, at, file);
     words[2] = made;
     Outcome::Done
-}
-
-// What a lodging on a participant's file answers.
-fn lodge_answer(words: &[u64], participant: u64, position: u64, holding: Position) -> Outcome
-    requires { ⌜ WellFormed (now words) × (participant ≤ 63) ⌝ }
-    ensures { λ r. ⌜ outcomeSays r ≡ fileAnswer (fileIn (now (words .entry)) participant) (todayIn (now (words .entry))) (lodge position holding) ⌝ }
-{
-    let today = Day(number(words[1]));
-    let file = file_at(words, 2 + 96 * participant as usize);
-    let lodged = lodged_if_admitted(file, today, position, holding);
-    lodged.answer
-}
-
-// Lodges cash or a letter at a position of a participant's file.
-pub fn lodge(words: &mut [u64], participant: u64, position: u64, holding: Position) -> Outcome
-    requires { ⌜ WellFormed (now words) ⌝ }
-    ensures { λ r. ⌜ GivenWords (now (words .entry)) (on participant (lodge position holding)) (outcomeSays r) (now (words .exit)) ⌝ }
-{
-    if 63 < participant {
-        return Outcome::Refused(1);
-    }
-    let answer = lodge_answer(words, participant, position, holding);
-    if is_done(answer) {
-        let at = 2 + 96 * participant as usize;
-        let k = (position % 8) as usize; // which is `position`: a lodging elsewhere is refused
-        put_slot(words, at + (9 + 4 * k), Slot { position: holding });
-        return answer;
-    }
-    answer
-}
-
-// What a release on a participant's file answers, and the position that it leaves.
-fn release_outcome(words: &[u64], participant: u64, position: u64, amount: u64) -> SlotOutcome
-    requires { ⌜ WellFormed (now words) × (participant ≤ 63) ⌝ }
-    ensures { λ r. ⌜ (outcomeSays (r .answer) ≡ fileAnswer (fileIn (now (words .entry)) participant) (todayIn (now (words .entry))) (release position amount))
-        × (r .slot ≡ getD (fileLeft (fileIn (now (words .entry)) participant) (todayIn (now (words .entry))) (release position amount) .slots) (position % 8) (slotOf Empty)) ⌝ }
-{
-    let today = Day(number(words[1]));
-    let file = file_at(words, 2 + 96 * participant as usize);
-    let released = released_if_admitted(file, today, position, amount);
-    let answer = released.answer;
-    let file = released.file;
-    let slots = file.slots;
-    let at = (position % 8) as usize;
-    SlotOutcome {
-        answer,
-        slot: slots[at],
-    }
-}
-
-// Releases an amount at a position of a participant's file.
-pub fn release(words: &mut [u64], participant: u64, position: u64, amount: u64) -> Outcome
-    requires { ⌜ WellFormed (now words) ⌝ }
-    ensures { λ r. ⌜ GivenWords (now (words .entry)) (on participant (release position amount)) (outcomeSays r) (now (words .exit)) ⌝ }
-{
-    if 63 < participant {
-        return Outcome::Refused(1);
-    }
-    let released = release_outcome(words, participant, position, amount);
-    let answer = released.answer;
-    if is_done(answer) {
-        let at = 2 + 96 * participant as usize;
-        let k = (position % 8) as usize; // which is `position`: a release elsewhere is refused
-        let slot = released.slot;
-        put_slot(words, at + (9 + 4 * k), slot);
-        return answer;
-    }
-    answer
 }
 
 // The settlement of a month on a participant's file.

@@ -114,6 +114,9 @@ pub fn advance(words: &mut [u64], day: Day, budget: u64) -> Advanced
         return Advanced::Refused(17);
     }
     let days = fewer(budget, day.0 - today.0);
+    if days == 0 {
+        return Advanced::Opened(days);
+    }
     open_files(words, today, days);
     words[1] = (today.0 + days) as u64;
     Advanced::Opened(days)

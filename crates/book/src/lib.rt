@@ -4,15 +4,16 @@ use file::Statement;
 mod begin;
 mod calls;
 mod days;
+mod positions;
 mod questions;
 
 pub use begin::fresh;
 pub use calls::admit;
 pub use calls::annual_run;
-pub use calls::lodge;
-pub use calls::release;
 pub use calls::settle;
 pub use days::advance;
+pub use positions::lodge;
+pub use positions::release;
 pub use questions::calls_made;
 pub use questions::is_admitted;
 pub use questions::role;

@@ -1,27 +1,16 @@
--- A lodging's answer by the tests of the code, in the order of its causes, and the file that goes with it.
+-- A lodging's answer by the tests of the code, in the order of its causes.
 -- Assumes nothing.
 use Prim.Native.Nat.{ℕ, _≤_, _<_}
-use mathlib.Core.Path.{_≡_, ap, _∙_}
-use mathlib.Core.Bool.{Bool, true, false, cond}
+use mathlib.Core.Path.{_≡_}
+use mathlib.Core.Bool.{Bool, true, false}
 use borrow.Author.Tests.{lt-ltb, le-ltb}
-use lib.ListN.{set}
 use Rattle.file.specs.declared.File.{File}
-use Rattle.file.specs.declared.FileOutcome.{FileOutcome}
 use Rattle.file.specs.declared.Position.{Position}
-use Rattle.file.specs.Answer.{Answer, refused, done, decide, accepted, outcomeSays}
-use Rattle.file.specs.Position.{amountOf, filled, outsideAmounts, againstDays, slotOf, positionAt}
-use Rattle.file.specs.Fields.{withSlots}
-use Rattle.file.specs.Lodge.{lodgeAnswer, lodgedFile}
+use Rattle.file.specs.Answer.{refused, done, decide}
+use Rattle.file.specs.Position.{amountOf, filled, outsideAmounts, againstDays, positionAt}
+use Rattle.file.specs.Lodge.{lodgeAnswer}
 
 module _ (f : File) (t k : ℕ) (p : Position) where
-  -- The file follows from the answer.
-  pub lodges : (a : Answer) (o : FileOutcome) → outcomeSays (o .answer) ≡ a
-      → a ≡ lodgeAnswer f t k p
-      → o .file ≡ cond (accepted a) (withSlots f (set (f .slots) k (slotOf p))) f
-      → (outcomeSays (o .answer) ≡ lodgeAnswer f t k p) × (o .file ≡ lodgedFile f t k p)
-  unfolding lodgedFile
-  lodges a o g e h = (g ∙ e, h ∙ ap (λ (x : Answer). cond (accepted x) (withSlots f (set (f .slots) k (slotOf p))) f) e)
-
   pub lodge-no-place : 7 < k → refused 5 ≡ lodgeAnswer f t k p
   unfolding lodgeAnswer decide
   lodge-no-place h = rw (lt-ltb 7 k h)

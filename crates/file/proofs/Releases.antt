@@ -1,26 +1,20 @@
--- A release's answer by the tests of the code, in the order of its causes, and the file that goes with it.
+-- A release's answer by the tests of the code, in the order of its causes.
 -- Assumes nothing.
 use Prim.Native.Nat.{ℕ, zero, suc, _+_, _≤_, _<_, max}
-use mathlib.Core.Path.{_≡_, refl, sym, ap, _∙_}
-use mathlib.Core.Bool.{Bool, true, false, cond, not}
+use mathlib.Core.Path.{_≡_, refl, ap, _∙_}
+use mathlib.Core.Bool.{Bool, true, false, not}
 use mathlib.Core.List.{List, [], _∷_}
 use native.Mathlib.Omega.{arith}
 use native.Mathlib.Numerals.{add-one}
 use borrow.Author.Tests.{lt-ltb, le-ltb}
-use lib.ListN.{length, getD, set, take}
-use Rattle.laws.specs.Lists.{All}
+use lib.Dec.{ltb}
+use lib.ListN.{length, getD, take}
 use Rattle.file.specs.declared.File.{File}
-use Rattle.file.specs.declared.FileOutcome.{FileOutcome}
-use Rattle.file.specs.declared.Position.{Position}
 use Rattle.file.specs.declared.OpenCall.{OpenCall}
-use Rattle.file.specs.declared.Slot.{Slot}
-use Rattle.file.specs.Answer.{Answer, refused, done, decide, accepted, outcomeSays}
-use Rattle.file.specs.Position.{coverOn, filled, lessReleased, notReleasable, outsideAmounts, slotOf, positionAt}
+use Rattle.file.specs.Answer.{refused, done, decide}
+use Rattle.file.specs.Position.{coverOn, filled, notReleasable, outsideAmounts, positionAt}
 use Rattle.file.specs.Calls.{largest, amountsOf}
-use Rattle.file.specs.Fields.{openCalls, withSlots}
-use Rattle.file.specs.Release.{releaseFloor, slotsLeft, releaseAnswer, releasedFile}
-use Rattle.file.specs.Sound.{Sound, SoundPosition}
-use Rattle.file.specs.KeepsPositions.{slotsLeft-sound}
+use Rattle.file.specs.Release.{releaseFloor, slotsLeft, releaseAnswer}
 
 -- The largest of one call more.
 largest-take : (a i : ℕ) (l : List OpenCall) (z : OpenCall) → i < length l
@@ -48,25 +42,7 @@ pub largest-more : (a b x r : ℕ) (l : List ℕ) → x ≡ largest a l → r �
 unfolding largest
 largest-more a b x r l e g = g ∙ ap (max b) e
 
--- A test whose value is known.
-pub known-false : (b t : Bool) → b ≡ t → b ≡ false → t ≡ false
-known-false b t e h = sym e ∙ h
-
 module _ (f : File) (t k a : ℕ) where
-  -- The file follows from the answer.
-  pub releases : (x : Answer) (o : FileOutcome) → outcomeSays (o .answer) ≡ x
-      → x ≡ releaseAnswer f t k a
-      → o .file ≡ cond (accepted x) (withSlots f (slotsLeft f k a)) f
-      → (outcomeSays (o .answer) ≡ releaseAnswer f t k a) × (o .file ≡ releasedFile f t k a)
-  unfolding releasedFile
-  releases x o g e h = (g ∙ e, h ∙ ap (λ (y : Answer). cond (accepted y) (withSlots f (slotsLeft f k a)) f) e)
-
-  -- The file with the positions as the code leaves them.
-  pub with-left : (o : File) (left : Position) → left ≡ lessReleased a (positionAt (f .slots) k)
-      → o ≡ withSlots f (set (f .slots) k (slotOf left)) → o ≡ withSlots f (slotsLeft f k a)
-  unfolding slotsLeft
-  with-left o left e h = rw e at h
-
   pub release-no-place : 7 < k → refused 5 ≡ releaseAnswer f t k a
   unfolding releaseAnswer decide
   release-no-place h = rw (lt-ltb 7 k h)
@@ -86,31 +62,11 @@ module _ (f : File) (t k a : ℕ) where
         unfolding releaseAnswer decide
         release-above h = rw (le-ltb 7 k place, ← e7, some, ← e8, within, ← e15, h)
 
-        module _ (enough : above ≡ false) (left : Position) (el : left ≡ lessReleased a (positionAt (f .slots) k)) where
-          -- The positions that the release leaves.
-          slots-are : set (f .slots) k (slotOf left) ≡ slotsLeft f k a
-          unfolding slotsLeft
-          slots-are = rw el
+        module _ (enough : above ≡ false) (short : Bool) (e16 : short ≡ ltb (coverOn t (slotsLeft f k a)) (releaseFloor f)) where
+          pub release-uncovered : short ≡ true → refused 16 ≡ releaseAnswer f t k a
+          unfolding releaseAnswer decide
+          release-uncovered h = rw (le-ltb 7 k place, ← e7, some, ← e8, within, ← e15, enough, ← e16, h)
 
-          -- They are sound.
-          pub slots-sound : Sound t f → All (λ (s : Slot). SoundPosition (s .position)) (set (f .slots) k (slotOf left))
-          slots-sound s = rw slots-are (slotsLeft-sound f k a (s .slots) (sym e15 ∙ enough))
-
-          module _ (cover floor : ℕ) (ec : cover ≡ coverOn t (set (f .slots) k (slotOf left)))
-              (ef : floor ≡ largest (f .next .amount) (f .firm ∷ amountsOf (take (f .count) (f .calls)))) where
-            cover-is : cover ≡ coverOn t (slotsLeft f k a)
-            cover-is = ec ∙ ap (coverOn t) slots-are
-
-            floor-is : floor ≡ releaseFloor f
-            unfolding releaseFloor openCalls
-            floor-is = ef
-
-            pub release-uncovered : cover < floor → refused 16 ≡ releaseAnswer f t k a
-            unfolding releaseAnswer decide
-            release-uncovered h =
-                rw (le-ltb 7 k place, ← e7, some, ← e8, within, ← e15, enough, ← cover-is, ← floor-is, lt-ltb cover floor h)
-
-            pub release-done : floor ≤ cover → done ≡ releaseAnswer f t k a
-            unfolding releaseAnswer decide
-            release-done h =
-                rw (le-ltb 7 k place, ← e7, some, ← e8, within, ← e15, enough, ← cover-is, ← floor-is, le-ltb cover floor h)
+          pub release-done : short ≡ false → done ≡ releaseAnswer f t k a
+          unfolding releaseAnswer decide
+          release-done h = rw (le-ltb 7 k place, ← e7, some, ← e8, within, ← e15, enough, ← e16, h)

@@ -4,12 +4,10 @@ use calendar::Month;
 
 mod admit;
 mod annual;
-mod answers;
 pub mod cover;
 pub mod holding;
-mod lodge;
 mod opening;
-mod release;
+pub mod release;
 mod settle;
 
 // A position of a file: nothing, cash with its amount, or a letter with its amount, first and last day, both included.
@@ -85,12 +83,6 @@ pub struct Statement {
     pub shortfall: u64,
     pub charged: u64,
     pub accrued: u64,
-}
-
-// A file beside the outcome of a lodging or a release.
-pub struct FileOutcome {
-    pub answer: Outcome,
-    pub file: File,
 }
 
 // A file beside the answer of a settlement.

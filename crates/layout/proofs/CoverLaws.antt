@@ -19,7 +19,7 @@ use Rattle.layout.specs.Files.{slotIn, slotsOfWords, wordsAt}
 use Rattle.layout.proofs.PartLaws.{slots-long}
 
 -- The position at place k.
-slot-there : (l : List ℕ) (at k : ℕ) (z : Slot) → k < 8 → getD (slotsOfWords (wordsAt l at)) k z ≡ slotIn l (at + (9 + 4 * k))
+pub slot-there : (l : List ℕ) (at k : ℕ) (z : Slot) → k < 8 → getD (slotsOfWords (wordsAt l at)) k z ≡ slotIn l (at + (9 + 4 * k))
 unfolding slotsOfWords
 slot-there l at k z h =
     let first : at + (10 + 4 * k) ≡ at + (9 + 4 * k) + 1 = omega arith in

@@ -8,19 +8,17 @@ use native.Mathlib.Numerals.{add-one}
 use native.Mathlib.Omega.{arith}
 use mir.Syntax.{w64}
 use mir.Val.{Fits, boolByte}
-use lib.ListN.{length, getD, List·getD-eq-default}
+use lib.ListN.{getD, List·getD-eq-default}
 use Rattle.calendar.specs.declared.Day.{Day}
 use Rattle.words.specs.Text.{text}
 use Rattle.file.specs.Answer.{statementSays}
 use Rattle.file.specs.declared.Statement.{Statement}
-use Rattle.file.specs.declared.File.{File}
+use Rattle.layout.specs.Book.{Book}
 use Rattle.book.specs.Account.{fileAt, answer}
-use Rattle.book.specs.declared.Book.{Book}
 use Rattle.book.specs.declared.Stated.{Stated}
 use Rattle.book.specs.declared.Stated.the-variants as Statements
 use Rattle.book.specs.Call.{statement, statedSays}
 use Rattle.book.specs.Reached.{Given}
-use Rattle.book.proofs.Functions.Answers.{file-read}
 use Rattle.journal.specs.Names.{roleNames}
 use Rattle.printing.specs.Decimals.{decimal, spaced, joined}
 use Rattle.printing.specs.Placed.{Put}
@@ -54,11 +52,9 @@ below-small b (suc i) =
     let h : cond (fileAt b i .admitted) 1 0 ≤ 1 = rw (← cond-byte (fileAt b i .admitted)) (byte-small (fileAt b i .admitted)) in
     omega (arith, below-small b i, h)
 
-pub one-admitted : (b : Book) (d : File) (i n : ℕ) → length (b .files) ≡ 64 → i < 64 → n ≡ admittedBelow i b
-    → n + boolByte (getD (b .files) i d .admitted) ≡ admittedBelow (i + 1) b
-one-admitted b d i n l h k =
-    let e : getD (b .files) i d ≡ fileAt b i = file-read b i d (getD (b .files) i d) l (omega arith) refl in
-    rw (add-one i, below-next b i, k, e, cond-byte (fileAt b i .admitted))
+pub one-admitted : (b : Book) (t : Bool) (i n : ℕ) → t ≡ fileAt b i .admitted → n ≡ admittedBelow i b
+    → n + boolByte t ≡ admittedBelow (i + 1) b
+one-admitted b t i n e k = rw (add-one i, below-next b i, k, e, cond-byte (fileAt b i .admitted))
 
 pub admitted-fits : (b : Book) (t : Bool) (i n : ℕ) → n ≡ admittedBelow i b → i < 64 → Fits w64 (n + boolByte t)
 admitted-fits b t i n h k = record { fits = omega (arith, h, below-small b i, byte-small t) }
@@ -90,12 +86,14 @@ module _ (e f g d : List ℕ) (at p q r : ℕ) where
       (put-then (spaced (a ∷ [])) (spaced (b ∷ []) ++ spaced (c ∷ [])) e f d at p r x (put-then (spaced (b ∷ [])) (spaced (c ∷ [])) f g d p q r y z))
 
 module _ (e f g h d : List ℕ) (at p q r s : ℕ) where
-  pub put-charge : (a b : List ℕ) → Put (32 ∷ []) e at p f → Put a f p q g → Put (32 ∷ []) g q r h → Put b h r s d → Put (spaced (a ∷ b ∷ [])) e at s d
+  pub put-charge : (a b : List ℕ) → Put (32 ∷ []) e at p f → Put a f p q g → Put (32 ∷ []) g q r h → Put b h r s d
+      → Put (spaced (a ∷ b ∷ [])) e at s d
   put-charge a b x y z w =
       rw (spaced-append (a ∷ []) (b ∷ []))
       (put-then (spaced (a ∷ [])) (spaced (b ∷ [])) e g d at q s (put-blank e f g at p q a x y) (put-blank g h d q r s b z w))
 
-  put-columns : (n o a b c k m : List ℕ) → Put (joined (n ∷ o ∷ [])) e at p f → Put (spaced (a ∷ b ∷ c ∷ [])) f p q g → Put (spaced (k ∷ m ∷ [])) g q r h
+  put-columns : (n o a b c k m : List ℕ) → Put (joined (n ∷ o ∷ [])) e at p f → Put (spaced (a ∷ b ∷ c ∷ [])) f p q g
+      → Put (spaced (k ∷ m ∷ [])) g q r h
       → Put (10 ∷ []) h r s d → Put (joined (n ∷ o ∷ a ∷ b ∷ c ∷ k ∷ m ∷ []) ++ (10 ∷ [])) e at s d
   put-columns n o a b c k m x y z w =
       put-then (joined (n ∷ o ∷ a ∷ b ∷ c ∷ k ∷ m ∷ [])) (10 ∷ []) e h d at r s
@@ -120,11 +118,10 @@ module _ (e f g h d : List ℕ) (at p q r s : ℕ) where
 -- A participant's line by its statement.
 
 module _ (b : Book) (n : ℕ) (st : Stated) (e g : List ℕ) (at q : ℕ) where
-  pub row-stated : (d : File) (t : Statement) → length (b .files) ≡ 64 → n < 64 → Given b (statement n) (statedSays st) b → st ≡ Statements.Is t
-      → Put (lineOf n (getD (b .files) n d .role) (statementSays t)) e at q g → Put (row b n) e at q g
+  pub row-stated : (role : ℕ) (t : Statement) → Given b (statement n) (statedSays st) b → st ≡ Statements.Is t → role ≡ fileAt b n .role
+      → Put (lineOf n role (statementSays t)) e at q g → Put (row b n) e at q g
   unfolding row
-  row-stated d t l h x k y =
-      let f : getD (b .files) n d ≡ fileAt b n = file-read b n d (getD (b .files) n d) l (omega arith) refl in
+  row-stated role t x k f y =
       let a : statementSays t ≡ answer b (statement n) = ap statedSays (sym k) ∙ x .answered in
       rw (← a, ← f) y
 
@@ -158,13 +155,13 @@ put-today t e f g h i at p q r s x y z w =
     put-more e g i at q s (text "report") (decimal (t .0) ∷ []) (dateText (t .0) ∷ []) (named e f g at p q (decimal (t .0)) x y)
     (put-blank g h i q r s (dateText (t .0)) z w)
 
-pub put-title : (b : Book) (n : ℕ) (e f g h i : List ℕ) (at p q r s : ℕ) → n ≡ admittedCount b
-    → Put (joined (text "report" ∷ decimal (b .today .0) ∷ dateText (b .today .0) ∷ [])) e at p f → Put (32 ∷ []) f p q g → Put (decimal n) g q r h
+pub put-title : (b : Book) (t : Day) (n : ℕ) (e f g h i : List ℕ) (at p q r s : ℕ) → t ≡ b .today → n ≡ admittedCount b
+    → Put (joined (text "report" ∷ decimal (t .0) ∷ dateText (t .0) ∷ [])) e at p f → Put (32 ∷ []) f p q g → Put (decimal n) g q r h
     → Put (10 ∷ []) h r s i → Put (titleLine b) e at s i
 unfolding titleLine
-put-title b n e f g h i at p q r s k x y z w =
+put-title b t n e f g h i at p q r s d k x y z w =
     put-then (joined (text "report" ∷ decimal (b .today .0) ∷ dateText (b .today .0) ∷ decimal (admittedCount b) ∷ [])) (10 ∷ []) e h i at r s
-    (put-more e f h at p r (text "report") (decimal (b .today .0) ∷ dateText (b .today .0) ∷ []) (decimal (admittedCount b) ∷ []) x
+    (put-more e f h at p r (text "report") (decimal (b .today .0) ∷ dateText (b .today .0) ∷ []) (decimal (admittedCount b) ∷ []) (rw d at x)
     (put-blank f g h p q r (decimal (admittedCount b)) y (rw k at z)))
     w
 

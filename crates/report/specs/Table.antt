@@ -6,9 +6,9 @@ use mathlib.Core.List.{List, [], _∷_, _++_}
 use lib.ListN.{getD}
 use Rattle.words.specs.Text.{text}
 use Rattle.file.specs.Answer.{Answer, refused, done, called, covered, recorded, annual, opened, stated, counted}
+use Rattle.layout.specs.Book.{Book}
 use Rattle.book.specs.Account.{answer, fileAt}
 use Rattle.book.specs.Call.{statement}
-use Rattle.book.specs.declared.Book.{Book}
 use Rattle.journal.specs.Names.{roleNames}
 use Rattle.printing.specs.Decimals.{decimal, joined}
 use Rattle.report.specs.Columns.{padded, fixed}

@@ -1,12 +1,12 @@
 // The report: a table of all admitted participants, for people.
 ghost use mathlib.Core.List.{[], _∷_};
-ghost use Rattle.book.specs.Reached.{Reached};
+ghost use Rattle.layout.specs.Words.{bookOfWords};
+ghost use Rattle.layout.specs.WellFormed.{WellFormed};
 ghost use Rattle.words.specs.Text.{text};
 ghost use Rattle.printing.specs.Decimals.{decimal, joined};
 ghost use Rattle.printing.specs.Placed.{Put};
 ghost use Rattle.report.specs.Dates.{dateText};
 ghost use Rattle.report.specs.Table.{titleLine, heading, reportText};
-use book::Book;
 use calendar::Day;
 use date::put_date;
 use printing::put_number;
@@ -29,10 +29,11 @@ fn put_today(out: &mut [u8], at: usize, today: Day) -> usize
 }
 
 // report DAY DATE COUNT
-fn put_title(out: &mut [u8], at: usize, book: Book) -> usize
-    ensures { λ r. ⌜ Put (titleLine book) (now (out .entry)) at r (now (out .exit)) ⌝ }
+fn put_title(out: &mut [u8], at: usize, book: &[u64]) -> usize
+    requires { ⌜ WellFormed (now book) ⌝ }
+    ensures { λ r. ⌜ Put (titleLine (bookOfWords (now (book .entry)))) (now (out .entry)) at r (now (out .exit)) ⌝ }
 {
-    let today = put_today(out, at, book.today);
+    let today = put_today(out, at, book::today(book));
     let blank = put_text(out, today, b" ");
     let count = put_number(out, blank, admitted_count(book));
     put_text(out, count, b"\n")
@@ -49,10 +50,10 @@ fn put_heading(out: &mut [u8], at: usize) -> usize
     )
 }
 
-// The report of a book.
-pub fn put_report(out: &mut [u8], at: usize, book: Book) -> usize
-    requires { ⌜ Reached book ⌝ }
-    ensures { λ r. ⌜ Put (reportText book) (now (out .entry)) at r (now (out .exit)) ⌝ }
+// The report of a book in words.
+pub fn put_report(out: &mut [u8], at: usize, book: &[u64]) -> usize
+    requires { ⌜ WellFormed (now book) ⌝ }
+    ensures { λ r. ⌜ Put (reportText (bookOfWords (now (book .entry)))) (now (out .entry)) at r (now (out .exit)) ⌝ }
 {
     let title = put_title(out, at, book);
     let names = put_heading(out, title);

@@ -1,9 +1,9 @@
 // The lines of the table.
 ghost use mathlib.Core.Path.{_≡_};
 ghost use mathlib.Core.List.{[], _∷_};
-ghost use Prim.Native.Nat.{_<_};
 ghost use Rattle.file.specs.Answer.{statementSays};
-ghost use Rattle.book.specs.Reached.{Reached};
+ghost use Rattle.layout.specs.Words.{bookOfWords};
+ghost use Rattle.layout.specs.WellFormed.{WellFormed};
 ghost use Rattle.printing.specs.Decimals.{decimal, spaced, joined};
 ghost use Rattle.printing.specs.Placed.{Put};
 ghost use Rattle.report.specs.Columns.{padded, fixed};
@@ -11,7 +11,6 @@ ghost use Rattle.report.specs.Table.{roleText, lineOf, row, rows, admitt
 use crate::columns::put_fixed_in;
 use crate::columns::put_number_in;
 use crate::columns::put_text_in;
-use book::Book;
 use book::Stated;
 use file::Statement;
 use printing::put_text;
@@ -50,7 +49,8 @@ fn put_amount(out: &mut [u8], at: usize, cents: u64) -> usize
 
 // The three amounts of a statement.
 fn put_amounts(out: &mut [u8], at: usize, firm: u64, cover: u64, shortfall: u64) -> usize
-    ensures { λ r. ⌜ Put (spaced (padded 17 (fixed 2 firm) ∷ padded 17 (fixed 2 cover) ∷ padded 17 (fixed 2 shortfall) ∷ [])) (now (out .entry)) at r (now (out .exit)) ⌝ }
+    ensures { λ r. ⌜ Put (spaced (padded 17 (fixed 2 firm) ∷ padded 17 (fixed 2 cover) ∷ padded 17 (fixed 2 shortfall) ∷ []))
+        (now (out .entry)) at r (now (out .exit)) ⌝ }
 {
     let first = put_amount(out, at, firm);
     let second = put_amount(out, first, cover);
@@ -78,22 +78,20 @@ fn put_statement(out: &mut [u8], at: usize, participant: u64, role: u64, s: Stat
 }
 
 // The line of a participant, if it is admitted.
-fn put_row(out: &mut [u8], at: usize, book: Book, participant: u64) -> usize
-    requires { ⌜ Reached book × (participant < 64) ⌝ }
-    ensures { λ r. ⌜ Put (row book participant) (now (out .entry)) at r (now (out .exit)) ⌝ }
+fn put_row(out: &mut [u8], at: usize, book: &[u64], participant: u64) -> usize
+    requires { ⌜ WellFormed (now book) ⌝ }
+    ensures { λ r. ⌜ Put (row (bookOfWords (now (book .entry))) participant) (now (out .entry)) at r (now (out .exit)) ⌝ }
 {
-    let file = book.files[participant as usize];
-    let role = file.role;
-    match book.statement(participant) {
-        Stated::Is(s) => put_statement(out, at, participant, role, s),
+    match book::statement(book, participant) {
+        Stated::Is(s) => put_statement(out, at, participant, book::role(book, participant), s),
         Stated::Refused(_) => at,
     }
 }
 
 // The lines of all participants.
-pub fn put_rows(out: &mut [u8], at: usize, book: Book) -> usize
-    requires { ⌜ Reached book ⌝ }
-    ensures { λ r. ⌜ Put (rows 64 book) (now (out .entry)) at r (now (out .exit)) ⌝ }
+pub fn put_rows(out: &mut [u8], at: usize, book: &[u64]) -> usize
+    requires { ⌜ WellFormed (now book) ⌝ }
+    ensures { λ r. ⌜ Put (rows 64 (bookOfWords (now (book .entry)))) (now (out .entry)) at r (now (out .exit)) ⌝ }
 {
     let mut p = at;
     let mut participant = 0;
@@ -105,15 +103,15 @@ pub fn put_rows(out: &mut [u8], at: usize, book: Book) -> usize
 }
 
 // How many participants are admitted.
-pub fn admitted_count(book: Book) -> u64
-    ensures { λ r. ⌜ r ≡ admittedCount book ⌝ }
+pub fn admitted_count(book: &[u64]) -> u64
+    requires { ⌜ WellFormed (now book) ⌝ }
+    ensures { λ r. ⌜ r ≡ admittedCount (bookOfWords (now (book .entry))) ⌝ }
 {
     let mut count = 0;
-    let mut i = 0;
-    while i < 64 {
-        let file = book.files[i];
-        count += file.admitted as u64;
-        i += 1;
+    let mut participant = 0;
+    while participant < 64 {
+        count += book::is_admitted(book, participant) as u64;
+        participant += 1;
     }
     count
 }

@@ -1,9 +1,8 @@
 // Answers on standard output.
-ghost use Rattle.book.specs.Reached.{Reached};
+ghost use Rattle.layout.specs.WellFormed.{WellFormed};
 use crate::buffers::smaller;
 use crate::lines::Progress;
 use crate::messages;
-use book::Book;
 use printing::Answer;
 use printing::put_answer;
 use printing::put_text;
@@ -43,8 +42,8 @@ pub fn answer(mut progress: Progress, answer: Answer, out: &mut [u8]) -> Progres
 }
 
 // The table of all participants, to wait.
-pub fn report(mut progress: Progress, book: Book, out: &mut [u8]) -> Progress
-    requires { ⌜ Reached book ⌝ }
+pub fn report(mut progress: Progress, book: &[u64], out: &mut [u8]) -> Progress
+    requires { ⌜ WellFormed (now book) ⌝ }
 {
     progress.waiting = put_report(out, progress.waiting, book);
     flush_if_full(progress, out)

@@ -1,7 +1,7 @@
 // An input, read in parts to its end.
 ghost use Prim.Native.Nat.{_≤_, _<_};
 ghost use lib.ListN.{length};
-ghost use Rattle.book.specs.Reached.{Reached};
+ghost use Rattle.layout.specs.WellFormed.{WellFormed};
 use crate::answers;
 use crate::buffers;
 use crate::lines::Mode;
@@ -9,11 +9,9 @@ use crate::lines::Progress;
 use crate::lines::Taken;
 use crate::lines::take_lines;
 use crate::messages;
-use book::Book;
 
-// A book after an input, how far it was taken, and whether a last line has no newline and was not taken.
+// How far an input was taken, and whether a last line has no newline and was not taken.
 pub struct Ended {
-    pub book: Book,
     pub progress: Progress,
     pub rest: bool,
 }
@@ -78,7 +76,7 @@ fn staying(before: bool, filled: usize, room: usize) -> usize
 // Reads an input to its end, part by part, and takes the complete lines of each part before it waits for more. What is left of a last line
 // without newline stands at the front of the buffer: `used` bytes.
 fn take_parts(
-    mut book: Book,
+    book: &mut [u64],
     mut progress: Progress,
     mode: Mode,
     file: i32,
@@ -87,8 +85,8 @@ fn take_parts(
     numbers: &mut [i64],
     out: &mut [u8],
 ) -> Taken
-    requires { ⌜ Reached book × (0 < length (now buffer)) ⌝ }
-    ensures { λ r. ⌜ Reached (r .book) × (r .used < length (now (buffer .entry))) ⌝ }
+    requires { ⌜ WellFormed (now book) × (0 < length (now buffer)) ⌝ }
+    ensures { λ r. ⌜ WellFormed (now (book .exit)) × (r .used < length (now (buffer .entry))) ⌝ }
 {
     let mut filled = 0;
     let mut reads: u64 = 0;
@@ -98,14 +96,12 @@ fn take_parts(
         if got <= 0 {
             progress = at_end(progress, got, mode, name);
             return Taken {
-                book,
                 progress,
                 used: filled,
             };
         }
         let full = filled + io::count(got, &buffer[filled..]);
         let taken = take_lines(book, progress, mode, name, &buffer[..full], numbers, out);
-        book = taken.book;
         progress = taken.progress;
         let begun = move_down(buffer, taken.used, full);
         filled = staying(progress.long, begun, buffer.len());
@@ -113,7 +109,6 @@ fn take_parts(
         progress = answers::flush(progress, out);
     }
     Taken {
-        book,
         progress,
         used: filled,
     }
@@ -121,6 +116,7 @@ fn take_parts(
 
 // Takes a last line of standard input that has no newline.
 fn take_last(
+    book: &mut [u64],
     taken: Taken,
     mode: Mode,
     name: &[u8],
@@ -128,9 +124,9 @@ fn take_last(
     numbers: &mut [i64],
     out: &mut [u8],
 ) -> Progress
-    requires { ⌜ Reached (taken .book) × (taken .used < length (now buffer)) ⌝ }
+    requires { ⌜ WellFormed (now book) × (taken .used < length (now buffer)) ⌝ }
+    ensures { λ r. ⌜ WellFormed (now (book .exit)) ⌝ }
 {
-    let book = taken.book;
     let progress = taken.progress;
     let end = taken.used;
     buffer[end] = b'\n';
@@ -141,9 +137,9 @@ fn take_last(
 }
 
 // Replays a journal's file to its end.
-pub fn replay_input(book: Book, progress: Progress, file: i32, name: &[u8]) -> Ended
-    requires { ⌜ Reached book ⌝ }
-    ensures { λ r. ⌜ Reached (r .book) ⌝ }
+pub fn replay_input(book: &mut [u64], progress: Progress, file: i32, name: &[u8]) -> Ended
+    requires { ⌜ WellFormed (now book) ⌝ }
+    ensures { λ r. ⌜ WellFormed (now (book .exit)) ⌝ }
 {
     let mut buffer = io::large_buffer();
     let mut numbers = buffers::numbers();
@@ -158,18 +154,17 @@ pub fn replay_input(book: Book, progress: Progress, file: i32, name: &[u8]) -> E
         &mut numbers,
         &mut out,
     );
-    let book = taken.book;
     let progress = taken.progress;
     Ended {
-        book,
         progress,
         rest: progress.long | (0 < taken.used),
     }
 }
 
 // Answers standard input to its end.
-pub fn answer_input(book: Book, progress: Progress, mode: Mode, name: &[u8])
-    requires { ⌜ Reached book ⌝ }
+pub fn answer_input(book: &mut [u64], progress: Progress, mode: Mode, name: &[u8])
+    requires { ⌜ WellFormed (now book) ⌝ }
+    ensures { λ r. ⌜ WellFormed (now (book .exit)) ⌝ }
 {
     let mut buffer = io::large_buffer();
     let mut numbers = buffers::numbers();
@@ -186,6 +181,6 @@ pub fn answer_input(book: Book, progress: Progress, mode: Mode, name: &[u8])
     );
     let reached = taken.progress;
     if reached.ok & (reached.long | (0 < taken.used)) {
-        take_last(taken, mode, name, &mut buffer, &mut numbers, &mut out);
+        take_last(book, taken, mode, name, &mut buffer, &mut numbers, &mut out);
     }
 }

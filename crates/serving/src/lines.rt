@@ -3,7 +3,7 @@ ghost use mathlib.Core.Path.{_≡_};
 ghost use mathlib.Core.Bool.{true};
 ghost use Prim.Native.Nat.{_≤_};
 ghost use lib.ListN.{length};
-ghost use Rattle.book.specs.Reached.{Reached};
+ghost use Rattle.layout.specs.WellFormed.{WellFormed};
 ghost use Rattle.serving.specs.Parts.{EndIs, atStart};
 use crate::answers;
 use crate::journal_file::append;
@@ -11,7 +11,6 @@ use crate::messages;
 use answering::apply;
 use answering::is_kept;
 use answering::request_of;
-use book::Book;
 use journal::Request;
 use printing::Answer;
 use std::num::wrapping_add_u64;
@@ -34,9 +33,8 @@ pub struct Progress {
     pub ok: bool,
 }
 
-// A book beside how far an input is taken, and how many bytes of a part are.
+// How far an input is taken, and how many bytes of a part are.
 pub struct Taken {
-    pub book: Book,
     pub progress: Progress,
     pub used: usize,
 }
@@ -163,9 +161,9 @@ fn shows_report(request: Request, mode: Mode) -> bool {
     }
 }
 
-// Takes the complete lines of a part of an input.
+// Takes the complete lines of a part of an input; the book is changed in its words.
 pub fn take_lines(
-    mut book: Book,
+    book: &mut [u64],
     mut progress: Progress,
     mode: Mode,
     name: &[u8],
@@ -173,8 +171,8 @@ pub fn take_lines(
     numbers: &mut [i64],
     out: &mut [u8],
 ) -> Taken
-    requires { ⌜ Reached book ⌝ }
-    ensures { λ r. ⌜ Reached (r .book) × (r .used ≤ length (now (input .entry))) ⌝ }
+    requires { ⌜ WellFormed (now book) ⌝ }
+    ensures { λ r. ⌜ WellFormed (now (book .exit)) × (r .used ≤ length (now (input .entry))) ⌝ }
 {
     let mut start = 0;
     let mut end = line_end(input, 0);
@@ -182,9 +180,7 @@ pub fn take_lines(
         progress.line = wrapping_add_u64(progress.line, 1);
         let request = request_of(&input[start..end], progress.long, progress.kept, numbers);
         start = end + 1;
-        let applied = apply(book, request, numbers, progress.line);
-        let answer = applied.answer;
-        book = applied.book;
+        let answer = apply(book, request, numbers, progress.line);
         progress = deliver(progress, mode, name, request, answer, numbers, out);
         if shows_report(request, mode) {
             progress = answers::report(progress, book, out);
@@ -194,7 +190,6 @@ pub fn take_lines(
     }
     progress.bytes = wrapping_add_u64(progress.bytes, start as u64);
     Taken {
-        book,
         progress,
         used: start,
     }

@@ -1,6 +1,7 @@
 -- The files of a book in words, read into an array and put back from one, and an advance on words.
 -- Assumes nothing.
 use Prim.Native.Nat.{ℕ, zero, suc, _+_, _-_, _*_, _≤_, _<_, min}
+use native.Mathlib.Nat.{add-zero}
 use native.Mathlib.Omega.{arith}
 use native.Mathlib.Numerals.{add-one}
 use mathlib.Core.Path.{_≡_, refl, sym, ap, subst, _∙_}
@@ -151,6 +152,17 @@ module _ (l : List ℕ) (day budget t : ℕ) (outside : Bool) (w : WellFormed l)
   outside-given h =
       nothing-written l (advance day budget) (refused 17) w
       (refused-outside (bookOfWords l) day budget outside (rw today-is at test) h)
+
+  -- no day
+  pub none-given : (n : ℕ) → outside ≡ false → n ≡ min budget (day - t) → n ≡ 0 → GivenWords l (advance day budget) (opened n) l
+  unfolding filesOpened
+  none-given n h number none =
+      let b = bookOfWords l in
+      nothing-written l (advance day budget) (opened n) w
+      (subst (Given b (advance day budget) (opened n))
+      (λ i. record { files = b .files; today = record { 0 = (ap (λ (k : ℕ). b .today .0 + k) none ∙ add-zero (b .today .0)) i }; made = b .made })
+      (gave-days b day budget n outside (b .files) (rw today-is at test) h (number ∙ ap (λ (k : ℕ). min budget (day - k)) today-is)
+      (ap (λ (k : ℕ). filesOpened k (b .today .0) (b .files)) (sym none))))
 
   pub days-given : (m : List ℕ) (n : ℕ) → outside ≡ false → n ≡ min budget (day - t)
       → FilesStored l (filesOpened n t (bookOfWords l .files)) m → GivenWords l (advance day budget) (opened n) (set m 1 (t + n))

@@ -7,8 +7,7 @@ use native.Mathlib.Numerals.{add-one}
 use mathlib.Core.Path.{_≡_, refl, sym, ap, subst, _∙_}
 use mathlib.Core.Bool.{Bool, true, false, cond, not}
 use mathlib.Core.List.{List, [], _∷_, _++_, append-nil}
-use borrow.Author.Tests.{le-ltb, ltb-false}
-use lib.Dec.{ltb}
+use borrow.Author.Tests.{le-ltb}
 use lib.IntN.{ℤ, natAbs}
 use lib.Seq.{getD-set-same}
 use lib.ListN.{length, getD, set, drop, replicate, length-set, length-replicate, drop-of-length-le, List·getD-eq-default}
@@ -17,7 +16,6 @@ use Rattle.laws.specs.Lists.{All}
 use Rattle.manual.specs.Figures.{sumOf}
 use Rattle.file.specs.declared.File.{File}
 use Rattle.file.specs.declared.Position.{Position}
-use Rattle.file.specs.declared.Position.the-variants.{Empty}
 use Rattle.file.specs.declared.MonthTotal.{MonthTotal}
 use Rattle.file.specs.declared.AnnualRun.{AnnualRun}
 use Rattle.file.specs.declared.Slot.{Slot}
@@ -26,23 +24,20 @@ use Rattle.file.specs.Answer.{Answer, refused, done, called, covered, recorded,
 use Rattle.file.specs.Admit.{noFile, admittedFile}
 use Rattle.file.specs.Annual.{annualAmountOf, annualAnswer, annualFile}
 use Rattle.file.specs.Calls.{callOf}
-use Rattle.file.specs.DecideLaws.{none-holds}
-use Rattle.file.specs.Fields.{openCalls, coverOf, shortfallOf, withSlots, withTotals, withNext, setTo}
+use Rattle.file.specs.Fields.{openCalls, coverOf, shortfallOf, withTotals, withNext, setTo}
 use Rattle.file.specs.KeepsCalls.{open-count}
-use Rattle.file.specs.Lodge.{lodgeAnswer, lodgedFile}
-use Rattle.file.specs.Position.{coverOn, slotOf, positionAt, lessReleased}
-use Rattle.file.specs.Release.{slotsLeft, releaseAnswer, releasedFile}
+use Rattle.file.specs.Position.{coverOn}
 use Rattle.file.specs.Settle.{settleAnswer, settledFile, settlementCalls, callsSettled}
 use Rattle.file.specs.Totals.{noTotal, totalOf, withTotal}
 use Rattle.file.specs.Sound.{Sound, SoundPosition}
 use Rattle.file.specs.Statement.{statementOf}
 use Rattle.layout.specs.Book.{Book}
-use Rattle.layout.specs.Parts.{flagOf, slotWords, totalWords, SlotBack, TotalBack, written}
+use Rattle.layout.specs.Parts.{flagOf, totalWords, TotalBack, written}
 use Rattle.layout.specs.Files.{fileOfWords, slotsOfWords, totalsOfWords, wordsAt, Put}
 use Rattle.layout.specs.Words.{bookLength, place, fileIn, todayIn, bookOfWords, bookWords}
 use Rattle.layout.specs.WellFormed.{SoundBook, WellFormed}
 use Rattle.layout.proofs.BookLaws.{book-long, book-file, put-book, put-length, made-book, canonical-put, canonical-made, freshWords, fresh-words, canonical-fresh}
-use Rattle.layout.proofs.PartLaws.{withMonths, slot-put, total-put, next-put}
+use Rattle.layout.proofs.PartLaws.{withMonths, total-put, next-put}
 use Rattle.book.specs.Call.{Act, admit, lodge, release, settle, annualRun, Call, on, statement, callsMade, isCalled}
 use Rattle.book.specs.Account.{fileAt, freshBook, ifAdmitted, fileAnswer, fileAfter, answer, step, applied}
 use Rattle.book.specs.Reading.Decisions.{cause}
@@ -111,11 +106,7 @@ pub file-there : (l : List ℕ) (p : ℕ) → p ≤ 63 → fileAt (bookOfWords l
 unfolding fileAt
 file-there l p h = book-file l p h
 
--- A file that is read has eight positions and sixteen month totals.
-file-slots : (l : List ℕ) (p : ℕ) → length (fileIn l p .slots) ≡ 8
-unfolding fileOfWords slotsOfWords
-file-slots l p = refl
-
+-- A file that is read has sixteen month totals.
 file-totals : (l : List ℕ) (p : ℕ) → length (fileIn l p .totals) ≡ 16
 unfolding fileOfWords totalsOfWords
 file-totals l p = refl
@@ -187,7 +178,7 @@ module _ (l : List ℕ) (p : ℕ) (w : WellFormed l) (low : p ≤ 63) where
         (length-set m 2 n ∙ put-length l m p g low put)
         (canonical-made m n (canonical-put l m p g (w .canonical) low put) (omega (arith, put-length l m p g low put, w .long)))
 
-    given-lodge : (k : ℕ) (h : Position) (x : Answer) → x ≡ fileAnswer f t (lodge k h) → g ≡ fileLeft f t (lodge k h)
+    pub given-lodge : (k : ℕ) (h : Position) (x : Answer) → x ≡ fileAnswer f t (lodge k h) → g ≡ fileLeft f t (lodge k h)
         → GivenWords l (on p (lodge k h)) x m
     unfolding bookOfWords
     given-lodge k h x a b =
@@ -195,7 +186,7 @@ module _ (l : List ℕ) (p : ℕ) (w : WellFormed l) (low : p ≤ 63) where
         (left-lodge (bookOfWords l) p noFile low (book-long l) k h x g
         (moved (λ z d. fileAnswer z d (lodge k h)) x a) (moved (λ z d. fileLeft z d (lodge k h)) g b))
 
-    given-release : (k n : ℕ) (x : Answer) → x ≡ fileAnswer f t (release k n) → g ≡ fileLeft f t (release k n)
+    pub given-release : (k n : ℕ) (x : Answer) → x ≡ fileAnswer f t (release k n) → g ≡ fileLeft f t (release k n)
         → GivenWords l (on p (release k n)) x m
     unfolding bookOfWords
     given-release k n x a b =
@@ -248,68 +239,12 @@ module _ (l : List ℕ) (p : ℕ) (w : WellFormed l) (low : p ≤ 63) where
         (ap accepted (sym is) ∙ sym r ∙ bad))))
 
     -- the file that an accepted call leaves
-    after : (a : Act) (x : Answer) (ok : Bool) → x ≡ fileAnswer f t a → ok ≡ accepted x → ok ≡ true
+    pub after : (a : Act) (x : Answer) (ok : Bool) → x ≡ fileAnswer f t a → ok ≡ accepted x → ok ≡ true
         → (accepted (fileAnswer f t a) ≡ true) × (fileLeft f t a ≡ fileAfter f t a)
     unfolding fileLeft
     after a x ok b r good =
         let go : accepted (fileAnswer f t a) ≡ true = ap accepted (sym b) ∙ sym r ∙ good in
         (go, cond-true (accepted (fileAnswer f t a)) (fileAfter f t a) f go)
-
-    -- a lodging is at one of eight places, and leaves what was lodged there
-    lodge-is : (k : ℕ) (h : Position) (x : Answer) (ok : Bool) → x ≡ fileAnswer f t (lodge k h) → ok ≡ accepted x → ok ≡ true
-        → (k ≤ 7) × (withSlots f (set (f .slots) k (slotOf h)) ≡ fileLeft f t (lodge k h))
-    unfolding fileAnswer fileAfter lodgeAnswer lodgedFile
-    lodge-is k h x ok b r good =
-        let go = after (lodge k h) x ok b r good in
-        let own = behind-admitted f (lodgeAnswer f t k h) (go .0) in (
-          ltb-false 7 k (none-holds _ done own .0),
-          sym (go .1 ∙ cond-true (accepted (lodgeAnswer f t k h)) (withSlots f (set (f .slots) k (slotOf h))) f own),
-        )
-
-    pub given-lodged : (m : List ℕ) (k : ℕ) (h : Position) (x : Answer) (ok : Bool) → x ≡ fileAnswer f t (lodge k h) → ok ≡ accepted x → ok ≡ true
-        → m ≡ written l (place p + (9 + 4 * (k % 8))) (slotWords (slotOf h)) → SlotBack (slotOf h) → GivenWords l (on p (lodge k h)) x m
-    given-lodged m k h x ok b r good stored back =
-        let is = lodge-is k h x ok b r good in
-        let at : k % 8 ≡ k = omega (arith, is .0) in
-        let put = slot-put l m p (w .canonical) (w .long) low k (slotOf h) (omega (arith, is .0)) back
-        (stored ∙ ap (λ (j : ℕ). written l (place p + (9 + 4 * j)) (slotWords (slotOf h))) at) in
-        given-lodge m f (withSlots f (set (f .slots) k (slotOf h))) t refl refl put k h x b (is .1)
-
-    -- a release is at one of eight places, and leaves there what its file has there
-    release-is : (k n : ℕ) (x : Answer) (ok : Bool) → x ≡ fileAnswer f t (release k n) → ok ≡ accepted x → ok ≡ true
-        → (k ≤ 7) × (fileLeft f t (release k n) ≡ withSlots f (slotsLeft f k n))
-    unfolding fileAnswer fileAfter releaseAnswer releasedFile
-    release-is k n x ok b r good =
-        let go = after (release k n) x ok b r good in
-        let own = behind-admitted f (releaseAnswer f t k n) (go .0) in (
-          ltb-false 7 k (none-holds _ done own .0),
-          go .1 ∙ cond-true (accepted (releaseAnswer f t k n)) (withSlots f (slotsLeft f k n)) f own,
-        )
-
-    slot-left : (k n : ℕ) (g : File) → k ≤ 7 → g ≡ withSlots f (slotsLeft f k n)
-        → withSlots f (set (f .slots) k (getD (g .slots) k (slotOf Empty))) ≡ g
-    unfolding slotsLeft
-    slot-left k n g h is =
-        ap (λ (z : Slot). withSlots f (set (f .slots) k z))
-        (ap (λ (z : File). getD (z .slots) k (slotOf Empty)) is
-        ∙ getD-set-same (f .slots) k (slotOf (lessReleased n (positionAt (f .slots) k))) (slotOf Empty) (omega (arith, eight)))
-        ∙ sym is
-      where
-        eight : length (f .slots) ≡ 8
-        eight = file-slots l p
-
-    pub given-released : (m : List ℕ) (k n : ℕ) (x : Answer) (ok : Bool) (s : Slot) → x ≡ fileAnswer f t (release k n)
-        → s ≡ getD (fileLeft f t (release k n) .slots) (k % 8) (slotOf Empty)
-        → ok ≡ accepted x → ok ≡ true → m ≡ written l (place p + (9 + 4 * (k % 8))) (slotWords s) → SlotBack s → GivenWords l (on p (release k n)) x m
-    given-released m k n x ok s b c r good stored back =
-        let is = release-is k n x ok b r good in
-        let g = fileLeft f t (release k n) in
-        let at : k % 8 ≡ k = omega (arith, is .0) in
-        let same : s ≡ getD (g .slots) k (slotOf Empty) = c ∙ ap (λ (j : ℕ). getD (g .slots) j (slotOf Empty)) at in
-        given-release m f (withSlots f (set (f .slots) k s)) t refl refl
-        (slot-put l m p (w .canonical) (w .long) low k s (omega (arith, is .0)) back
-        (stored ∙ ap (λ (j : ℕ). written l (place p + (9 + 4 * j)) (slotWords s)) at))
-        k n x b (ap (λ (z : Slot). withSlots f (set (f .slots) k z)) same ∙ slot-left k n g (is .0) (is .1))
 
     -- a settlement that called nothing changes a month's total and no more
     month-left : (mo : ℕ) (figures : List ℤ) (x : Answer) (ok : Bool) (n : ℕ) (g : File) → x ≡ fileAnswer f t (settle mo figures)
@@ -470,10 +405,6 @@ answer-read l p a f t x e q h = h ∙ (λ i. fileAnswer (e i) (q i) a)
 pub left-read : (l : List ℕ) (p : ℕ) (a : Act) (f g : File) (t : ℕ) → f ≡ fileIn l p → t ≡ todayIn l → g ≡ fileLeft f t a
     → g ≡ fileLeft (fileIn l p) (todayIn l) a
 left-read l p a f g t e q h = h ∙ (λ i. fileLeft (e i) (q i) a)
-
-pub slot-read : (l : List ℕ) (p k : ℕ) (a : Act) (f g : File) (t : ℕ) → f ≡ fileIn l p → t ≡ todayIn l → g ≡ fileLeft f t a
-    → getD (g .slots) k (slotOf Empty) ≡ getD (fileLeft (fileIn l p) (todayIn l) a .slots) k (slotOf Empty)
-slot-read l p k a f g t e q h = ap (λ (z : File). getD (z .slots) k (slotOf Empty)) (left-read l p a f g t e q h)
 
 -- ---- what is read of a file
 

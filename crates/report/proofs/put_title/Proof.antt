@@ -5,6 +5,9 @@ use borrow.Author.Needs.{needs}
 use Rattle.report.proofs.put_title.Statement.{statement}
 use Rattle.report.proofs.put_title.Tie as tie
 
+today-requires : tie.Need-today-requires
+today-requires c κs = search needs
+
 put-today-requires : tie.Need-put-today-requires
 put-today-requires c κs = search needs
 
@@ -36,6 +39,7 @@ pub put-title-spec : {M : Type 1} → statement M
 put-title-spec =
     tie.close
     (tie.spec
+    today-requires
     put-today-requires
     slice-aggregate-put-text
     put-text-requires

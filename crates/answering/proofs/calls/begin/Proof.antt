@@ -1,24 +1,25 @@
--- `answering::calls::begin` meets its contract: a fresh book is begun, or its refusal leaves the book.
+-- `answering::calls::begin` meets its contract: a fresh book is begun on a day of the calendar, and past it nothing is written.
 -- Assumes nothing.
 use Rattle.answering.proofs.CallLaws.{begun-done, begun-refused}
 use borrow.Author.Needs.{needs}
 use Rattle.answering.proofs.calls.begin.Statement.{statement}
 use Rattle.answering.proofs.calls.begin.Tie as tie
 
+returns : tie.Need-returns
+returns c = search (begun-refused, needs)
+
 fresh-requires : tie.Need-fresh-requires
 fresh-requires c κs = search needs
 
-enum-told : tie.Need-enum-told
-enum-told c = search needs
+outcome-shown-requires : tie.Need-outcome-shown-requires
+outcome-shown-requires c κs = search needs
 
-enum-known-outcome : tie.Need-enum-known-outcome
-enum-known-outcome c = search needs
-
-returns : tie.Need-returns
-returns c = search (begun-done, needs)
+same-length : tie.Need-same-length
+same-length c = search needs
 
 returns-2 : tie.Need-returns-2
-returns-2 c = search (begun-refused, needs)
+returns-2 c = search (begun-done, needs)
 
 pub begin-spec : {M : Type 1} → statement M
-begin-spec = tie.close (tie.spec fresh-requires enum-told enum-known-outcome returns returns-2)
+begin-spec =
+    tie.close (tie.spec returns fresh-requires outcome-shown-requires same-length returns-2)

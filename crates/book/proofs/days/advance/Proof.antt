@@ -1,7 +1,7 @@
 -- `book::days::advance` meets its contract: one test is cause 17, and what is opened is the definition's number of days, day by day.
 -- Assumes nothing.
 use borrow.Author.Needs.{needs}
-use Rattle.book.proofs.Functions.FilesInWords.{outside-given, days-given}
+use Rattle.book.proofs.Functions.FilesInWords.{outside-given, none-given, days-given}
 use Rattle.book.proofs.Functions.DaysOpened.{not-before, days-within}
 use Rattle.book.proofs.days.advance.Statement.{statement}
 use Rattle.book.proofs.days.advance.Tie as tie
@@ -40,7 +40,10 @@ same-length : tie.Need-same-length
 same-length c = search needs
 
 returns-2 : tie.Need-returns-2
-returns-2 c = search (days-given, needs)
+returns-2 c = search (none-given, needs)
+
+returns-3 : tie.Need-returns-3
+returns-3 c = search (days-given, needs)
 
 pub advance-spec : {M : Type 1} → statement M
 advance-spec =
@@ -52,9 +55,10 @@ advance-spec =
     returns
     sub-fewer
     fewer-requires
+    returns-2
     open-files-requires
     add-words
     cast-words
     slice-write-words
     same-length
-    returns-2)
+    returns-3)

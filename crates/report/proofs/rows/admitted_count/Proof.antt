@@ -5,25 +5,22 @@ use Prim.Native.Nat.{_≤_, _-_}
 use mathlib.Core.Path.{_≡_}
 use Rattle.report.specs.Table.{admittedBelow}
 use Rattle.report.proofs.TableLaws.{none-admitted, one-admitted, all-admitted, admitted-fits}
-use Rattle.laws.specs.Lists.{length-unmap}
+use Rattle.layout.specs.Words.{bookOfWords}
 use borrow.Author.Needs.{needs}
 use Rattle.report.proofs.rows.admitted_count.Statement.{statement}
 use Rattle.report.proofs.rows.admitted_count.Tie as tie
 
 abbrev Inv-loop : tie.InvT-loop
-Inv-loop book count₀ i₀ count i = (i ≤ 64) × (count ≡ admittedBelow i book)
+Inv-loop book count₀ participant₀ count participant = (participant ≤ 64) × (count ≡ admittedBelow participant (bookOfWords book))
 
 abbrev μ-loop : tie.MeasureT-loop
-μ-loop book count₀ i₀ count i = 64 - i
+μ-loop book count₀ participant₀ count participant = 64 - participant
 
 loop-holds : tie.Need-loop-holds Inv-loop μ-loop
 loop-holds c = (search needs, search (none-admitted, needs))
 
-mul-file : tie.Need-mul-file Inv-loop μ-loop
-mul-file c = search needs
-
-element-copy-out-file : tie.Need-element-copy-out-file Inv-loop μ-loop
-element-copy-out-file c = search needs
+is-admitted-requires : tie.Need-is-admitted-requires Inv-loop μ-loop
+is-admitted-requires c κs = search needs
 
 cast-count : tie.Need-cast-count Inv-loop μ-loop
 cast-count c = search needs
@@ -31,14 +28,14 @@ cast-count c = search needs
 add-count : tie.Need-add-count Inv-loop μ-loop
 add-count c = search (admitted-fits, needs)
 
-add-i : tie.Need-add-i Inv-loop μ-loop
-add-i c = search needs
+add-participant : tie.Need-add-participant Inv-loop μ-loop
+add-participant c = search needs
 
 loop-less : tie.Need-loop-less Inv-loop μ-loop
 loop-less c = search needs
 
 loop-again : tie.Need-loop-again Inv-loop μ-loop
-loop-again c = (search needs, search (one-admitted, length-unmap, needs))
+loop-again c = (search needs, search (one-admitted, needs))
 
 returns : tie.Need-returns Inv-loop μ-loop
 returns c = search (all-admitted, needs)
@@ -50,11 +47,10 @@ admitted-count-spec =
     Inv-loop
     μ-loop
     loop-holds
-    mul-file
-    element-copy-out-file
+    is-admitted-requires
     cast-count
     add-count
-    add-i
+    add-participant
     loop-less
     loop-again
     returns)

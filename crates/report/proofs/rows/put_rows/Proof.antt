@@ -4,6 +4,7 @@
 use Prim.Native.Nat.{_≤_, _-_}
 use mathlib.Core.Path.{_≡_, refl}
 use lib.ListN.{length}
+use Rattle.layout.specs.Words.{bookOfWords}
 use Rattle.printing.specs.Placed.{Put}
 use Rattle.report.specs.Table.{rows}
 use Rattle.report.proofs.TableLaws.{rows-none, rows-more, rows-done}
@@ -12,7 +13,8 @@ use Rattle.report.proofs.rows.put_rows.Statement.{statement}
 use Rattle.report.proofs.rows.put_rows.Tie as tie
 
 abbrev Inv-loop : tie.InvT-loop
-Inv-loop out₀ at book p₀ participant₀ out p participant = (participant ≤ 64) × (length out ≡ length out₀) × Put (rows participant book) out₀ at p out
+Inv-loop out₀ at book p₀ participant₀ out p participant =
+    (participant ≤ 64) × (length out ≡ length out₀) × Put (rows participant (bookOfWords book)) out₀ at p out
 
 abbrev μ-loop : tie.MeasureT-loop
 μ-loop out₀ at book p₀ participant₀ out p participant = 64 - participant

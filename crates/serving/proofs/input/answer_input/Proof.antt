@@ -1,4 +1,4 @@
--- `serving::input::answer_input` meets its contract, which says nothing: what the parts left is reached and within the buffer, as the last line asks.
+-- `serving::input::answer_input` meets its contract: what the parts left is well-formed and within the buffer, as the last line asks.
 -- Assumes nothing.
 use native.Mathlib.Omega.{arith}
 use borrow.Author.Needs.{needs}
@@ -37,11 +37,17 @@ slice-aggregate-take-last-3 c = search needs
 
 take-last-requires : tie.Need-take-last-requires
 take-last-requires c κs =
-    let taken = c .before .before .before .before .before .before .before .before .before .before .before in
+    let taken = c .before .before .before .before .before .before .before .before .before .before .before .before .before .before in
     (taken .take-parts .ensures .0, omega (arith, taken .take-parts .ensures .1, taken .take-parts .kept))
+
+same-length : tie.Need-same-length
+same-length c = search needs
 
 returns : tie.Need-returns
 returns c = search needs
+
+same-length-2 : tie.Need-same-length-2
+same-length-2 c = search needs
 
 returns-2 : tie.Need-returns-2
 returns-2 c = search needs
@@ -61,5 +67,7 @@ answer-input-spec =
     slice-aggregate-take-last-2
     slice-aggregate-take-last-3
     take-last-requires
+    same-length
     returns
+    same-length-2
     returns-2)

@@ -1,4 +1,4 @@
--- `serving::input::take_last` meets its contract, which says nothing: the newline stands within the buffer, behind what is used.
+-- `serving::input::take_last` meets its contract: the newline stands within the buffer, behind what is used.
 -- Assumes nothing.
 use native.Mathlib.Omega.{arith}
 use lib.ListN.{length-take, length-set}
@@ -33,6 +33,9 @@ same-length-2 c = search needs
 same-length-3 : tie.Need-same-length-3
 same-length-3 c = search needs
 
+same-length-4 : tie.Need-same-length-4
+same-length-4 c = search needs
+
 returns : tie.Need-returns
 returns c = search needs
 
@@ -49,4 +52,5 @@ take-last-spec =
     same-length
     same-length-2
     same-length-3
+    same-length-4
     returns)

@@ -1,20 +1,21 @@
--- `serving::input::take_parts` meets its contract: what is filled stays below the buffer's length, and the lines of each part hand back a book that is
--- reached. The measure is how many reads may still be made.
+-- `serving::input::take_parts` meets its contract: what is filled stays below the buffer's length, and the lines of each part leave a book that is
+-- well-formed. The measure is how many reads may still be made.
 -- Assumes nothing.
 use Prim.Native.Nat.{_≤_, _<_, _-_}
 use mathlib.Core.Path.{_≡_}
 use native.Mathlib.Omega.{arith}
 use lib.ListN.{length, length-take}
-use Rattle.book.specs.Reached.{Reached}
+use Rattle.layout.specs.WellFormed.{WellFormed}
 use borrow.Author.Needs.{needs}
 use Rattle.serving.proofs.input.take_parts.Statement.{statement}
 use Rattle.serving.proofs.input.take_parts.Tie as tie
 
 abbrev Inv-loop : tie.InvT-loop
 Inv-loop book₀ progress₀ mode file name buffer₀ numbers₀ out₀ filled₀ reads₀ book progress buffer numbers out filled reads =
-    (reads ≤ 18446744073709551615) × (filled < length buffer) × (length buffer ≡ length buffer₀) × (length numbers ≡ length numbers₀)
+    (reads ≤ 18446744073709551615) × (filled < length buffer) × (length book ≡ length book₀) × (length buffer ≡ length buffer₀)
+    × (length numbers ≡ length numbers₀)
     × (length out ≡ length out₀)
-    × Reached book
+    × WellFormed book
 
 abbrev μ-loop : tie.MeasureT-loop
 μ-loop book₀ progress₀ mode file name buffer₀ numbers₀ out₀ filled₀ reads₀ book progress buffer numbers out filled reads =
@@ -41,8 +42,11 @@ same-length-2 c = search needs
 same-length-3 : tie.Need-same-length-3 Inv-loop μ-loop
 same-length-3 c = search needs
 
+same-length-4 : tie.Need-same-length-4 Inv-loop μ-loop
+same-length-4 c = search needs
+
 returns : tie.Need-returns Inv-loop μ-loop
-returns c = (c .before .before .before .before .before .before .before .loop .inv .5, search needs)
+returns c = (c .before .before .before .before .before .before .before .loop .inv .6, search needs)
 
 sub-count : tie.Need-sub-count Inv-loop μ-loop
 sub-count c = search needs
@@ -70,8 +74,8 @@ take-lines-requires c κs = search needs
 
 move-down-requires : tie.Need-move-down-requires Inv-loop μ-loop
 move-down-requires c κs =
-    let taken = c .before .before .before .before .before .before in
-    let counted = taken .before .before .before .before in
+    let taken = c .before .before .before .before .before .before .before in
+    let counted = taken .before .before .before .before .before in
     let got = counted .before .before .before .before .before .before in
     let turn = got .before .before .before in (
       omega (arith, simp length-take at (taken .take-lines .ensures .1)),
@@ -81,7 +85,8 @@ move-down-requires c κs =
 staying-requires : tie.Need-staying-requires Inv-loop μ-loop
 staying-requires c κs =
     let moved = c .before .before in
-    let got = moved .before .before .before .before .before .before .before .before .before .before .before .before .before .before .before .before .before in
+    let taken = moved .before .before .before .before .before .before .before .before in
+    let got = taken .before .before .before .before .before .before .before .before .before .before .before in
     omega (arith, moved .move-down .kept, got .read-more .kept, got .before .before .before .loop .inv)
 
 is-long-requires : tie.Need-is-long-requires Inv-loop μ-loop
@@ -92,31 +97,36 @@ flush-requires c κs = search needs
 
 loop-less : tie.Need-loop-less Inv-loop μ-loop
 loop-less c =
-    let turn = c .before .before .before .before .before .before .before .before .before .before .before .before .before .before .before .before .before .before .before .before .before .before .before .before .before in
+    let taken = c .before .before .before .before .before .before .before .before .before .before .before .before .before .before in
+    let turn = taken .before .before .before .before .before .before .before .before .before .before .before .before .before in
     omega (arith, turn .loop-test, turn .before .loop .inv)
 
 loop-again : tie.Need-loop-again Inv-loop μ-loop
 loop-again c =
     let moved = c .before .before .before .before .before .before in
-    let taken = moved .before .before .before .before .before .before .before in
-    let got = taken .before .before .before .before .before .before .before .before .before .before in
+    let taken = moved .before .before .before .before .before .before .before .before in
+    let got = taken .before .before .before .before .before .before .before .before .before .before .before in
     let turn = got .before .before .before in (
       omega (arith, got .before .before .loop-test),
       omega (arith, c .before .before .before .staying .ensures),
+      omega (arith, taken .take-lines .kept, turn .loop .inv),
       omega (arith, moved .move-down .kept, got .read-more .kept, turn .loop .inv),
       omega (arith, taken .take-lines .kept, turn .loop .inv),
       omega (arith, taken .take-lines .kept, turn .loop .inv),
       taken .take-lines .ensures .0,
     )
 
-same-length-4 : tie.Need-same-length-4 Inv-loop μ-loop
-same-length-4 c = search needs
-
 same-length-5 : tie.Need-same-length-5 Inv-loop μ-loop
 same-length-5 c = search needs
 
 same-length-6 : tie.Need-same-length-6 Inv-loop μ-loop
 same-length-6 c = search needs
+
+same-length-7 : tie.Need-same-length-7 Inv-loop μ-loop
+same-length-7 c = search needs
+
+same-length-8 : tie.Need-same-length-8 Inv-loop μ-loop
+same-length-8 c = search needs
 
 returns-2 : tie.Need-returns-2 Inv-loop μ-loop
 returns-2 c = search needs
@@ -134,6 +144,7 @@ take-parts-spec =
     same-length
     same-length-2
     same-length-3
+    same-length-4
     returns
     sub-count
     part-count-start
@@ -149,7 +160,8 @@ take-parts-spec =
     flush-requires
     loop-less
     loop-again
-    same-length-4
     same-length-5
     same-length-6
+    same-length-7
+    same-length-8
     returns-2)

@@ -1,19 +1,20 @@
--- `serving::lines::take_lines` meets its contract: each call applied hands back a book that is reached, and the next line begins behind the end of the
--- one taken, within the input. The measure is what is left behind the line's end.
+-- `serving::lines::take_lines` meets its contract: each call applied leaves a book that is well-formed, and the next line begins behind the end of
+-- the one taken, within the input. The measure is what is left behind the line's end.
 -- Assumes nothing.
 use Prim.Native.Nat.{_≤_, _-_}
 use mathlib.Core.Logic.{⊎-elim}
 use mathlib.Core.Path.{_≡_, ap}
 use native.Mathlib.Omega.{arith}
 use lib.ListN.{length}
-use Rattle.book.specs.Reached.{Reached}
+use Rattle.layout.specs.WellFormed.{WellFormed}
 use borrow.Author.Needs.{needs}
 use Rattle.serving.proofs.lines.take_lines.Statement.{statement}
 use Rattle.serving.proofs.lines.take_lines.Tie as tie
 
 abbrev Inv-loop : tie.InvT-loop
 Inv-loop book₀ progress₀ mode name input numbers₀ out₀ start₀ end₀ book progress numbers out start end =
-    (start ≤ end) × (end ≤ length input) × (length numbers ≡ length numbers₀) × (length out ≡ length out₀) × Reached book
+    (start ≤ end) × (end ≤ length input) × (length book ≡ length book₀) × (length numbers ≡ length numbers₀) × (length out ≡ length out₀)
+    × WellFormed book
 
 abbrev μ-loop : tie.MeasureT-loop
 μ-loop book₀ progress₀ mode name input numbers₀ out₀ start₀ end₀ book progress numbers out start end =
@@ -53,7 +54,7 @@ shows-report-requires : tie.Need-shows-report-requires Inv-loop μ-loop
 shows-report-requires c κs = search needs
 
 report-requires : tie.Need-report-requires Inv-loop μ-loop
-report-requires c κs = c .before .before .before .before .before .before .before .before .before .apply .ensures .reached
+report-requires c κs = c .before .before .before .before .before .before .before .before .before .before .before .apply .ensures .formed
 
 next-end-requires : tie.Need-next-end-requires Inv-loop μ-loop
 next-end-requires c κs = search needs
@@ -64,16 +65,17 @@ loop-less c = search needs
 loop-again : tie.Need-loop-again Inv-loop μ-loop
 loop-again c =
     let delivered = c .before .before .before .before .before in
-    let applied = delivered .before .before .before .before in
-    let read = applied .before .before .before in
+    let applied = delivered .before .before .before .before .before in
+    let read = applied .before .before .before .before in
     let turn = read .before .before .before .before .before in (
       search needs,
       search needs,
+      omega (arith, applied .apply .kept, turn .loop .inv),
       omega (arith, read .request-of .kept, turn .loop .inv),
-      ⊎-elim (λ w. omega (arith, w .2 .kept, ap length (w .6), delivered .deliver .kept, turn .loop .inv))
+      ⊎-elim (λ w. omega (arith, w .3 .kept, ap length (w .7), delivered .deliver .kept, turn .loop .inv))
           (λ w. omega (arith, ap length (w .2), delivered .deliver .kept, turn .loop .inv))
           (c .before .if1 .came),
-      applied .apply .ensures .reached,
+      applied .apply .ensures .formed,
     )
 
 wrapping-add-u64-requires-2 : tie.Need-wrapping-add-u64-requires-2 Inv-loop μ-loop
@@ -84,6 +86,9 @@ same-length c = search needs
 
 same-length-2 : tie.Need-same-length-2 Inv-loop μ-loop
 same-length-2 c = search needs
+
+same-length-3 : tie.Need-same-length-3 Inv-loop μ-loop
+same-length-3 c = search needs
 
 returns : tie.Need-returns Inv-loop μ-loop
 returns c = search needs
@@ -112,4 +117,5 @@ take-lines-spec =
     wrapping-add-u64-requires-2
     same-length
     same-length-2
+    same-length-3
     returns)

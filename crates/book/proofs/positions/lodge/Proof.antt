@@ -1,15 +1,16 @@
--- `book::calls::release` meets its contract: cause 1 is the participant's number, a refusal writes nothing, and what is left is put at its position.
+-- `book::positions::lodge` meets its contract: cause 1 is the participant's number, a refusal writes nothing, and what was lodged is put at its position.
 -- Assumes nothing.
 use borrow.Author.Needs.{needs}
-use Rattle.book.proofs.Functions.OnWords.{above-given, given-refused, given-released}
-use Rattle.book.proofs.calls.release.Statement.{statement}
-use Rattle.book.proofs.calls.release.Tie as tie
+use Rattle.book.proofs.Functions.OnWords.{above-given, given-refused}
+use Rattle.book.proofs.Functions.OnPositions.{given-lodged}
+use Rattle.book.proofs.positions.lodge.Statement.{statement}
+use Rattle.book.proofs.positions.lodge.Tie as tie
 
 returns : tie.Need-returns
 returns c = search (above-given, needs)
 
-release-outcome-requires : tie.Need-release-outcome-requires
-release-outcome-requires c κs = search needs
+lodge-answer-requires : tie.Need-lodge-answer-requires
+lodge-answer-requires c κs = search needs
 
 is-done-requires : tie.Need-is-done-requires
 is-done-requires c κs = search needs
@@ -36,7 +37,7 @@ same-length : tie.Need-same-length
 same-length c = search needs
 
 returns-2 : tie.Need-returns-2
-returns-2 c = search (given-released, needs)
+returns-2 c = search (given-lodged, needs)
 
 same-length-2 : tie.Need-same-length-2
 same-length-2 c = search needs
@@ -44,12 +45,12 @@ same-length-2 c = search needs
 returns-3 : tie.Need-returns-3
 returns-3 c = search (given-refused, needs)
 
-pub release-spec : {M : Type 1} → statement M
-release-spec =
+pub lodge-spec : {M : Type 1} → statement M
+lodge-spec =
     tie.close
     (tie.spec
     returns
-    release-outcome-requires
+    lodge-answer-requires
     is-done-requires
     mul-at
     add-at
