@@ -1,0 +1,28 @@
+-- `clib::numbers::advanced_numbers` meets its contract: the case of the answer decides.
+-- Assumes nothing.
+use borrow.Author.Needs.{needs}
+use Rattle.clib.proofs.Shown.{advanced-opened, advanced-refused}
+use Rattle.clib.proofs.numbers.advanced_numbers.Statement.{statement}
+use Rattle.clib.proofs.numbers.advanced_numbers.Tie as tie
+
+enum-known-answer : tie.Need-enum-known-answer
+enum-known-answer c = search needs
+
+cast-t5 : tie.Need-cast-t5
+cast-t5 c = search needs
+
+enum-known-answer-2 : tie.Need-enum-known-answer-2
+enum-known-answer-2 c = search needs
+
+cast-t6 : tie.Need-cast-t6
+cast-t6 c = search needs
+
+returns : tie.Need-returns
+returns c = search (advanced-opened, needs)
+
+returns-2 : tie.Need-returns-2
+returns-2 c = search (advanced-refused, needs)
+
+pub advanced-numbers-spec : {M : Type 1} → statement M
+advanced-numbers-spec =
+    tie.close (tie.spec enum-known-answer cast-t5 enum-known-answer-2 cast-t6 returns returns-2)

@@ -1,0 +1,92 @@
+-- The numbers that a function of the C library returns for each answer of paper 01.
+-- Assumes nothing.
+use Prim.Native.Nat.{ℕ, _≤_}
+use lib.IntN.{ℤ, pos, natAbs}
+use Rattle.file.specs.Answer.{Answer, refused, done, called, covered, recorded, annual, opened, stated, counted}
+use Rattle.special.specs.declared.Special.{Special}
+use Rattle.special.specs.declared.Special.the-variants as Specials
+use Rattle.clib.specs.declared.GuaranteeSettled.{GuaranteeSettled}
+use Rattle.clib.specs.declared.GuaranteeAnnual.{GuaranteeAnnual}
+use Rattle.clib.specs.declared.GuaranteeAdvanced.{GuaranteeAdvanced}
+use Rattle.clib.specs.declared.GuaranteeStatement.{GuaranteeStatement}
+use Rattle.clib.specs.declared.GuaranteeCount.{GuaranteeCount}
+use Rattle.clib.specs.declared.GuaranteeDay.{GuaranteeDay}
+use Rattle.clib.specs.declared.GuaranteeSpecial.{GuaranteeSpecial}
+
+-- An answer's numbers: its refusal, 0 if it is none; a settlement's kind and total; and the other values in the paper's order.
+pub record Numbers : Type 0 where
+  pub refusal : ℕ
+  pub kind : ℕ
+  pub total : ℤ
+  pub first : ℕ
+  pub second : ℕ
+  pub third : ℕ
+  pub fourth : ℕ
+  pub fifth : ℕ
+
+-- Those of an accepted call that isn't a settlement.
+abbrev pub values : ℕ → ℕ → ℕ → ℕ → ℕ → Numbers
+values a b c d e = record { refusal = 0; kind = 0; total = pos 0; first = a; second = b; third = c; fourth = d; fifth = e }
+
+-- Those of an accepted settlement: its kind, E, what is asked, the last free day.
+abbrev pub settlement : ℕ → ℤ → ℕ → ℕ → Numbers
+settlement k e asked last = record { refusal = 0; kind = k; total = e; first = asked; second = last; third = 0; fourth = 0; fifth = 0 }
+
+-- The numbers of each answer. A settlement's kind is 1 called, 2 covered, 3 recorded; a value that an answer doesn't have is 0.
+abbrev pub numbersOf : Answer → Numbers
+numbersOf (refused n) = record { refusal = n; kind = 0; total = pos 0; first = 0; second = 0; third = 0; fourth = 0; fifth = 0 }
+numbersOf done = values 0 0 0 0 0
+numbersOf (called e asked last) = settlement 1 (pos e) asked last
+numbersOf (covered e) = settlement 2 e 0 0
+numbersOf (recorded e) = settlement 3 e 0 0
+numbersOf (annual a n) = values a n 0 0 0
+numbersOf (opened n) = values n 0 0 0 0
+numbersOf (stated f c s d a) = values f c s d a
+numbersOf (counted n) = values n 0 0 0 0
+
+-- What is returned for an answer that has no values.
+abbrev pub refusalOf : Answer → ℕ
+refusalOf x = numbersOf x .refusal
+
+-- For a settlement's.
+abbrev pub settledNumbers : Answer → GuaranteeSettled
+settledNumbers x =
+    let n = numbersOf x in record { refusal = n .refusal; kind = n .kind; total = n .total; asked = n .first; «last_free_day» = n .second }
+
+-- For an annual run's.
+abbrev pub annualNumbers : Answer → GuaranteeAnnual
+annualNumbers x = let n = numbersOf x in record { refusal = n .refusal; amount = n .first; months = n .second }
+
+-- For an advance's.
+abbrev pub advancedNumbers : Answer → GuaranteeAdvanced
+advancedNumbers x = let n = numbersOf x in record { refusal = n .refusal; opened = n .first }
+
+-- For a statement's.
+abbrev pub statementNumbers : Answer → GuaranteeStatement
+statementNumbers x =
+    let n = numbersOf x in
+    record {
+      refusal = n .refusal;
+      firm = n .first;
+      cover = n .second;
+      shortfall = n .third;
+      «days_charged» = n .fourth;
+      «accrued_mills» = n .fifth;
+    }
+
+-- For the count of calls made.
+abbrev pub countNumbers : Answer → GuaranteeCount
+countNumbers x = let n = numbersOf x in record { refusal = n .refusal; count = n .first }
+
+-- For today, which is the count of days since 1 January 2020.
+abbrev pub dayNumbers : Answer → GuaranteeDay
+dayNumbers x = let n = numbersOf x in record { refusal = n .refusal; day = n .first }
+
+-- What a settlement's answer is within: a total is the sum of at most 16 figures within plus or minus 10^12.
+unfoldable pub SmallTotal : Answer → Type 0
+SmallTotal x = natAbs (numbersOf x .total) ≤ 16000000000000
+
+-- For a special guarantee's.
+abbrev pub specialNumbers : Special → GuaranteeSpecial
+specialNumbers (Specials.Guarantee n) = record { refusal = 0; cents = n }
+specialNumbers (Specials.Refused n) = record { refusal = n; cents = 0 }
