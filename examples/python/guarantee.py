@@ -3,6 +3,7 @@
 ctypes cuts a number that is too large for its type, so each argument is held to its type's bounds first, as the ledger does.
 """
 import ctypes
+import struct as structs
 
 WORDS = 6147
 KINDS = {1: 'called', 2: 'covered', 3: 'recorded'}
@@ -25,7 +26,7 @@ SPECIAL = struct('Special', 'cents')
 # What each function on words returns, and what it takes behind the words.
 FUNCTIONS = {'fresh': (U64, U32), 'admit': (U64, U64, U64), 'lodge_cash': (U64, U64, U64, U64), 'lodge_letter': (U64, U64, U64, U64, U32, U32),
              'release': (U64, U64, U64, U64), 'settle': (SETTLED, U64, U32, list), 'annual_run': (ANNUAL, U64), 'advance': (ADVANCED, U32, U64),
-             'statement': (STATEMENT, U64), 'calls_made': (COUNT,), 'today': (DAY,)}
+             'statement': (STATEMENT, U64), 'calls_made': (COUNT,), 'today': (DAY,), 'check': (U64,)}
 BOUNDS = {U64: (0, 2 ** 64 - 1), U32: (0, 2 ** 32 - 1), I64: (-2 ** 63, 2 ** 63 - 1)}
 
 
@@ -60,6 +61,17 @@ class Book:
                 passed += lent(argument) if kind is list else [held(argument, kind)]
             return function(*passed)
         return call
+
+    def save(self):
+        """The bytes of a saved book: each word with its least byte first."""
+        return structs.pack(f'<{self.length}Q', *self.words)
+
+    def load(self, saved):
+        """Takes a saved book, and says whether it is one; words that are none must not be used."""
+        if len(saved) != 8 * self.length:
+            return False
+        self.words[:] = structs.unpack(f'<{self.length}Q', saved)
+        return self.check() == 0
 
     def special(self, medium, low, marks, *semesters):
         function = self.library.guarantee_special

@@ -7,7 +7,7 @@ use mathlib.Core.List.{List}
 use lib.ListN.{length}
 use Rattle.calendar.specs.declared.Day.{Day}
 use Rattle.file.specs.Answer.{Answer, refused, counted}
-use Rattle.layout.specs.Words.{bookLength, bookOfWords}
+use Rattle.layout.specs.Words.{bookOfWords}
 use Rattle.layout.specs.WellFormed.{WellFormed}
 use Rattle.formed.specs.Decides.{Decides}
 use Rattle.book.specs.Call.{Call, statement, callsMade}

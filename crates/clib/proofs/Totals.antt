@@ -1,6 +1,6 @@
 -- The total of a settlement's answer is small, whatever the book and the figures.
 -- Assumes nothing.
-use Prim.Native.Nat.{ℕ, _≤_}
+use Prim.Native.Nat.{ℕ}
 use mathlib.Core.Path.{_≡_, sym, subst}
 use mathlib.Core.Bool.{false}
 use mathlib.Core.List.{List, [], _∷_}
@@ -9,7 +9,7 @@ use lib.IntN.{ℤ}
 use Rattle.laws.specs.Lists.{All}
 use Rattle.laws.specs.Cases.{split}
 use Rattle.calendar.specs.Civil.{monthOf}
-use Rattle.manual.specs.Figures.{sumOf, wrongCount, outOfRange}
+use Rattle.manual.specs.Figures.{wrongCount, outOfRange}
 use Rattle.manual.specs.Laws.{summed-total}
 use Rattle.file.specs.declared.File.{File}
 use Rattle.file.specs.Answer.{Answer, refused, Cause, decide}

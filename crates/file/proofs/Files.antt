@@ -1,27 +1,14 @@
--- A whole file or statement, from what the code put into its fields.
+-- The file of an admission, from what the code put into its fields.
 -- Assumes nothing.
-use Prim.Native.Nat.{ℕ, _+_, _-_, _≤_, _<_}
+use Prim.Native.Nat.{ℕ, _+_, _≤_, _<_}
 use mathlib.Core.Path.{_≡_}
 use mathlib.Core.Bool.{true}
 use borrow.Author.Tests.{lt-ltb, le-ltb}
 use lib.ListN.{set}
 use Rattle.manual.specs.Minimum.{minimumOf}
 use Rattle.file.specs.declared.File.{File}
-use Rattle.file.specs.Position.{coverOn}
 use Rattle.file.specs.Calls.{callOf, inPlaces}
-use Rattle.file.specs.Fields.{coverOf, shortfallOf}
-use Rattle.file.specs.Statement.{statementOf}
 use Rattle.file.specs.Admit.{noFile, callsOfAdmission, admittedFile}
-
-module _ (f : File) (t covered short : ℕ) (e : covered ≡ coverOn t (f .slots)) (g : short ≡ f .firm - covered) where
-  pub shortfall-is : short ≡ shortfallOf f t
-  unfolding shortfallOf coverOf
-  shortfall-is = cc
-
-  pub statement-is :
-      record { firm = f .firm; cover = covered; shortfall = short; charged = f .charged; accrued = f .accrued } ≡ statementOf f t
-  unfolding statementOf shortfallOf coverOf
-  statement-is = simp (g, e)
 
 module _ (f : File) (t role minimum : ℕ) (blank : f ≡ noFile) (e : minimum ≡ minimumOf role) where
   -- An admission that calls.

@@ -1,19 +1,17 @@
 -- The words of a part of a file lead back to it.
 -- Assumes nothing.
-use Prim.Native.Nat.{ℕ, _+_, _%_, _≤_, _<_}
-use mathlib.Core.Path.{_≡_, refl, sym, ap, _∙_}
+use Prim.Native.Nat.{ℕ, _+_, _<_}
+use mathlib.Core.Path.{_≡_, refl, sym}
 use mathlib.Core.Bool.{Bool, true, false}
 use mathlib.Core.List.{List, [], _∷_}
 use native.Mathlib.Omega.{arith}
 use native.Mathlib.Numerals.{add-one, add-two, add-three, add-five, add-six}
 use borrow.Author.Tests.{eq-eqb, ne-eqb}
-use lib.ListN.{length, set}
+use lib.ListN.{set}
 use lib.IntN.{ℤ}
 use mir.Syntax.{w64}
 use mir.Val.{SFits, toZ, ofZ}
 use mir.Facts.{toZ-ofZ}
-use Rattle.calendar.specs.declared.Day.{Day}
-use Rattle.calendar.specs.declared.Month.{Month}
 use Rattle.file.specs.declared.Position.{Position}
 use Rattle.file.specs.declared.Position.the-variants.{Empty, Cash, Letter}
 use Rattle.file.specs.declared.Slot.{Slot}

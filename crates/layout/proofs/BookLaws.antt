@@ -1,7 +1,7 @@
 -- A book in words: its files, one of them put back, another day or count in its word, and a book's words one after another.
 -- Assumes nothing.
 use Prim.Native.Nat.{ℕ, zero, suc, _+_, _*_, _≤_, _<_}
-use mathlib.Core.Path.{_≡_, refl, sym, ap, subst, _∙_}
+use mathlib.Core.Path.{_≡_, refl, sym, ap, _∙_}
 use mathlib.Core.List.{List, [], _∷_, _++_}
 use native.Mathlib.Nat.{mul-suc}
 use native.Mathlib.Omega.{arith}
@@ -16,8 +16,7 @@ use Rattle.file.specs.declared.File.{File}
 use Rattle.file.specs.Admit.{noFile}
 use Rattle.layout.specs.Parts.{numberOf, slotOfWords, callOfWords, totalOfWords, signedOf, slotWords, callWords, totalWords, zigzagOf, SlotBack, CallBack, TotalBack, written}
 use Rattle.layout.specs.Files.{fileOfWords, slotsOfWords, callsOfWords, totalsOfWords, wordsAt, flat, fileWords, Put}
-use Rattle.layout.specs.Book.{Book}
-use Rattle.layout.specs.Words.{place, fileIn, todayIn, bookOfWords, bookWords}
+use Rattle.layout.specs.Words.{place, fileIn, bookOfWords, bookWords}
 use Rattle.layout.proofs.Written.{length-written, written-before, written-behind, written-first, written-later}
 use Rattle.layout.proofs.Rows.{flat-length}
 use Rattle.layout.proofs.FileLaws.{file-ext}

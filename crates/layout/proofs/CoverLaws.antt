@@ -1,12 +1,12 @@
 -- The cover of the positions of a file in words, summed one position after the other.
 -- Assumes nothing.
 use Prim.Native.Nat.{ℕ, _+_, _*_, _≤_, _<_}
-use mathlib.Core.Path.{_≡_, refl, sym, ap, _∙_}
+use mathlib.Core.Path.{_≡_, sym, ap, _∙_}
 use mathlib.Core.List.{List}
 use native.Mathlib.Omega.{arith}
 use mir.Val.{Fits}
 use mir.Syntax.{w64}
-use lib.ListN.{length, getD, drop}
+use lib.ListN.{getD, drop}
 use Rattle.laws.specs.Lists.{All}
 use Rattle.laws.specs.Tabulated.{getD-table}
 use Rattle.file.specs.declared.Slot.{Slot}

@@ -2,7 +2,7 @@
 -- Assumes nothing.
 use Prim.Native.Nat.{ℕ, zero, suc, _+_, _*_, _≤_, _<_}
 use mathlib.Core.Path.{_≡_, refl, sym, ap, _∙_}
-use mathlib.Core.Bool.{Bool, true, false}
+use mathlib.Core.Bool.{Bool}
 use mathlib.Core.List.{List, [], _∷_, _++_, append-assoc, append-nil}
 use native.Mathlib.Nat.{add-assoc}
 use native.Mathlib.Omega.{arith}
@@ -19,10 +19,10 @@ use Rattle.file.specs.declared.Position.the-variants.{Empty}
 use Rattle.file.specs.Position.{slotOf}
 use Rattle.file.specs.Calls.{callOf}
 use Rattle.file.specs.Totals.{noTotal}
-use Rattle.layout.specs.Parts.{flagOf, flagWord, slotOfWords, callOfWords, totalOfWords, slotWords, callWords, totalWords, written, SlotBack, CallBack, TotalBack}
+use Rattle.layout.specs.Parts.{flagOf, slotOfWords, callOfWords, totalOfWords, slotWords, callWords, totalWords, written, SlotBack, CallBack, TotalBack}
 use Rattle.layout.specs.Files.{slotIn, callIn, totalIn, slotsOfWords, callsOfWords, totalsOfWords, fileOfWords, wordsAt, flat, ownWords, fileWords, Put, PutRows}
 use Rattle.layout.proofs.Backs.{flag-back}
-use Rattle.layout.proofs.Written.{length-written, written-next, written-in}
+use Rattle.layout.proofs.Written.{written-next, written-in}
 use Rattle.layout.proofs.Rows.{flat-length, flat-at}
 
 -- ---- the arrays as they are read

@@ -2,21 +2,18 @@
 -- Assumes nothing.
 use Prim.Native.Nat.{ℕ, zero, suc, _+_, _*_, _≤_, _<_}
 use mathlib.Core.Path.{_≡_, refl, sym, ap, subst, _∙_}
-use mathlib.Core.Bool.{Bool, true, false, cond}
-use mathlib.Core.List.{List, [], _∷_, _++_, append-assoc}
+use mathlib.Core.List.{List, [], _∷_, _++_}
 use native.Mathlib.Nat.{mul-suc, mul-le-mul, le-refl}
 use native.Mathlib.Omega.{arith}
 use lib.Dec.{eqb}
 use lib.ListN.{length, set, length-append, length-set}
 use Rattle.laws.specs.Cases.{split}
 use Rattle.laws.specs.Lists.{All, all-set, table}
-use Rattle.laws.specs.Tabulated.{length-table}
 use Rattle.file.specs.declared.File.{File}
 use Rattle.file.specs.declared.Slot.{Slot}
-use Rattle.file.specs.declared.OpenCall.{OpenCall}
 use Rattle.file.specs.declared.MonthTotal.{MonthTotal}
 use Rattle.file.specs.Fields.{withSlots, withNext, setTo}
-use Rattle.layout.specs.Parts.{numberOf, flagOf, flagWord, signedOf, zigzagOf, slotOfWords, callOfWords, totalOfWords, slotWords, callWords, totalWords, SlotBack, CallBack, TotalBack, written}
+use Rattle.layout.specs.Parts.{numberOf, flagOf, signedOf, slotOfWords, callOfWords, totalOfWords, slotWords, callWords, totalWords, SlotBack, CallBack, TotalBack, written}
 use Rattle.layout.specs.Files.{fileOfWords, slotsOfWords, callsOfWords, totalsOfWords, wordsAt, flat, ownWords, fileWords, Put}
 use Rattle.layout.specs.Words.{bookLength, place, fileIn, bookOfWords, bookWords}
 use Rattle.layout.proofs.Backs.{flag-back}

@@ -9,9 +9,9 @@ use borrow.Author.Tests.{ltb-true, eq-eqb, ne-eqb}
 use mir.Facts.{toZ-ofZ, toZ-pos}
 use mir.Syntax.{w64}
 use mir.Val.{Fits, SFits, toZ, ofZ}
-use lib.Dec.{T, ltb, eqb}
+use lib.Dec.{T, ltb}
 use lib.IntN.{ℤ, pos, negsuc, natAbs, negℤ, predℤ, _+ℤ_, _-ℤ_, +ℤ-comm, -ℤ-one}
-use lib.Signed.{mag, ltZ, nonNeg}
+use lib.Signed.{ltZ, nonNeg}
 use Rattle.layout.specs.Parts.{signedOf, zigzagOf}
 
 abbrev read : ℤ → ℤ

@@ -9,9 +9,9 @@ use Rattle.file.specs.declared.File.{File}
 use Rattle.file.specs.declared.Slot.{Slot}
 use Rattle.file.specs.declared.OpenCall.{OpenCall}
 use Rattle.file.specs.declared.MonthTotal.{MonthTotal}
-use Rattle.layout.specs.Parts.{flagOf, flagWord, numberOf, slotOfWords, callOfWords, totalOfWords, slotWords, callWords, totalWords, written}
+use Rattle.layout.specs.Parts.{flagOf, flagWord, slotOfWords, callOfWords, totalOfWords, slotWords, callWords, totalWords, written}
 
--- A part whose words begin at a place.
+-- A position, an open call and a month's total whose words begin at a place.
 abbrev pub slotIn : List ℕ → ℕ → Slot
 slotIn l at = slotOfWords (getD l at 0) (getD l (at + 1) 0) (getD l (at + 2) 0) (getD l (at + 3) 0)
 
@@ -21,7 +21,7 @@ callIn l at = callOfWords (getD l at 0) (getD l (at + 1) 0)
 abbrev pub totalIn : List ℕ → ℕ → MonthTotal
 totalIn l at = totalOfWords (getD l at 0) (getD l (at + 1) 0) (getD l (at + 2) 0)
 
--- A file, from its words 1 to 96: 8 of its own, 8 slots of 4, 4 open calls of 2, 16 month totals of 3.
+-- The eight positions, the four open calls and the sixteen month totals of a file, from its words 1 to 96.
 unfoldable pub slotsOfWords : (ℕ → ℕ) → List Slot
 slotsOfWords w = table 8 (λ k. slotOfWords (w (9 + 4 * k)) (w (10 + 4 * k)) (w (11 + 4 * k)) (w (12 + 4 * k)))
 
@@ -31,6 +31,8 @@ callsOfWords w = table 4 (λ k. callOfWords (w (41 + 2 * k)) (w (42 + 2 * k)))
 unfoldable pub totalsOfWords : (ℕ → ℕ) → List MonthTotal
 totalsOfWords w = table 16 (λ k. totalOfWords (w (49 + 3 * k)) (w (50 + 3 * k)) (w (51 + 3 * k)))
 
+-- The file: its words 1 to 8 are whether it is admitted, its role, the firm amount, the number of open calls, whether a next amount is set, the
+-- next amount, the days charged and the accrued charge.
 unfoldable pub fileOfWords : (ℕ → ℕ) → File
 fileOfWords w =
     record {
@@ -55,6 +57,7 @@ unfoldable pub flat : {A : Type 0} → (A → List ℕ) → List A → List ℕ
 flat enc [] = []
 flat enc (x ∷ l) = enc x ++ flat enc l
 
+-- The first eight words of a file.
 abbrev pub ownWords : File → List ℕ
 ownWords f =
     flagWord (f .admitted) ∷ f .role ∷ f .firm ∷ f .count ∷ flagWord (f .next .set) ∷ f .next .amount ∷ f .charged ∷ f .accrued ∷ []

@@ -2,24 +2,24 @@
 -- Assumes nothing.
 use Prim.Native.Nat.{ℕ, zero, suc, _+_, _-_, _≤_, _<_, min}
 use native.Mathlib.Omega.{arith}
-use native.Mathlib.Nat.{add-suc, add-zero}
+use native.Mathlib.Nat.{add-zero}
 use native.Mathlib.Numerals.{add-one}
 use mathlib.Core.Path.{_≡_, refl, sym, ap, subst, _∙_}
 use mathlib.Core.Bool.{Bool, true, false, cond, _||_}
-use mathlib.Core.List.{List, [], _∷_, map}
-use borrow.Author.Tests.{lt-ltb, le-ltb, ltb-false}
+use mathlib.Core.List.{List, [], map}
+use borrow.Author.Tests.{le-ltb, ltb-false}
 use lib.Dec.{ltb}
-use lib.ListN.{length, getD, set, length-map}
+use lib.ListN.{length, getD, set}
 use Rattle.laws.specs.Lists.{All, all-at, all-map}
 use Rattle.laws.specs.Cases.{or-first, or-second}
-use Rattle.laws.specs.Places.{upTo, upTo-none, upTo-next, upTo-more, upTo-all, upTo-long, upTo-turn}
+use Rattle.laws.specs.Places.{upTo, upTo-none, upTo-next, upTo-all, upTo-long, upTo-turn}
 use Rattle.file.specs.declared.File.{File}
 use Rattle.file.specs.Answer.{Answer, refused, opened, decide, accepted}
 use Rattle.file.specs.Sound.{Sound}
 use Rattle.file.specs.Opening.{openedFile}
 use Rattle.layout.specs.Book.{Book}
 use Rattle.layout.specs.WellFormed.{SoundBook}
-use Rattle.book.specs.Call.{Call, advance}
+use Rattle.book.specs.Call.{advance}
 use Rattle.book.specs.Account.{openedIfAdmitted, openDay, openDays, answer, applied, step}
 use Rattle.book.specs.Opened.{filesOpened}
 use Rattle.book.specs.Reached.{Given}

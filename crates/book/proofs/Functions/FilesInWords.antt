@@ -1,6 +1,6 @@
 -- The files of a book in words, read into an array and put back from one, and an advance on words.
 -- Assumes nothing.
-use Prim.Native.Nat.{ℕ, zero, suc, _+_, _-_, _*_, _≤_, _<_, min}
+use Prim.Native.Nat.{ℕ, zero, suc, _+_, _-_, _≤_, _<_, min}
 use native.Mathlib.Nat.{add-zero}
 use native.Mathlib.Omega.{arith}
 use native.Mathlib.Numerals.{add-one}
@@ -17,14 +17,13 @@ use Rattle.file.specs.Admit.{noFile}
 use Rattle.file.specs.Sound.{Sound}
 use Rattle.layout.specs.Book.{Book}
 use Rattle.layout.specs.Files.{Put}
-use Rattle.layout.specs.Words.{bookLength, place, fileIn, todayIn, bookOfWords, bookWords}
+use Rattle.layout.specs.Words.{place, fileIn, todayIn, bookOfWords, bookWords}
 use Rattle.layout.specs.WellFormed.{WellFormed}
 use Rattle.layout.proofs.BookLaws.{book-long, book-file, put-book, put-length, today-book, canonical-put, canonical-today}
 use Rattle.book.specs.Call.{advance}
 use Rattle.book.specs.Opened.{filesOpened, FilesStored}
 use Rattle.book.specs.InWords.{GivenWords}
 use Rattle.book.specs.Reached.{Given}
-use Rattle.book.proofs.Functions.Answers.{getD-any}
 use Rattle.book.proofs.Functions.DaysOpened.{refused-outside, days-within, gave-days}
 use Rattle.book.proofs.Functions.OnWords.{in-words, nothing-written}
 

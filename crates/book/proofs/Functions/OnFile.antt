@@ -15,8 +15,6 @@ use Rattle.file.specs.declared.File.{File}
 use Rattle.file.specs.declared.Position.{Position}
 use Rattle.file.specs.Answer.{Answer, refused, done, called, covered, recorded, annual, opened, stated, counted, decide, accepted}
 use Rattle.file.specs.Admit.{noFile, admittedFile, callsOfAdmission}
-use Rattle.file.specs.Lodge.{lodgeAnswer, lodgedFile}
-use Rattle.file.specs.Release.{releaseAnswer, releasedFile}
 use Rattle.file.specs.Settle.{settleAnswer, settledFile, settledAnswer, settlementCalls, checkDue}
 use Rattle.calendar.specs.Civil.{monthOf}
 use Rattle.manual.specs.Figures.{sumOf}
@@ -104,14 +102,6 @@ settled-called f t m figures =
     either false z = refl
 
 -- A refused call leaves the file as it was.
-lodged-refused : (f : File) (t k : ℕ) (h : Position) → accepted (lodgeAnswer f t k h) ≡ false → lodgedFile f t k h ≡ f
-unfolding lodgedFile
-lodged-refused f t k h e = rw e
-
-released-refused : (f : File) (t k a : ℕ) → accepted (releaseAnswer f t k a) ≡ false → releasedFile f t k a ≡ f
-unfolding releasedFile
-released-refused f t k a e = rw e
-
 settled-refused : (f : File) (t m : ℕ) (figures : List ℤ) → accepted (settleAnswer f t m figures) ≡ false → settledFile f t m figures ≡ f
 unfolding settledFile
 settled-refused f t m figures e = rw e
@@ -143,14 +133,6 @@ module _ (f : File) (t : ℕ) (a : Act) (x : Answer) (judged : fileAnswer f t a 
       )
 
 module _ (f : File) (t : ℕ) where
-  pub unknown-lodge : (k : ℕ) (h : Position) → f .admitted ≡ false → (refused 2 ≡ fileAnswer f t (lodge k h)) × (f ≡ fileLeft f t (lodge k h))
-  unfolding fileAnswer
-  unknown-lodge k h = unknown f t (lodge k h) (lodgeAnswer f t k h) refl
-
-  pub unknown-release : (k a : ℕ) → f .admitted ≡ false → (refused 2 ≡ fileAnswer f t (release k a)) × (f ≡ fileLeft f t (release k a))
-  unfolding fileAnswer
-  unknown-release k a = unknown f t (release k a) (releaseAnswer f t k a) refl
-
   pub unknown-settle : (m : ℕ) (figures : List ℤ) → f .admitted ≡ false
       → (refused 2 ≡ fileAnswer f t (settle m figures)) × (f ≡ fileLeft f t (settle m figures))
   unfolding fileAnswer
@@ -159,16 +141,6 @@ module _ (f : File) (t : ℕ) where
   pub unknown-annual : f .admitted ≡ false → (refused 2 ≡ fileAnswer f t annualRun) × (f ≡ fileLeft f t annualRun)
   unfolding fileAnswer
   unknown-annual = unknown f t annualRun (annualAnswer f t) refl
-
-  pub known-lodge : (k : ℕ) (h : Position) (x : Answer) (g : File) → f .admitted ≡ true → (x ≡ lodgeAnswer f t k h) × (g ≡ lodgedFile f t k h)
-      → (x ≡ fileAnswer f t (lodge k h)) × (g ≡ fileLeft f t (lodge k h))
-  unfolding fileAnswer fileAfter
-  known-lodge k h x g e = known f t (lodge k h) (lodgeAnswer f t k h) refl e (lodged-refused f t k h) x g
-
-  pub known-release : (k a : ℕ) (x : Answer) (g : File) → f .admitted ≡ true → (x ≡ releaseAnswer f t k a) × (g ≡ releasedFile f t k a)
-      → (x ≡ fileAnswer f t (release k a)) × (g ≡ fileLeft f t (release k a))
-  unfolding fileAnswer fileAfter
-  known-release k a x g e = known f t (release k a) (releaseAnswer f t k a) refl e (released-refused f t k a) x g
 
   pub known-settle : (m : ℕ) (figures : List ℤ) (x : Answer) (g : File) → f .admitted ≡ true
       → (x ≡ settleAnswer f t m figures) × (g ≡ settledFile f t m figures)

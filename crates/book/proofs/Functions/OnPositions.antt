@@ -3,11 +3,11 @@
 use Prim.Native.Nat.{ℕ, _+_, _*_, _%_, _≤_, _<_}
 use native.Mathlib.Omega.{arith}
 use mathlib.Core.Path.{_≡_, refl, sym, ap, subst, _∙_}
-use mathlib.Core.Bool.{Bool, true, false, cond, not}
-use mathlib.Core.List.{List, [], _∷_}
-use borrow.Author.Tests.{ltb-false, lt-ltb, le-ltb}
+use mathlib.Core.Bool.{Bool, true, false, not}
+use mathlib.Core.List.{List, _∷_}
+use borrow.Author.Tests.{ltb-false}
 use lib.Dec.{ltb}
-use lib.ListN.{length, getD, set, take}
+use lib.ListN.{getD, set, take}
 use Rattle.laws.specs.Cases.{cond-true}
 use Rattle.laws.specs.Lists.{All, all-set, all-default}
 use Rattle.file.specs.declared.File.{File}
@@ -32,7 +32,7 @@ use Rattle.layout.specs.Words.{place, fileIn, todayIn}
 use Rattle.layout.specs.WellFormed.{WellFormed}
 use Rattle.layout.proofs.CoverLaws.{slot-there}
 use Rattle.layout.proofs.PartLaws.{slot-put}
-use Rattle.book.specs.Call.{Act, lodge, release, on}
+use Rattle.book.specs.Call.{lodge, release, on}
 use Rattle.book.specs.Account.{fileAnswer, fileAfter}
 use Rattle.book.specs.Left.{fileLeft}
 use Rattle.book.specs.InWords.{GivenWords}

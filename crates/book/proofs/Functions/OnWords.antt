@@ -31,7 +31,6 @@ use Rattle.file.specs.Settle.{settleAnswer, settledFile, settlementCalls, calls
 use Rattle.file.specs.Totals.{noTotal, totalOf, withTotal}
 use Rattle.file.specs.Sound.{Sound, SoundPosition}
 use Rattle.file.specs.Statement.{statementOf}
-use Rattle.layout.specs.Book.{Book}
 use Rattle.layout.specs.Parts.{flagOf, totalWords, TotalBack, written}
 use Rattle.layout.specs.Files.{fileOfWords, slotsOfWords, totalsOfWords, wordsAt, Put}
 use Rattle.layout.specs.Words.{bookLength, place, fileIn, todayIn, bookOfWords, bookWords}

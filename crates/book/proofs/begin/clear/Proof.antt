@@ -2,7 +2,6 @@
 -- Assumes nothing.
 use borrow.Author.Needs.{needs}
 use Prim.Native.Nat.{_-_}
-use native.Mathlib.Omega.{arith}
 use lib.ListN.{length}
 use Rattle.book.proofs.Functions.OnWords.{Cleared, clear-first, clear-next, clear-less, clear-all}
 use Rattle.book.proofs.begin.clear.Statement.{statement}

@@ -5,7 +5,7 @@ use Prim.Native.Nat.{_-_}
 use native.Mathlib.Omega.{arith}
 use borrow.Author.Needs.{needs}
 use Rattle.laws.specs.Lists.{length-unmap}
-use Rattle.book.proofs.Functions.DaysOpened.{Pass, Turn, pass-long, pass-sound, pass-next, turn-first, turn-pass, turn-next, turn-last}
+use Rattle.book.proofs.Functions.DaysOpened.{Pass, Turn, pass-sound, pass-next, turn-first, turn-pass, turn-next, turn-last}
 use Rattle.book.proofs.days.files_opened.Statement.{statement}
 use Rattle.book.proofs.days.files_opened.Tie as tie
 

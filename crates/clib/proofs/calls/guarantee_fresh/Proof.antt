@@ -1,7 +1,7 @@
 -- `clib::calls::guarantee_fresh` meets its contract: other words are refused with 100, and `book::fresh` writes a book's.
 -- Assumes nothing.
 use borrow.Author.Needs.{needs}
-use Rattle.clib.proofs.Returns.{other-length, book-length, formed}
+use Rattle.clib.proofs.Returns.{other-length, book-length}
 use Rattle.clib.proofs.calls.guarantee_fresh.Statement.{statement}
 use Rattle.clib.proofs.calls.guarantee_fresh.Tie as tie
 

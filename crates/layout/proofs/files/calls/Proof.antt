@@ -1,11 +1,9 @@
+-- `layout::files::calls` meets its contract: each open call is read at its place.
+-- Assumes nothing.
 use borrow.Author.Needs.{needs}
-use native.Mathlib.Omega.{arith}
 use Rattle.layout.proofs.FileLaws.{calls-are}
 use Rattle.layout.proofs.files.calls.Statement.{statement}
 use Rattle.layout.proofs.files.calls.Tie as tie
-use Rattle.layout.proofs.files.calls.Reads as reads
-use Rattle.layout.proofs.files.calls.Lts as lts
-use Rattle.layout.proofs.files.call_at.Reads as call-at-reads
 
 add-call-at : tie.Need-add-call-at
 add-call-at c = search needs

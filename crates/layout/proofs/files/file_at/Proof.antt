@@ -1,14 +1,10 @@
+-- `layout::files::file_at` meets its contract: the parts are those read at their places.
+-- Assumes nothing.
 use borrow.Author.Needs.{needs}
 use Rattle.layout.specs.Files.{wordsAt}
 use Rattle.layout.proofs.FileLaws.{taken-is}
 use Rattle.layout.proofs.files.file_at.Statement.{statement}
 use Rattle.layout.proofs.files.file_at.Tie as tie
-use Rattle.layout.proofs.files.file_at.Reads as reads
-use Rattle.layout.proofs.files.file_at.Lts as lts
-use Rattle.layout.proofs.files.calls.Reads as calls-reads
-use Rattle.layout.proofs.files.slots.Reads as slots-reads
-use Rattle.layout.proofs.files.totals.Reads as totals-reads
-use Rattle.layout.proofs.parts.flag.Reads as flag-reads
 
 add-flag : tie.Need-add-flag
 add-flag c = search needs

@@ -1,3 +1,5 @@
+-- `layout::files::put_calls` meets its contract: the first i open calls are put.
+-- Assumes nothing.
 use Prim.Native.Nat.{_≤_, _-_}
 use mathlib.Core.Path.{_≡_, refl}
 use borrow.Author.Needs.{needs}
@@ -8,9 +10,6 @@ use Rattle.layout.specs.Files.{SoFar}
 use Rattle.layout.proofs.Rows.{calls-none, calls-turn, calls-all, kept-length}
 use Rattle.layout.proofs.files.put_calls.Statement.{statement}
 use Rattle.layout.proofs.files.put_calls.Tie as tie
-use Rattle.layout.proofs.files.put_calls.Reads as reads
-use Rattle.layout.proofs.files.put_calls.Lts as lts
-use Rattle.layout.proofs.parts.put_call.Reads as put-call-reads
 
 abbrev Inv-loop : tie.InvT-loop
 Inv-loop words₀ at calls i₀ words i = (i ≤ 4) × (length calls ≡ 4) × (length words ≡ length words₀) × SoFar callWords CallBack calls words₀ at i words

@@ -1,13 +1,9 @@
+-- `layout::files::put_file` meets its contract: its own words, the positions, the open calls and the month totals are put one behind the other.
+-- Assumes nothing.
 use borrow.Author.Needs.{needs}
 use Rattle.layout.proofs.FileLaws.{put-is}
 use Rattle.layout.proofs.files.put_file.Statement.{statement}
 use Rattle.layout.proofs.files.put_file.Tie as tie
-use Rattle.layout.proofs.files.put_file.Reads as reads
-use Rattle.layout.proofs.files.put_file.Lts as lts
-use Rattle.layout.proofs.files.put_calls.Reads as put-calls-reads
-use Rattle.layout.proofs.files.put_own.Reads as put-own-reads
-use Rattle.layout.proofs.files.put_slots.Reads as put-slots-reads
-use Rattle.layout.proofs.files.put_totals.Reads as put-totals-reads
 
 put-own-requires : tie.Need-put-own-requires
 put-own-requires c κs = search needs

@@ -1,12 +1,11 @@
+-- `layout::files::put_own` meets its contract: eight words are written in a row.
+-- Assumes nothing.
 use borrow.Author.Needs.{needs}
 use native.Mathlib.Omega.{arith}
 use lib.ListN.{length-set}
 use Rattle.layout.proofs.FileLaws.{own-written}
 use Rattle.layout.proofs.files.put_own.Statement.{statement}
 use Rattle.layout.proofs.files.put_own.Tie as tie
-use Rattle.layout.proofs.files.put_own.Reads as reads
-use Rattle.layout.proofs.files.put_own.Lts as lts
-use Rattle.layout.proofs.parts.flag_word.Reads as flag-word-reads
 
 flag-word-requires : tie.Need-flag-word-requires
 flag-word-requires c κs = search needs

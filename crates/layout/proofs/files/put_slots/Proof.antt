@@ -1,3 +1,5 @@
+-- `layout::files::put_slots` meets its contract: the first i positions are put.
+-- Assumes nothing.
 use Prim.Native.Nat.{_≤_, _-_}
 use mathlib.Core.Path.{_≡_, refl}
 use borrow.Author.Needs.{needs}
@@ -9,9 +11,6 @@ use Rattle.layout.specs.Files.{SoFar}
 use Rattle.layout.proofs.Rows.{slots-none, slots-turn, slots-all, kept-length}
 use Rattle.layout.proofs.files.put_slots.Statement.{statement}
 use Rattle.layout.proofs.files.put_slots.Tie as tie
-use Rattle.layout.proofs.files.put_slots.Reads as reads
-use Rattle.layout.proofs.files.put_slots.Lts as lts
-use Rattle.layout.proofs.parts.put_slot.Reads as put-slot-reads
 
 abbrev Inv-loop : tie.InvT-loop
 Inv-loop words₀ at slots i₀ words i = (i ≤ 8) × (length slots ≡ 8) × (length words ≡ length words₀) × SoFar slotWords SlotBack slots words₀ at i words

@@ -1,3 +1,5 @@
+-- `layout::files::put_totals` meets its contract: the first i month totals are put.
+-- Assumes nothing.
 use Prim.Native.Nat.{_≤_, _-_}
 use mathlib.Core.Path.{_≡_, refl}
 use borrow.Author.Needs.{needs}
@@ -8,9 +10,6 @@ use Rattle.layout.specs.Files.{SoFar}
 use Rattle.layout.proofs.Rows.{totals-none, totals-turn, totals-all, kept-length}
 use Rattle.layout.proofs.files.put_totals.Statement.{statement}
 use Rattle.layout.proofs.files.put_totals.Tie as tie
-use Rattle.layout.proofs.files.put_totals.Reads as reads
-use Rattle.layout.proofs.files.put_totals.Lts as lts
-use Rattle.layout.proofs.parts.put_total.Reads as put-total-reads
 
 abbrev Inv-loop : tie.InvT-loop
 Inv-loop words₀ at totals i₀ words i = (i ≤ 16) × (length totals ≡ 16) × (length words ≡ length words₀) × SoFar totalWords TotalBack totals words₀ at i words

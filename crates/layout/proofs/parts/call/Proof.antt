@@ -1,10 +1,9 @@
+-- `layout::parts::call` meets its contract: each word is one of its fields.
+-- Assumes nothing.
 use borrow.Author.Needs.{needs}
 use Rattle.layout.specs.Parts.{callOfWords}
 use Rattle.layout.proofs.parts.call.Statement.{statement}
 use Rattle.layout.proofs.parts.call.Tie as tie
-use Rattle.layout.proofs.parts.call.Reads as reads
-use Rattle.layout.proofs.parts.call.Lts as lts
-use Rattle.layout.proofs.parts.number.Reads as number-reads
 
 number-requires : tie.Need-number-requires
 number-requires c κs = search needs

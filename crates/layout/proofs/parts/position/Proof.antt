@@ -1,10 +1,9 @@
+-- `layout::parts::position` meets its contract: each test is one of its kinds.
+-- Assumes nothing.
 use borrow.Author.Needs.{needs}
 use Rattle.layout.proofs.Backs.{position-empty, position-cash, position-letter}
 use Rattle.layout.proofs.parts.position.Statement.{statement}
 use Rattle.layout.proofs.parts.position.Tie as tie
-use Rattle.layout.proofs.parts.position.Reads as reads
-use Rattle.layout.proofs.parts.position.Lts as lts
-use Rattle.layout.proofs.parts.number.Reads as number-reads
 
 returns : tie.Need-returns
 returns c = search (position-empty, needs)

@@ -1,11 +1,11 @@
+-- `layout::parts::put_call` meets its contract: the two words are written, and lead back to the call.
+-- Assumes nothing.
 use borrow.Author.Needs.{needs}
 use native.Mathlib.Omega.{arith}
 use Rattle.layout.proofs.Backs.{two-written, call-back}
 use lib.ListN.{length-set}
 use Rattle.layout.proofs.parts.put_call.Statement.{statement}
 use Rattle.layout.proofs.parts.put_call.Tie as tie
-use Rattle.layout.proofs.parts.put_call.Reads as reads
-use Rattle.layout.proofs.parts.put_call.Lts as lts
 
 mul-words : tie.Need-mul-words
 mul-words c = search needs

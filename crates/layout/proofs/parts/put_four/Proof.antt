@@ -1,11 +1,11 @@
+-- `layout::parts::put_four` meets its contract: four words are written in a row.
+-- Assumes nothing.
 use borrow.Author.Needs.{needs}
 use native.Mathlib.Omega.{arith}
 use Rattle.layout.proofs.Backs.{four-written}
 use lib.ListN.{length-set}
 use Rattle.layout.proofs.parts.put_four.Statement.{statement}
 use Rattle.layout.proofs.parts.put_four.Tie as tie
-use Rattle.layout.proofs.parts.put_four.Reads as reads
-use Rattle.layout.proofs.parts.put_four.Lts as lts
 
 mul-words : tie.Need-mul-words
 mul-words c = search needs

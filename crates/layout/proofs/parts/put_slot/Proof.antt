@@ -1,14 +1,9 @@
+-- `layout::parts::put_slot` meets its contract: the four words are written, and lead back to the position.
+-- Assumes nothing.
 use borrow.Author.Needs.{needs}
 use Rattle.layout.proofs.Backs.{four-are, slot-back}
 use Rattle.layout.proofs.parts.put_slot.Statement.{statement}
 use Rattle.layout.proofs.parts.put_slot.Tie as tie
-use Rattle.layout.proofs.parts.put_slot.Reads as reads
-use Rattle.layout.proofs.parts.put_slot.Lts as lts
-use Rattle.file.proofs.holding.amount_of.Reads as amount-of-reads
-use Rattle.layout.proofs.parts.first_word.Reads as first-word-reads
-use Rattle.layout.proofs.parts.kind_word.Reads as kind-word-reads
-use Rattle.layout.proofs.parts.last_word.Reads as last-word-reads
-use Rattle.layout.proofs.parts.put_four.Reads as put-four-reads
 
 kind-word-requires : tie.Need-kind-word-requires
 kind-word-requires c κs = search needs

@@ -1,11 +1,11 @@
+-- `layout::parts::put_three` meets its contract: three words are written in a row.
+-- Assumes nothing.
 use borrow.Author.Needs.{needs}
 use native.Mathlib.Omega.{arith}
 use Rattle.layout.proofs.Backs.{three-written}
 use lib.ListN.{length-set}
 use Rattle.layout.proofs.parts.put_three.Statement.{statement}
 use Rattle.layout.proofs.parts.put_three.Tie as tie
-use Rattle.layout.proofs.parts.put_three.Reads as reads
-use Rattle.layout.proofs.parts.put_three.Lts as lts
 
 mul-words : tie.Need-mul-words
 mul-words c = search needs

@@ -1,12 +1,9 @@
+-- `layout::parts::put_total` meets its contract: the three words are written, and lead back to the total.
+-- Assumes nothing.
 use borrow.Author.Needs.{needs}
 use Rattle.layout.proofs.Backs.{total-are, total-back}
 use Rattle.layout.proofs.parts.put_total.Statement.{statement}
 use Rattle.layout.proofs.parts.put_total.Tie as tie
-use Rattle.layout.proofs.parts.put_total.Reads as reads
-use Rattle.layout.proofs.parts.put_total.Lts as lts
-use Rattle.layout.proofs.parts.flag_word.Reads as flag-word-reads
-use Rattle.layout.proofs.parts.put_three.Reads as put-three-reads
-use Rattle.layout.proofs.parts.zigzag.Reads as zigzag-reads
 
 flag-word-requires : tie.Need-flag-word-requires
 flag-word-requires c κs = search needs

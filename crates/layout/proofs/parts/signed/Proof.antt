@@ -1,9 +1,9 @@
+-- `layout::parts::signed` meets its contract: half the word, or what is left of it below 0.
+-- Assumes nothing.
 use borrow.Author.Needs.{needs}
 use Rattle.layout.proofs.Zigzag.{fits-odd, even-is, odd-is}
 use Rattle.layout.proofs.parts.signed.Statement.{statement}
 use Rattle.layout.proofs.parts.signed.Tie as tie
-use Rattle.layout.proofs.parts.signed.Reads as reads
-use Rattle.layout.proofs.parts.signed.Lts as lts
 
 cast-half : tie.Need-cast-half
 cast-half c = search needs

@@ -1,10 +1,9 @@
+-- `layout::parts::slot` meets its contract: the position is the one of its words.
+-- Assumes nothing.
 use borrow.Author.Needs.{needs}
 use Rattle.layout.specs.Parts.{slotOfWords}
 use Rattle.layout.proofs.parts.slot.Statement.{statement}
 use Rattle.layout.proofs.parts.slot.Tie as tie
-use Rattle.layout.proofs.parts.slot.Reads as reads
-use Rattle.layout.proofs.parts.slot.Lts as lts
-use Rattle.layout.proofs.parts.position.Reads as position-reads
 
 position-requires : tie.Need-position-requires
 position-requires c κs = search needs

@@ -1,13 +1,10 @@
+-- `layout::parts::total` meets its contract: each word is one of its fields.
+-- Assumes nothing.
 use borrow.Author.Needs.{needs}
 use Rattle.layout.specs.Parts.{totalOfWords}
 use Rattle.layout.proofs.Backs.{total-made}
 use Rattle.layout.proofs.parts.total.Statement.{statement}
 use Rattle.layout.proofs.parts.total.Tie as tie
-use Rattle.layout.proofs.parts.total.Reads as reads
-use Rattle.layout.proofs.parts.total.Lts as lts
-use Rattle.layout.proofs.parts.flag.Reads as flag-reads
-use Rattle.layout.proofs.parts.number.Reads as number-reads
-use Rattle.layout.proofs.parts.signed.Reads as signed-reads
 
 flag-requires : tie.Need-flag-requires
 flag-requires c κs = search needs

@@ -1,9 +1,8 @@
-use borrow.Author.Needs.{needs}
+-- `layout::parts::zigzag` meets its contract: twice the number from 0 on, and twice what is left of it and one below.
+-- Assumes nothing.
 use Rattle.layout.proofs.Zigzag.{negative-flips, negative-cast, negative-twice, negative-more, negative-is, natural-cast, natural-twice, natural-is}
 use Rattle.layout.proofs.parts.zigzag.Statement.{statement}
 use Rattle.layout.proofs.parts.zigzag.Tie as tie
-use Rattle.layout.proofs.parts.zigzag.Reads as reads
-use Rattle.layout.proofs.parts.zigzag.Lts as lts
 
 sub-result : tie.Need-sub-result
 sub-result c = negative-flips _ (c .before .fits .x) (c .if1 .taken)
