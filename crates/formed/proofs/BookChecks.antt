@@ -12,7 +12,7 @@ use lib.Seq.{ext-getD, getD-append-add}
 use mir.Syntax.{w64}
 use mir.Val.{Fits}
 use Rattle.laws.specs.Lists.{table}
-use Rattle.laws.specs.Tabulated.{length-table, getD-table, map-table}
+use Rattle.laws.specs.Tabulated.{length-table, getD-table, map-table, all-table, table-all}
 use Rattle.file.specs.declared.File.{File}
 use Rattle.file.specs.Sound.{Sound}
 use Rattle.layout.specs.Files.{slotsOfWords, callsOfWords, totalsOfWords, fileOfWords, wordsAt, flat, fileWords}
@@ -22,7 +22,6 @@ use Rattle.layout.proofs.Rows.{flat-length, flat-at}
 use Rattle.formed.specs.Decides.{Decides, Below}
 use Rattle.formed.specs.Checks.{Canonical, SoundAt, FormedFile, FileAt, CountAt, openBelow}
 use Rattle.formed.proofs.Decided.{says-no, by-order}
-use Rattle.formed.proofs.SoundLaws.{all-table, table-all}
 
 -- ---- the open calls
 

@@ -13,14 +13,15 @@ use Rattle.file.specs.declared.File.{File}
 use Rattle.file.specs.Admit.{noFile}
 use Rattle.file.specs.Sound.{Sound}
 use Rattle.file.specs.KeepsPositions.{none-sound}
-use Rattle.layout.specs.Parts.{slotOfWords, callOfWords, totalOfWords, signedOf, zigzagOf}
-use Rattle.layout.specs.Files.{slotsOfWords, callsOfWords, totalsOfWords, fileOfWords, wordsAt, flat, fileWords, Put}
+use Rattle.layout.specs.Parts.{zigzagOf}
+use Rattle.layout.specs.Files.{fileOfWords, wordsAt, flat, fileWords, Put}
 use Rattle.layout.proofs.Written.{written-in}
 use Rattle.layout.proofs.FileLaws.{file-ext}
 use Rattle.formed.specs.Decides.{Decides, Below}
 use Rattle.formed.specs.Checks.{SameAt, Canonical, Blank, SoundAt, FormedFile}
 use Rattle.formed.proofs.Decided.{says-no, as-well}
-use Rattle.formed.proofs.SoundLaws.{getD-same}
+use Rattle.laws.specs.Places.{getD-same}
+use Rattle.layout.proofs.BookLaws.{zero-file}
 
 -- ---- the same words
 
@@ -51,12 +52,7 @@ blank-decides l at r d = below-same l at (replicate 97 0) (λ k. 0) r (λ k h. g
 
 -- ---- a file that isn't admitted
 
--- Zeros are the file of a participant that is not admitted.
-zero-file : fileOfWords (λ (k : ℕ). 0) ≡ noFile
-unfolding fileOfWords slotsOfWords callsOfWords totalsOfWords slotOfWords callOfWords totalOfWords signedOf
-zero-file = refl
-
--- And its words are zeros.
+-- The words of a participant that is not admitted are zeros.
 zero-words : fileWords noFile ≡ replicate 96 0
 unfolding fileWords flat zigzagOf
 zero-words = refl

@@ -11,7 +11,8 @@ use lib.ListN.{length, getD, take, replicate}
 use lib.IntN.{natAbs}
 use Rattle.laws.specs.Cases.{split}
 use Rattle.laws.specs.Lists.{All, table}
-use Rattle.laws.specs.Tabulated.{getD-table}
+use Rattle.laws.specs.Places.{getD-same}
+use Rattle.laws.specs.Tabulated.{getD-table, all-table, table-all}
 use Rattle.file.specs.declared.Slot.{Slot}
 use Rattle.file.specs.declared.OpenCall.{OpenCall}
 use Rattle.file.specs.declared.MonthTotal.{MonthTotal}
@@ -24,33 +25,13 @@ use Rattle.formed.specs.Decides.{Decides, Below}
 use Rattle.formed.specs.Checks.{SoundSlot, SoundAmounts, SlotAt, CallAt, TotalAt, SoundAt}
 use Rattle.formed.proofs.Decided.{says-no, as-well}
 
--- ---- tables
-
-module _ {A : Type 0} (P : A → Type 0) where
-  -- What holds of a rule at each place holds of each element of its table.
-  pub all-table : (n : ℕ) (g : ℕ → A) → ((k : ℕ) → k < n → P (g k)) → All P (table n g)
-  all-table zero g h = tt
-  all-table (suc n) g h = (h zero (omega arith), all-table n (λ k. g (suc k)) (λ k b. h (suc k) (omega arith)))
-
-  -- And the other way round.
-  pub table-all : (n : ℕ) (g : ℕ → A) → All P (table n g) → (k : ℕ) → k < n → P (g k)
-  table-all zero g a k h = absurd (omega arith)
-  table-all (suc n) g a zero h = a .0
-  table-all (suc n) g a (suc k) h = table-all n (λ j. g (suc j)) (a .1) k (omega arith)
-
 -- ---- zeros behind the open calls
 
 module _ {A : Type 0} (z : A) where
-  -- A repeated value stands at every place, and past the end.
-  pub getD-same : (n k : ℕ) → getD (replicate n z) k z ≡ z
-  getD-same zero k = refl
-  getD-same (suc n) zero = refl
-  getD-same (suc n) (suc k) = getD-same n k
-
-  -- So it does behind what is taken.
+  -- A repeated value stands at every place behind what is taken.
   behind-taken : (n m : ℕ) (l : List A) (k : ℕ) → n ≤ k → getD (take n l ++ replicate m z) k z ≡ z
-  behind-taken zero m l k h = getD-same m k
-  behind-taken (suc n) m [] k h = getD-same m k
+  behind-taken zero m l k h = getD-same z m k
+  behind-taken (suc n) m [] k h = getD-same z m k
   behind-taken (suc n) m (x ∷ l) zero h = absurd (omega arith)
   behind-taken (suc n) m (x ∷ l) (suc k) h = behind-taken n m l k (omega arith)
 

@@ -2,12 +2,12 @@
 -- Assumes nothing.
 use Prim.Native.Nat.{ℕ, zero, suc, _+_, _-_, _≤_, _<_}
 use mathlib.Core.Path.{_≡_, refl, sym, _∙_, ap}
-use mathlib.Core.List.{List, [], _∷_, _++_, map, append-assoc}
+use mathlib.Core.List.{List, [], _∷_, _++_, map, append-assoc, append-nil}
 use native.Mathlib.Nat.{le-of-suc-le-suc}
 use native.Mathlib.Omega.{arith}
 use native.Mathlib.Numerals.{add-one}
-use lib.ListN.{length, getD, set, take, replicate, length-append, length-replicate}
-use lib.Seq.{set-append-seam, take-append-seam}
+use lib.ListN.{length, getD, set, take, drop, replicate, length-append, length-replicate, drop-of-length-le}
+use lib.Seq.{set-append-seam, take-append-seam, take-all}
 
 -- ---- each element replaced, one after another
 
@@ -55,6 +55,41 @@ module _ {A : Type 0} (g : A → A) where
   -- a turn of a loop that replaces them: what is stored at i is g of what was read there
   pub upTo-turn : (s l : List A) (i n : ℕ) (x y d : A) → length l ≡ n → i < n → s ≡ upTo g i l → x ≡ getD s i d → y ≡ g x → set s i y ≡ upTo g (i + 1) l
   upTo-turn s l i n x y d h k e p q = simp (q, p, e, upTo-next, add-one) (upTo-more i l d (omega arith))
+
+-- ---- one list over another, element by element
+
+-- The first i elements of one list, then those of another.
+unfoldable pub over : {A : Type 0} → ℕ → List A → List A → List A
+over i new old = take i new ++ drop i old
+
+module _ {A : Type 0} where
+  -- with none taken it is the other
+  pub over-none : (new old : List A) → old ≡ over 0 new old
+  unfolding over
+  over-none new old = refl
+
+  -- one more is taken
+  pub over-more : (i : ℕ) (new old : List A) (d : A) → i < length new → length new ≡ length old
+      → set (over i new old) i (getD new i d) ≡ over (suc i) new old
+  unfolding over
+  over-more i [] old d h n = absurd (omega arith)
+  over-more i (x ∷ new) [] d h n = absurd (omega arith)
+  over-more zero (x ∷ new) (y ∷ old) d h n = refl
+  over-more (suc i) (x ∷ new) (y ∷ old) d h n = ap (λ (l : List A). x ∷ l) (over-more i new old d (omega arith) (omega arith))
+
+  -- with all taken it is the one
+  pub over-all : (i : ℕ) (new old : List A) → length new ≤ i → length new ≡ length old → over i new old ≡ new
+  unfolding over
+  over-all i new old h n =
+      ap (λ (l : List A). take i new ++ l) (drop-of-length-le old {i = i} (omega arith)) ∙ append-nil (take i new) ∙ take-all i new h
+
+-- ---- a repeated value
+
+-- It stands at every place, past the end too, where it stands for what is there.
+pub getD-same : {A : Type 0} (z : A) (n k : ℕ) → getD (replicate n z) k z ≡ z
+getD-same z zero k = refl
+getD-same z (suc n) zero = refl
+getD-same z (suc n) (suc k) = getD-same z n k
 
 -- ---- places filled from the front
 

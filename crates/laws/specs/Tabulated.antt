@@ -8,7 +8,7 @@ use mathlib.Core.Bool.{cond}
 use mathlib.Core.List.{_∷_, map}
 use lib.Dec.{eqb, eqb·zero-suc, eqb·suc-zero, eqb·suc-suc}
 use lib.ListN.{length, getD, set, replicate}
-use Rattle.laws.specs.Lists.{table}
+use Rattle.laws.specs.Lists.{All, table}
 
 module _ {A : Type 0} where
   -- a table has as many elements as it says
@@ -42,6 +42,16 @@ module _ {A : Type 0} where
   pub replicate-table : (n : ℕ) (v : A) → replicate n v ≡ table n (λ k. v)
   replicate-table zero v = refl
   replicate-table (suc n) v = ap (_∷_ v) (replicate-table n v)
+
+-- what each value of a rule has, each element of its table has, and the other way round
+pub all-table : {A : Type 0} (P : A → Type 0) (n : ℕ) (f : ℕ → A) → ((k : ℕ) → k < n → P (f k)) → All P (table n f)
+all-table P zero f h = tt
+all-table P (suc n) f h = (h zero (omega arith), all-table P n (λ k. f (suc k)) (λ k b. h (suc k) (omega arith)))
+
+pub table-all : {A : Type 0} (P : A → Type 0) (n : ℕ) (f : ℕ → A) → All P (table n f) → (k : ℕ) → k < n → P (f k)
+table-all P zero f a k h = absurd (omega arith)
+table-all P (suc n) f a zero h = a .0
+table-all P (suc n) f a (suc k) h = table-all P n (λ j. f (suc j)) (a .1) k (omega arith)
 
 -- a table with another value at k is the table of a rule that has that value there and agrees elsewhere
 pub set-table-as : {A : Type 0} (n : ℕ) (f g : ℕ → A) (k : ℕ) (x : A) → x ≡ g k → ((j : ℕ) → (j ≡ k → ⊥) → f j ≡ g j)

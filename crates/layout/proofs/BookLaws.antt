@@ -10,6 +10,7 @@ use lib.Dec.{ltb}
 use lib.ListN.{length, getD, set, replicate, length-append, replicate-append-replicate}
 use lib.Seq.{getD-set-same, getD-set-other, set-getD}
 use Rattle.laws.specs.Cases.{split}
+use Rattle.laws.specs.Places.{getD-same}
 use Rattle.laws.specs.Lists.{All, table}
 use Rattle.laws.specs.Tabulated.{length-table, getD-table, set-table-as, table-ext, replicate-table}
 use Rattle.file.specs.declared.File.{File}
@@ -196,7 +197,8 @@ canonical-today m d same long h = ap (λ (z : List ℕ). set z 1 d) same ∙ ap 
 
 -- ---- a fresh book
 
-zero-file : fileOfWords (λ (k : ℕ). 0) ≡ noFile
+-- A file of zeros is the file of a participant that isn't admitted.
+pub zero-file : fileOfWords (λ (k : ℕ). 0) ≡ noFile
 unfolding fileOfWords slotsOfWords callsOfWords totalsOfWords slotOfWords callOfWords totalOfWords signedOf
 zero-file = refl
 
@@ -204,16 +206,11 @@ zero-file = refl
 abbrev pub freshWords : ℕ → List ℕ
 freshWords d = 1 ∷ d ∷ 0 ∷ replicate 6144 0
 
-zeros-read : (n k : ℕ) → _≡_ {A = ℕ} (getD (replicate n 0) k 0) 0
-zeros-read zero k = refl
-zeros-read (suc n) zero = refl
-zeros-read (suc n) (suc k) = zeros-read n k
-
 behind-head : (d j : ℕ) → 3 ≤ j → getD (freshWords d) j 0 ≡ 0
 behind-head d zero h = absurd (omega arith)
 behind-head d (suc zero) h = absurd (omega arith)
 behind-head d (suc (suc zero)) h = absurd (omega arith)
-behind-head d (suc (suc (suc j))) h = zeros-read 6144 j
+behind-head d (suc (suc (suc j))) h = getD-same 0 6144 j
 
 pub fresh-words : (d : ℕ) → d ≤ 29219 → bookOfWords (freshWords d) ≡ record { files = replicate 64 noFile; today = record { 0 = d }; made = 0 }
 unfolding bookOfWords

@@ -8,7 +8,8 @@ use native.Mathlib.Omega.{arith}
 use lib.Dec.{eqb}
 use lib.ListN.{length, set, length-append, length-set}
 use Rattle.laws.specs.Cases.{split}
-use Rattle.laws.specs.Lists.{All, all-set, table}
+use Rattle.laws.specs.Tabulated.{all-table}
+use Rattle.laws.specs.Lists.{All, all-set}
 use Rattle.file.specs.declared.File.{File}
 use Rattle.file.specs.declared.Slot.{Slot}
 use Rattle.file.specs.declared.MonthTotal.{MonthTotal}
@@ -41,24 +42,20 @@ total-read : (r m t : ℕ) → TotalBack (totalOfWords r m t)
 unfolding totalOfWords
 total-read r m t = simp (again m, flag-back (flagOf r), signed-back (signedOf t))
 
-all-table : {A : Type 0} (P : A → Type 0) (n : ℕ) (f : ℕ → A) → ((k : ℕ) → P (f k)) → All P (table n f)
-all-table P zero f h = tt
-all-table P (suc n) f h = (h zero, all-table P n (λ k. f (suc k)) (λ k. h (suc k)))
-
 module _ (w : ℕ → ℕ) where
   slots-read : All SlotBack (slotsOfWords w)
   unfolding slotsOfWords
   slots-read = all-table SlotBack 8 (λ k. slotOfWords (w (9 + 4 * k)) (w (10 + 4 * k)) (w (11 + 4 * k)) (w (12 + 4 * k)))
-      (λ k. slot-read (w (9 + 4 * k)) (w (10 + 4 * k)) (w (11 + 4 * k)) (w (12 + 4 * k)))
+      (λ k h. slot-read (w (9 + 4 * k)) (w (10 + 4 * k)) (w (11 + 4 * k)) (w (12 + 4 * k)))
 
   calls-read : All CallBack (callsOfWords w)
   unfolding callsOfWords
-  calls-read = all-table CallBack 4 (λ k. callOfWords (w (41 + 2 * k)) (w (42 + 2 * k))) (λ k. call-read (w (41 + 2 * k)) (w (42 + 2 * k)))
+  calls-read = all-table CallBack 4 (λ k. callOfWords (w (41 + 2 * k)) (w (42 + 2 * k))) (λ k h. call-read (w (41 + 2 * k)) (w (42 + 2 * k)))
 
   totals-read : All TotalBack (totalsOfWords w)
   unfolding totalsOfWords
   totals-read = all-table TotalBack 16 (λ k. totalOfWords (w (49 + 3 * k)) (w (50 + 3 * k)) (w (51 + 3 * k)))
-      (λ k. total-read (w (49 + 3 * k)) (w (50 + 3 * k)) (w (51 + 3 * k)))
+      (λ k h. total-read (w (49 + 3 * k)) (w (50 + 3 * k)) (w (51 + 3 * k)))
 
   pub slots-long : length (slotsOfWords w) ≡ 8
   unfolding slotsOfWords

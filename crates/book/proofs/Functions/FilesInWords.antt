@@ -1,16 +1,16 @@
 -- The files of a book in words, read into an array and put back from one, and an advance on words.
 -- Assumes nothing.
-use Prim.Native.Nat.{ℕ, zero, suc, _+_, _-_, _≤_, _<_, min}
+use Prim.Native.Nat.{ℕ, _+_, _-_, _≤_, _<_, min}
 use native.Mathlib.Nat.{add-zero}
 use native.Mathlib.Omega.{arith}
 use native.Mathlib.Numerals.{add-one}
 use mathlib.Core.Path.{_≡_, refl, sym, ap, subst, _∙_}
 use mathlib.Core.Bool.{Bool, true, false, _||_}
-use mathlib.Core.List.{List, [], _∷_, _++_, append-nil}
+use mathlib.Core.List.{List}
 use lib.Dec.{ltb}
-use lib.ListN.{length, getD, set, take, drop, length-set, drop-of-length-le}
-use lib.Seq.{take-all}
+use lib.ListN.{length, getD, set, length-set}
 use Rattle.laws.specs.Lists.{All}
+use Rattle.laws.specs.Places.{over, over-none, over-more, over-all}
 use Rattle.file.specs.declared.File.{File}
 use Rattle.file.specs.Answer.{refused, opened}
 use Rattle.file.specs.Admit.{noFile}
@@ -26,29 +26,6 @@ use Rattle.book.specs.InWords.{GivenWords}
 use Rattle.book.specs.Reached.{Given}
 use Rattle.book.proofs.Functions.DaysOpened.{refused-outside, days-within, gave-days}
 use Rattle.book.proofs.Functions.OnWords.{in-words, nothing-written}
-
--- ---- one list over another, element by element
-
--- The first i elements of one list, then those of another.
-unfoldable pub over : {A : Type 0} → ℕ → List A → List A → List A
-over i new old = take i new ++ drop i old
-
-module _ {A : Type 0} where
-  over-none : (new old : List A) → old ≡ over 0 new old
-  unfolding over
-  over-none new old = refl
-
-  over-more : (i : ℕ) (new old : List A) (d : A) → i < length new → length new ≡ length old → set (over i new old) i (getD new i d) ≡ over (suc i) new old
-  unfolding over
-  over-more i [] old d h n = absurd (omega arith)
-  over-more i (x ∷ new) [] d h n = absurd (omega arith)
-  over-more zero (x ∷ new) (y ∷ old) d h n = refl
-  over-more (suc i) (x ∷ new) (y ∷ old) d h n = ap (λ (l : List A). x ∷ l) (over-more i new old d (omega arith) (omega arith))
-
-  over-all : (i : ℕ) (new old : List A) → length new ≤ i → length new ≡ length old → over i new old ≡ new
-  unfolding over
-  over-all i new old h n =
-      ap (λ (l : List A). take i new ++ l) (drop-of-length-le old {i = i} (omega arith)) ∙ append-nil (take i new) ∙ take-all i new h
 
 -- ---- the files are read
 

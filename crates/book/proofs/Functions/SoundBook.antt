@@ -13,7 +13,7 @@ use lib.ListN.{length, getD, set, replicate, length-append, length-set, length-m
 use Rattle.laws.specs.Lists.{All, all-default, all-set, all-replicate, all-map}
 use Rattle.laws.specs.Cases.{split, clash, cond-true, cond-false, or-first, or-second}
 use Rattle.file.specs.declared.File.{File}
-use Rattle.file.specs.Answer.{Answer, refused, done, opened, Cause, decide, accepted}
+use Rattle.file.specs.Answer.{Answer, done, opened, Cause, decide, accepted}
 use Rattle.file.specs.Admit.{noFile, admittedFile}
 use Rattle.file.specs.Fields.{openCalls, withSlots, withTotals, withNext, setTo}
 use Rattle.file.specs.Position.{slotOf}
@@ -32,6 +32,7 @@ use Rattle.book.specs.Call.{Act, admit, lodge, release, settle, annualRu
 use Rattle.book.specs.Account.{freshBook, fileAt, withFile, ifNumbered, ifAdmitted, fileAnswer, fileAfter, callsAdded, openedIfAdmitted, openDay, openDays, answer, applied, step, run}
 use Rattle.book.specs.Reading.Decisions.{cause}
 use Rattle.book.specs.Reached.{Reached}
+use Rattle.book.proofs.Participant.Decide.{decide-accepted}
 
 -- A participant's file in it.
 pub sound-file : (b : Book) (p : ℕ) → SoundBook b → Sound (b .today .0) (fileAt b p)
@@ -104,12 +105,7 @@ fresh-sound d h =
 
 -- An accepted call's answer is the one that stands behind its causes.
 through : (causes : List Cause) (x : Answer) → accepted (decide causes x) ≡ true → accepted x ≡ true
-unfolding decide
-through [] x e = e
-through (c ∷ causes) x e =
-    split (c .holds)
-    (λ h. clash {t = false} (sym (ap accepted (cond-true _ (refused (c .number)) (decide causes x) h)) ∙ e) refl)
-    (λ h. through causes x (sym (ap accepted (cond-false _ (refused (c .number)) (decide causes x) h)) ∙ e))
+through causes x e = ap accepted (sym (decide-accepted causes x e)) ∙ e
 
 -- .. so its participant is numbered, and admitted where it asks that.
 numbered : (p : ℕ) (x : Answer) → accepted (ifNumbered p x) ≡ true → p ≤ 63
