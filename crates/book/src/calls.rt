@@ -87,7 +87,8 @@ fn run_if_admitted(file: File, today: Day) -> FileAnnual
 // Writes a month's total, as a file has it.
 fn put_month(words: &mut [u64], at: usize, month: Month, file: File)
     requires { ⌜ (at + 97 ≤ length (now words)) × (at ≤ 6050) ⌝ }
-    ensures { λ r. ⌜ (now (words .exit) ≡ written (now (words .entry)) (at + (49 + 3 * (month .0 % 16))) (totalWords (getD (file .totals) (month .0 % 16) noTotal)))
+    ensures { λ r. ⌜ (now (words .exit)
+        ≡ written (now (words .entry)) (at + (49 + 3 * (month .0 % 16))) (totalWords (getD (file .totals) (month .0 % 16) noTotal)))
         × TotalBack (getD (file .totals) (month .0 % 16) noTotal) ⌝ }
 {
     let totals = file.totals;
@@ -135,7 +136,8 @@ fn settle_outcome(words: &[u64], participant: u64, month: Month, figures: &[i64]
 // Settles a month of a participant by its figures: a call changes the file's calls besides the month's total, and the count.
 pub fn settle(words: &mut [u64], participant: u64, month: Month, figures: &[i64]) -> Settled
     requires { ⌜ WellFormed (now words) ⌝ }
-    ensures { λ r. ⌜ GivenWords (now (words .entry)) (on participant (settle (month .0) (now (figures .entry)))) (settledSays r) (now (words .exit)) ⌝ }
+    ensures { λ r. ⌜ GivenWords (now (words .entry)) (on participant (settle (month .0) (now (figures .entry)))) (settledSays r)
+        (now (words .exit)) ⌝ }
 {
     if 63 < participant {
         return Settled::Refused(1);

@@ -23,7 +23,8 @@ ghost use Rattle.file.specs.declared.Slot.{Slot};
 ghost use Rattle.file.specs.Position.{coverOn};
 ghost use Rattle.file.specs.Sound.{SoundPosition};
 ghost use Rattle.layout.specs.Parts.{slotWords, callWords, totalWords, written, SlotBack, CallBack, TotalBack};
-ghost use Rattle.layout.specs.Files.{slotIn, callIn, totalIn, slotsOfWords, callsOfWords, totalsOfWords, fileOfWords, wordsAt, ownWords, Put, PutRows};
+ghost use Rattle.layout.specs.Files.{slotIn, callIn, totalIn, slotsOfWords, callsOfWords};
+ghost use Rattle.layout.specs.Files.{totalsOfWords, fileOfWords, wordsAt, ownWords, Put, PutRows};
 
 // The slot whose words begin at a place.
 pub fn slot_at(words: &[u64], at: usize) -> Slot

@@ -10,7 +10,8 @@ ghost use mathlib.Core.Path.{_≡_};
 ghost use Prim.Native.Nat.{_+_, _≤_, _<_};
 ghost use mathlib.Core.List.{[], _∷_};
 ghost use lib.ListN.{length};
-ghost use Rattle.layout.specs.Parts.{flagOf, numberOf, signedOf, zigzagOf, flagWord, positionOf, slotOfWords, callOfWords, totalOfWords, kindWord, firstWord, lastWord, slotWords, callWords, totalWords, written, SlotBack, CallBack, TotalBack};
+ghost use Rattle.layout.specs.Parts.{flagOf, numberOf, signedOf, zigzagOf, flagWord, positionOf, slotOfWords, callOfWords, totalOfWords};
+ghost use Rattle.layout.specs.Parts.{kindWord, firstWord, lastWord, slotWords, callWords, totalWords, written, SlotBack, CallBack, TotalBack};
 
 // A word as a flag.
 pub fn flag(word: u64) -> bool
