@@ -86,7 +86,7 @@ fn run_if_admitted(file: File, today: Day) -> FileAnnual
 
 // Writes a month's total, as a file has it.
 fn put_month(words: &mut [u64], at: usize, month: Month, file: File)
-    requires { ⌜ (at + 97 ≤ length (now words)) × (at ≤ 6050) ⌝ }
+    requires { ⌜ at + 97 ≤ length (now words) ⌝ }
     ensures { λ r. ⌜ (now (words .exit)
         ≡ written (now (words .entry)) (at + (49 + 3 * (month .0 % 16))) (totalWords (getD (file .totals) (month .0 % 16) noTotal)))
         × TotalBack (getD (file .totals) (month .0 % 16) noTotal) ⌝ }

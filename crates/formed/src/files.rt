@@ -107,7 +107,7 @@ fn is_same(words: &[u64], at: usize, others: &[u64; 97]) -> bool
 
 // Whether the words behind a place are those that the file read there is written in.
 fn is_canonical(words: &[u64], at: usize) -> bool
-    requires { ⌜ (at + 97 ≤ length (now words)) × (at ≤ 6050) ⌝ }
+    requires { ⌜ at + 97 ≤ length (now words) ⌝ }
     ensures { λ r. ⌜ Decides r (Canonical (now (words .entry)) at) ⌝ }
 {
     let file = file_at(words, at);
@@ -127,7 +127,7 @@ fn is_blank(words: &[u64], at: usize) -> bool
 
 // Whether the words behind a place are a file that is well formed today.
 pub fn is_formed(words: &[u64], at: usize, today: u64) -> bool
-    requires { ⌜ (at + 97 ≤ length (now words)) × (at ≤ 6050) × (today ≤ 29219) ⌝ }
+    requires { ⌜ (at + 97 ≤ length (now words)) × (today ≤ 29219) ⌝ }
     ensures { λ r. ⌜ Decides r (FormedFile today (now (words .entry)) at) ⌝ }
 {
     if !is_canonical(words, at) {

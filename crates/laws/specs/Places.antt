@@ -83,6 +83,34 @@ module _ {A : Type 0} where
   over-all i new old h n =
       ap (λ (l : List A). take i new ++ l) (drop-of-length-le old {i = i} (omega arith)) ∙ append-nil (take i new) ∙ take-all i new h
 
+-- A loop that fills n places with the elements of a list in turn: the first i are there.
+pub record Filling {A : Type 0} (n i : ℕ) (new before now : List A) : Type 0 where
+  pub few : i ≤ n
+  pub whole : length new ≡ n
+  pub long : length before ≡ n
+  pub sofar : now ≡ over i new before
+
+module _ {A : Type 0} (n : ℕ) (new : List A) where
+  pub filling-first : (before : List A) → length new ≡ n → length before ≡ n → Filling n 0 new before before
+  filling-first before whole long = record { few = omega arith; whole = whole; long = long; sofar = over-none new before }
+
+  pub filling-next : (i : ℕ) (before now : List A) (x d : A) → Filling n i new before now → i < n → x ≡ getD new i d
+      → Filling n (i + 1) new before (set now i x)
+  filling-next i before now x d s h e =
+      record {
+        few = omega arith;
+        whole = s .whole;
+        long = s .long;
+        sofar =
+            ap (λ (z : List A). set z i x) (s .sofar)
+            ∙ ap (set (over i new before) i) e
+            ∙ over-more i new before d (omega (arith, s .whole)) (s .whole ∙ sym (s .long))
+            ∙ ap (λ (k : ℕ). over k new before) (sym (add-one i));
+      }
+
+  pub filling-all : (i : ℕ) (before now : List A) → Filling n i new before now → n ≤ i → now ≡ new
+  filling-all i before now s h = s .sofar ∙ over-all i new before (omega (arith, s .whole)) (s .whole ∙ sym (s .long))
+
 -- ---- a repeated value
 
 -- It stands at every place, past the end too, where it stands for what is there.

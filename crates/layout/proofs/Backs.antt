@@ -17,7 +17,8 @@ use Rattle.file.specs.declared.Position.the-variants.{Empty, Cash, Letter}
 use Rattle.file.specs.declared.Slot.{Slot}
 use Rattle.file.specs.declared.OpenCall.{OpenCall}
 use Rattle.file.specs.declared.MonthTotal.{MonthTotal}
-use Rattle.layout.specs.Parts.{numberOf, flagOf, flagWord, signedOf, zigzagOf, slotOfWords, callOfWords, totalOfWords, firstWord, lastWord, positionOf, written, SlotBack, CallBack, TotalBack}
+use Rattle.layout.specs.Parts.{numberOf, flagOf, flagWord, signedOf, zigzagOf, slotOfWords, callOfWords, totalOfWords, firstWord, lastWord}
+use Rattle.layout.specs.Parts.{positionOf, written, SlotBack, CallBack, TotalBack}
 use Rattle.layout.proofs.Zigzag.{signed-back}
 
 abbrev small : ℕ

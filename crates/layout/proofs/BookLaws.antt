@@ -15,7 +15,8 @@ use Rattle.laws.specs.Lists.{All, table}
 use Rattle.laws.specs.Tabulated.{length-table, getD-table, set-table-as, table-ext, replicate-table}
 use Rattle.file.specs.declared.File.{File}
 use Rattle.file.specs.Admit.{noFile}
-use Rattle.layout.specs.Parts.{numberOf, slotOfWords, callOfWords, totalOfWords, signedOf, slotWords, callWords, totalWords, zigzagOf, SlotBack, CallBack, TotalBack, written}
+use Rattle.layout.specs.Parts.{numberOf, slotOfWords, callOfWords, totalOfWords, signedOf, slotWords, callWords, totalWords, zigzagOf}
+use Rattle.layout.specs.Parts.{SlotBack, CallBack, TotalBack, written}
 use Rattle.layout.specs.Files.{fileOfWords, slotsOfWords, callsOfWords, totalsOfWords, wordsAt, flat, fileWords, Put}
 use Rattle.layout.specs.Words.{place, fileIn, bookOfWords, bookWords}
 use Rattle.layout.proofs.Written.{length-written, written-before, written-behind, written-first, written-later}

@@ -8,26 +8,13 @@ use mir.Val.{Fits}
 use mir.Syntax.{w64}
 use lib.ListN.{getD, drop}
 use Rattle.laws.specs.Lists.{All}
-use Rattle.laws.specs.Tabulated.{getD-table}
 use Rattle.file.specs.declared.Slot.{Slot}
 use Rattle.file.specs.declared.Position.the-variants.{Empty}
 use Rattle.file.specs.Position.{slotOf, countsOn, coverOn}
 use Rattle.file.specs.Sound.{SoundPosition}
 use Rattle.file.proofs.Sums as sums
-use Rattle.layout.specs.Parts.{slotOfWords}
 use Rattle.layout.specs.Files.{slotIn, slotsOfWords, wordsAt}
-use Rattle.layout.proofs.PartLaws.{slots-long}
-
--- The position at place k.
-pub slot-there : (l : List ℕ) (at k : ℕ) (z : Slot) → k < 8 → getD (slotsOfWords (wordsAt l at)) k z ≡ slotIn l (at + (9 + 4 * k))
-unfolding slotsOfWords
-slot-there l at k z h =
-    let first : at + (10 + 4 * k) ≡ at + (9 + 4 * k) + 1 = omega arith in
-    let second : at + (11 + 4 * k) ≡ at + (9 + 4 * k) + 2 = omega arith in
-    let third : at + (12 + 4 * k) ≡ at + (9 + 4 * k) + 3 = omega arith in
-    getD-table 8
-    (λ j. slotOfWords (wordsAt l at (9 + 4 * j)) (wordsAt l at (10 + 4 * j)) (wordsAt l at (11 + 4 * j)) (wordsAt l at (12 + 4 * j))) k z h
-    ∙ (λ i. slotOfWords (getD l (at + (9 + 4 * k)) 0) (getD l (first i) 0) (getD l (second i) 0) (getD l (third i) 0))
+use Rattle.layout.proofs.FileLaws.{slot-there, slots-long}
 
 module _ (l : List ℕ) (at d k sum x : ℕ) (s : Slot) (h : k < 8) where
   abbrev slots : List Slot

@@ -4,13 +4,13 @@ use Prim.Native.Nat.{ℕ, zero, suc, _+_, _*_, _≤_, _<_}
 use mathlib.Core.Path.{_≡_, refl, sym, ap, _∙_}
 use mathlib.Core.Bool.{Bool}
 use mathlib.Core.List.{List, [], _∷_, _++_, append-assoc, append-nil}
-use native.Mathlib.Nat.{add-assoc}
 use native.Mathlib.Omega.{arith}
 use native.Mathlib.Numerals.{add-one, add-two, add-three, add-four, add-five, add-six, add-seven, add-eight}
 use lib.ListN.{length, getD, set, length-append}
 use lib.Seq.{getD-append-add}
 use Rattle.laws.specs.Lists.{All, all-at, table}
-use Rattle.laws.specs.Tabulated.{table-ext}
+use Rattle.laws.specs.Places.{Filling, filling-next}
+use Rattle.laws.specs.Tabulated.{getD-table, table-ext}
 use Rattle.file.specs.declared.File.{File}
 use Rattle.file.specs.declared.Slot.{Slot}
 use Rattle.file.specs.declared.OpenCall.{OpenCall}
@@ -19,56 +19,70 @@ use Rattle.file.specs.declared.Position.the-variants.{Empty}
 use Rattle.file.specs.Position.{slotOf}
 use Rattle.file.specs.Calls.{callOf}
 use Rattle.file.specs.Totals.{noTotal}
-use Rattle.layout.specs.Parts.{flagOf, slotOfWords, callOfWords, totalOfWords, slotWords, callWords, totalWords, written, SlotBack, CallBack, TotalBack}
-use Rattle.layout.specs.Files.{slotIn, callIn, totalIn, slotsOfWords, callsOfWords, totalsOfWords, fileOfWords, wordsAt, flat, ownWords, fileWords, Put, PutRows}
+use Rattle.layout.specs.Parts.{flagOf, slotOfWords, callOfWords, totalOfWords, slotWords, callWords, totalWords, written, SlotBack}
+use Rattle.layout.specs.Parts.{CallBack, TotalBack}
+use Rattle.layout.specs.Files.{slotIn, callIn, totalIn, slotsOfWords, callsOfWords, totalsOfWords, fileOfWords, wordsAt, flat, ownWords}
+use Rattle.layout.specs.Files.{fileWords, Put, PutRows}
 use Rattle.layout.proofs.Backs.{flag-back}
 use Rattle.layout.proofs.Written.{written-next, written-in}
 use Rattle.layout.proofs.Rows.{flat-length, flat-at}
 
 -- ---- the arrays as they are read
 
-pub slots-are : (l : List ℕ) (at : ℕ) (x0 x1 x2 x3 x4 x5 x6 x7 : Slot)
-    → x0 ≡ slotIn l (at + 9)
-    → x1 ≡ slotIn l (at + 13)
-    → x2 ≡ slotIn l (at + 17)
-    → x3 ≡ slotIn l (at + 21)
-    → x4 ≡ slotIn l (at + 25)
-    → x5 ≡ slotIn l (at + 29)
-    → x6 ≡ slotIn l (at + 33)
-    → x7 ≡ slotIn l (at + 37)
-    → x0 ∷ x1 ∷ x2 ∷ x3 ∷ x4 ∷ x5 ∷ x6 ∷ x7 ∷ [] ≡ slotsOfWords (wordsAt l at)
+-- Which part stands where.
+module _ (l : List ℕ) (at k : ℕ) where
+  abbrev w : ℕ → ℕ
+  w = wordsAt l at
+
+  pub slot-there : (d : Slot) → k < 8 → getD (slotsOfWords w) k d ≡ slotIn l (at + (9 + 4 * k))
+  unfolding slotsOfWords
+  slot-there d h =
+      let first : at + (10 + 4 * k) ≡ at + (9 + 4 * k) + 1 = omega arith in
+      let second : at + (11 + 4 * k) ≡ at + (9 + 4 * k) + 2 = omega arith in
+      let third : at + (12 + 4 * k) ≡ at + (9 + 4 * k) + 3 = omega arith in
+      getD-table 8 (λ j. slotOfWords (w (9 + 4 * j)) (w (10 + 4 * j)) (w (11 + 4 * j)) (w (12 + 4 * j))) k d h
+      ∙ (λ i. slotOfWords (getD l (at + (9 + 4 * k)) 0) (getD l (first i) 0) (getD l (second i) 0) (getD l (third i) 0))
+
+  call-there : (d : OpenCall) → k < 4 → getD (callsOfWords w) k d ≡ callIn l (at + (41 + 2 * k))
+  unfolding callsOfWords
+  call-there d h =
+      let first : at + (42 + 2 * k) ≡ at + (41 + 2 * k) + 1 = omega arith in
+      getD-table 4 (λ j. callOfWords (w (41 + 2 * j)) (w (42 + 2 * j))) k d h
+      ∙ (λ i. callOfWords (getD l (at + (41 + 2 * k)) 0) (getD l (first i) 0))
+
+  total-there : (d : MonthTotal) → k < 16 → getD (totalsOfWords w) k d ≡ totalIn l (at + (49 + 3 * k))
+  unfolding totalsOfWords
+  total-there d h =
+      let first : at + (50 + 3 * k) ≡ at + (49 + 3 * k) + 1 = omega arith in
+      let second : at + (51 + 3 * k) ≡ at + (49 + 3 * k) + 2 = omega arith in
+      getD-table 16 (λ j. totalOfWords (w (49 + 3 * j)) (w (50 + 3 * j)) (w (51 + 3 * j))) k d h
+      ∙ (λ i. totalOfWords (getD l (at + (49 + 3 * k)) 0) (getD l (first i) 0) (getD l (second i) 0))
+
+  -- one more is read
+  pub slots-next : (before now : List Slot) (s : Slot) → Filling 8 k (slotsOfWords w) before now → k < 8 → s ≡ slotIn l (at + (9 + 4 * k))
+      → Filling 8 (k + 1) (slotsOfWords w) before (set now k s)
+  slots-next before now s f h e = filling-next 8 (slotsOfWords w) k before now s (slotOf Empty) f h (e ∙ sym (slot-there (slotOf Empty) h))
+
+  pub calls-next : (before now : List OpenCall) (s : OpenCall) → Filling 4 k (callsOfWords w) before now → k < 4
+      → s ≡ callIn l (at + (41 + 2 * k)) → Filling 4 (k + 1) (callsOfWords w) before (set now k s)
+  calls-next before now s f h e = filling-next 4 (callsOfWords w) k before now s (callOf 0 0) f h (e ∙ sym (call-there (callOf 0 0) h))
+
+  pub totals-next : (before now : List MonthTotal) (s : MonthTotal) → Filling 16 k (totalsOfWords w) before now → k < 16
+      → s ≡ totalIn l (at + (49 + 3 * k)) → Filling 16 (k + 1) (totalsOfWords w) before (set now k s)
+  totals-next before now s f h e = filling-next 16 (totalsOfWords w) k before now s noTotal f h (e ∙ sym (total-there noTotal h))
+
+-- There are as many as a file has.
+pub slots-long : (w : ℕ → ℕ) → length (slotsOfWords w) ≡ 8
 unfolding slotsOfWords
-slots-are l at x0 x1 x2 x3 x4 x5 x6 x7 e0 e1 e2 e3 e4 e5 e6 e7 = simp (e0, e1, e2, e3, e4, e5, e6, e7, add-assoc)
+slots-long w = refl
 
-pub calls-are : (l : List ℕ) (at : ℕ) (x0 x1 x2 x3 : OpenCall)
-    → x0 ≡ callIn l (at + 41)
-    → x1 ≡ callIn l (at + 43)
-    → x2 ≡ callIn l (at + 45)
-    → x3 ≡ callIn l (at + 47)
-    → x0 ∷ x1 ∷ x2 ∷ x3 ∷ [] ≡ callsOfWords (wordsAt l at)
+pub calls-long : (w : ℕ → ℕ) → length (callsOfWords w) ≡ 4
 unfolding callsOfWords
-calls-are l at x0 x1 x2 x3 e0 e1 e2 e3 = simp (e0, e1, e2, e3, add-assoc)
+calls-long w = refl
 
-pub totals-are : (l : List ℕ) (at : ℕ) (x0 x1 x2 x3 x4 x5 x6 x7 x8 x9 x10 x11 x12 x13 x14 x15 : MonthTotal)
-    → x0 ≡ totalIn l (at + 49)
-    → x1 ≡ totalIn l (at + 52)
-    → x2 ≡ totalIn l (at + 55)
-    → x3 ≡ totalIn l (at + 58)
-    → x4 ≡ totalIn l (at + 61)
-    → x5 ≡ totalIn l (at + 64)
-    → x6 ≡ totalIn l (at + 67)
-    → x7 ≡ totalIn l (at + 70)
-    → x8 ≡ totalIn l (at + 73)
-    → x9 ≡ totalIn l (at + 76)
-    → x10 ≡ totalIn l (at + 79)
-    → x11 ≡ totalIn l (at + 82)
-    → x12 ≡ totalIn l (at + 85)
-    → x13 ≡ totalIn l (at + 88)
-    → x14 ≡ totalIn l (at + 91)
-    → x15 ≡ totalIn l (at + 94)
-    → x0 ∷ x1 ∷ x2 ∷ x3 ∷ x4 ∷ x5 ∷ x6 ∷ x7 ∷ x8 ∷ x9 ∷ x10 ∷ x11 ∷ x12 ∷ x13 ∷ x14 ∷ x15 ∷ [] ≡ totalsOfWords (wordsAt l at)
+pub totals-long : (w : ℕ → ℕ) → length (totalsOfWords w) ≡ 16
 unfolding totalsOfWords
-totals-are l at x0 x1 x2 x3 x4 x5 x6 x7 x8 x9 x10 x11 x12 x13 x14 x15 e0 e1 e2 e3 e4 e5 e6 e7 e8 e9 e10 e11 e12 e13 e14 e15 = simp (e0, e1, e2, e3, e4, e5, e6, e7, e8, e9, e10, e11, e12, e13, e14, e15, add-assoc)
+totals-long w = refl
 
 -- a file from its parts
 pub taken-is : (w : ℕ → ℕ) (a e : Bool) (s : List Slot) (c : List OpenCall) (t : List MonthTotal)
@@ -150,7 +164,13 @@ slots-back : (w : ℕ → ℕ) (xs : List Slot) (d : Slot) → length xs ≡ 8 �
 unfolding slotsOfWords
 slots-back w xs d long all reads =
     table-ext 8 (λ k. slotOfWords (w (9 + 4 * k)) (w (10 + 4 * k)) (w (11 + 4 * k)) (w (12 + 4 * k))) (λ k. getD xs k d)
-    (λ k h. rw (reads k 0 (9 + 4 * k) h (omega arith) (omega arith), reads k 1 (10 + 4 * k) h (omega arith) (omega arith), reads k 2 (11 + 4 * k) h (omega arith) (omega arith), reads k 3 (12 + 4 * k) h (omega arith) (omega arith)) (all-at SlotBack xs k d (omega arith) all))
+    (λ k h. rw (
+      reads k 0 (9 + 4 * k) h (omega arith) (omega arith),
+      reads k 1 (10 + 4 * k) h (omega arith) (omega arith),
+      reads k 2 (11 + 4 * k) h (omega arith) (omega arith),
+      reads k 3 (12 + 4 * k) h (omega arith) (omega arith),
+    )
+    (all-at SlotBack xs k d (omega arith) all))
     ∙ listed 8 xs d long
 
 calls-back : (w : ℕ → ℕ) (xs : List OpenCall) (d : OpenCall) → length xs ≡ 4 → All CallBack xs
@@ -158,7 +178,11 @@ calls-back : (w : ℕ → ℕ) (xs : List OpenCall) (d : OpenCall) → length xs
 unfolding callsOfWords
 calls-back w xs d long all reads =
     table-ext 4 (λ k. callOfWords (w (41 + 2 * k)) (w (42 + 2 * k))) (λ k. getD xs k d)
-    (λ k h. rw (reads k 0 (41 + 2 * k) h (omega arith) (omega arith), reads k 1 (42 + 2 * k) h (omega arith) (omega arith)) (all-at CallBack xs k d (omega arith) all))
+    (λ k h. rw (
+      reads k 0 (41 + 2 * k) h (omega arith) (omega arith),
+      reads k 1 (42 + 2 * k) h (omega arith) (omega arith),
+    )
+    (all-at CallBack xs k d (omega arith) all))
     ∙ listed 4 xs d long
 
 totals-back : (w : ℕ → ℕ) (xs : List MonthTotal) (d : MonthTotal) → length xs ≡ 16 → All TotalBack xs
@@ -166,7 +190,12 @@ totals-back : (w : ℕ → ℕ) (xs : List MonthTotal) (d : MonthTotal) → leng
 unfolding totalsOfWords
 totals-back w xs d long all reads =
     table-ext 16 (λ k. totalOfWords (w (49 + 3 * k)) (w (50 + 3 * k)) (w (51 + 3 * k))) (λ k. getD xs k d)
-    (λ k h. rw (reads k 0 (49 + 3 * k) h (omega arith) (omega arith), reads k 1 (50 + 3 * k) h (omega arith) (omega arith), reads k 2 (51 + 3 * k) h (omega arith) (omega arith)) (all-at TotalBack xs k d (omega arith) all))
+    (λ k h. rw (
+      reads k 0 (49 + 3 * k) h (omega arith) (omega arith),
+      reads k 1 (50 + 3 * k) h (omega arith) (omega arith),
+      reads k 2 (51 + 3 * k) h (omega arith) (omega arith),
+    )
+    (all-at TotalBack xs k d (omega arith) all))
     ∙ listed 16 xs d long
 
 -- behind other words

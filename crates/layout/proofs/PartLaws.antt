@@ -14,14 +14,15 @@ use Rattle.file.specs.declared.File.{File}
 use Rattle.file.specs.declared.Slot.{Slot}
 use Rattle.file.specs.declared.MonthTotal.{MonthTotal}
 use Rattle.file.specs.Fields.{withSlots, withNext, setTo}
-use Rattle.layout.specs.Parts.{numberOf, flagOf, signedOf, slotOfWords, callOfWords, totalOfWords, slotWords, callWords, totalWords, SlotBack, CallBack, TotalBack, written}
+use Rattle.layout.specs.Parts.{numberOf, flagOf, signedOf, slotOfWords, callOfWords, totalOfWords, slotWords, callWords, totalWords}
+use Rattle.layout.specs.Parts.{SlotBack, CallBack, TotalBack, written}
 use Rattle.layout.specs.Files.{fileOfWords, slotsOfWords, callsOfWords, totalsOfWords, wordsAt, flat, ownWords, fileWords, Put}
 use Rattle.layout.specs.Words.{bookLength, place, fileIn, bookOfWords, bookWords}
 use Rattle.layout.proofs.Backs.{flag-back}
 use Rattle.layout.proofs.Zigzag.{signed-back}
 use Rattle.layout.proofs.Written.{written-first, written-later, written-left, written-within}
 use Rattle.layout.proofs.Rows.{flat-length}
-use Rattle.layout.proofs.FileLaws.{put-of}
+use Rattle.layout.proofs.FileLaws.{put-of, slots-long, calls-long, totals-long}
 use Rattle.layout.proofs.BookLaws.{read-long, words-stand}
 
 -- ---- what is read leads back to itself
@@ -56,18 +57,6 @@ module _ (w : ℕ → ℕ) where
   unfolding totalsOfWords
   totals-read = all-table TotalBack 16 (λ k. totalOfWords (w (49 + 3 * k)) (w (50 + 3 * k)) (w (51 + 3 * k)))
       (λ k h. total-read (w (49 + 3 * k)) (w (50 + 3 * k)) (w (51 + 3 * k)))
-
-  pub slots-long : length (slotsOfWords w) ≡ 8
-  unfolding slotsOfWords
-  slots-long = refl
-
-  calls-long : length (callsOfWords w) ≡ 4
-  unfolding callsOfWords
-  calls-long = refl
-
-  totals-long : length (totalsOfWords w) ≡ 16
-  unfolding totalsOfWords
-  totals-long = refl
 
 -- ---- one part among others in a row is replaced
 
@@ -154,7 +143,9 @@ module _ (l m : List ℕ) (p : ℕ) (same : l ≡ bookWords (bookOfWords l)) (lo
       → m ≡ written l (place p + 1) (fileWords g)
   stored g j vs e h q =
       q
-      ∙ sym (written-within l (fileWords f) vs (place p + 1) j (omega (arith, read-long (wordsAt l (place p)))) (omega (arith, read-long (wordsAt l (place p))))
+      ∙ sym (written-within l (fileWords f) vs (place p + 1) j
+      (omega (arith, read-long (wordsAt l (place p))))
+      (omega (arith, read-long (wordsAt l (place p))))
       (words-stand l p same low))
       ∙ ap (written l (place p + 1)) (sym e)
 

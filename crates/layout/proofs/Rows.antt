@@ -68,10 +68,10 @@ module _ {A : Type 0} (enc : A → List ℕ) (n : ℕ) (size : (x : A) → lengt
 pub slots-none : (l : List ℕ) (at : ℕ) (xs : List Slot) → SoFar slotWords SlotBack xs l at 0 l
 slots-none l at xs = let h = rows-none slotWords 4 (λ x. refl) SlotBack l at xs in record { stored = h .0; backs = h .1 }
 
-pub slots-turn : (l m m′ : List ℕ) (at i : ℕ) (xs : List Slot) (x d : Slot) → length xs ≡ 8 → i < 8 → SoFar slotWords SlotBack xs l at i m
-    → x ≡ getD xs i d → m′ ≡ written m (at + 4 * i) (slotWords x) → SlotBack x → SoFar slotWords SlotBack xs l at (i + 1) m′
-slots-turn l m m′ at i xs x d n h s p q b =
-    let k = rows-turn slotWords 4 (λ x. refl) SlotBack l m m′ at i xs x d (omega arith) (s .stored) (s .backs) p q b in
+pub slots-turn : (l m m′ : List ℕ) (at i : ℕ) (xs : List Slot) (d : Slot) → length xs ≡ 8 → i < 8 → SoFar slotWords SlotBack xs l at i m
+    → m′ ≡ written m (at + 4 * i) (slotWords (getD xs i d)) → SlotBack (getD xs i d) → SoFar slotWords SlotBack xs l at (i + 1) m′
+slots-turn l m m′ at i xs d n h s q b =
+    let k = rows-turn slotWords 4 (λ x. refl) SlotBack l m m′ at i xs (getD xs i d) d (omega arith) (s .stored) (s .backs) refl q b in
     record { stored = k .0; backs = k .1 }
 
 pub slots-all : (l m : List ℕ) (at i : ℕ) (xs : List Slot) → length xs ≡ 8 → 8 ≤ i → SoFar slotWords SlotBack xs l at i m
@@ -83,10 +83,10 @@ slots-all l m at i xs n h s =
 pub calls-none : (l : List ℕ) (at : ℕ) (xs : List OpenCall) → SoFar callWords CallBack xs l at 0 l
 calls-none l at xs = let h = rows-none callWords 2 (λ x. refl) CallBack l at xs in record { stored = h .0; backs = h .1 }
 
-pub calls-turn : (l m m′ : List ℕ) (at i : ℕ) (xs : List OpenCall) (x d : OpenCall) → length xs ≡ 4 → i < 4 → SoFar callWords CallBack xs l at i m
-    → x ≡ getD xs i d → m′ ≡ written m (at + 2 * i) (callWords x) → CallBack x → SoFar callWords CallBack xs l at (i + 1) m′
-calls-turn l m m′ at i xs x d n h s p q b =
-    let k = rows-turn callWords 2 (λ x. refl) CallBack l m m′ at i xs x d (omega arith) (s .stored) (s .backs) p q b in
+pub calls-turn : (l m m′ : List ℕ) (at i : ℕ) (xs : List OpenCall) (d : OpenCall) → length xs ≡ 4 → i < 4 → SoFar callWords CallBack xs l at i m
+    → m′ ≡ written m (at + 2 * i) (callWords (getD xs i d)) → CallBack (getD xs i d) → SoFar callWords CallBack xs l at (i + 1) m′
+calls-turn l m m′ at i xs d n h s q b =
+    let k = rows-turn callWords 2 (λ x. refl) CallBack l m m′ at i xs (getD xs i d) d (omega arith) (s .stored) (s .backs) refl q b in
     record { stored = k .0; backs = k .1 }
 
 pub calls-all : (l m : List ℕ) (at i : ℕ) (xs : List OpenCall) → length xs ≡ 4 → 4 ≤ i → SoFar callWords CallBack xs l at i m
@@ -98,10 +98,10 @@ calls-all l m at i xs n h s =
 pub totals-none : (l : List ℕ) (at : ℕ) (xs : List MonthTotal) → SoFar totalWords TotalBack xs l at 0 l
 totals-none l at xs = let h = rows-none totalWords 3 (λ x. refl) TotalBack l at xs in record { stored = h .0; backs = h .1 }
 
-pub totals-turn : (l m m′ : List ℕ) (at i : ℕ) (xs : List MonthTotal) (x d : MonthTotal) → length xs ≡ 16 → i < 16 → SoFar totalWords TotalBack xs l at i m
-    → x ≡ getD xs i d → m′ ≡ written m (at + 3 * i) (totalWords x) → TotalBack x → SoFar totalWords TotalBack xs l at (i + 1) m′
-totals-turn l m m′ at i xs x d n h s p q b =
-    let k = rows-turn totalWords 3 (λ x. refl) TotalBack l m m′ at i xs x d (omega arith) (s .stored) (s .backs) p q b in
+pub totals-turn : (l m m′ : List ℕ) (at i : ℕ) (xs : List MonthTotal) (d : MonthTotal) → length xs ≡ 16 → i < 16 → SoFar totalWords TotalBack xs l at i m
+    → m′ ≡ written m (at + 3 * i) (totalWords (getD xs i d)) → TotalBack (getD xs i d) → SoFar totalWords TotalBack xs l at (i + 1) m′
+totals-turn l m m′ at i xs d n h s q b =
+    let k = rows-turn totalWords 3 (λ x. refl) TotalBack l m m′ at i xs (getD xs i d) d (omega arith) (s .stored) (s .backs) refl q b in
     record { stored = k .0; backs = k .1 }
 
 pub totals-all : (l m : List ℕ) (at i : ℕ) (xs : List MonthTotal) → length xs ≡ 16 → 16 ≤ i → SoFar totalWords TotalBack xs l at i m

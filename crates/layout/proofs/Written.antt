@@ -7,7 +7,8 @@ use native.Mathlib.Omega.{arith}
 use borrow.Author.Tests.{ltb-true, ltb-false}
 use lib.Dec.{ltb}
 use lib.ListN.{length, getD, set, take, drop, length-set, length-append}
-use lib.Seq.{sets, length-sets, sets-eq, drop-at, take-append-le, drop-append-le, take-append-add, drop-append-add, getD-set-same, getD-set-other, ext-getD}
+use lib.Seq.{sets, length-sets, sets-eq, drop-at, take-append-le, drop-append-le, take-append-add, drop-append-add, getD-set-same, getD-set-other}
+use lib.Seq.{ext-getD}
 use Rattle.laws.specs.Cases.{split}
 use Rattle.layout.specs.Parts.{written}
 

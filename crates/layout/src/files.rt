@@ -8,10 +8,12 @@ use crate::parts::put_total;
 use crate::parts::slot;
 use crate::parts::total;
 use calendar::Day;
+use calendar::Month;
 use file::File;
 use file::MonthTotal;
 use file::NextAmount;
 use file::OpenCall;
+use file::Position;
 use file::Slot;
 use file::cover::counts;
 ghost use mathlib.Core.Path.{_≡_};
@@ -50,21 +52,21 @@ fn total_at(words: &[u64], at: usize) -> MonthTotal
     total(words[at], words[at + 1], words[at + 2])
 }
 
-// The slots of the file behind a place.
+// The positions of the file behind a place.
 pub fn slots(words: &[u64], at: usize) -> [Slot; 8]
     requires { ⌜ at + 97 ≤ length (now words) ⌝ }
     ensures { λ r. ⌜ r ≡ slotsOfWords (wordsAt (now (words .entry)) at) ⌝ }
 {
-    [
-        slot_at(words, at + 9),
-        slot_at(words, at + 13),
-        slot_at(words, at + 17),
-        slot_at(words, at + 21),
-        slot_at(words, at + 25),
-        slot_at(words, at + 29),
-        slot_at(words, at + 33),
-        slot_at(words, at + 37),
-    ]
+    let none = Slot {
+        position: Position::Empty,
+    };
+    let mut slots = [none; 8];
+    let mut k = 0;
+    while k < 8 {
+        slots[k] = slot_at(words, at + (9 + 4 * k));
+        k += 1;
+    }
+    slots
 }
 
 // The open calls of the file behind a place.
@@ -72,42 +74,41 @@ pub fn calls(words: &[u64], at: usize) -> [OpenCall; 4]
     requires { ⌜ at + 97 ≤ length (now words) ⌝ }
     ensures { λ r. ⌜ r ≡ callsOfWords (wordsAt (now (words .entry)) at) ⌝ }
 {
-    [
-        call_at(words, at + 41),
-        call_at(words, at + 43),
-        call_at(words, at + 45),
-        call_at(words, at + 47),
-    ]
+    let none = OpenCall {
+        amount: 0,
+        last: Day(0),
+    };
+    let mut calls = [none; 4];
+    let mut k = 0;
+    while k < 4 {
+        calls[k] = call_at(words, at + (41 + 2 * k));
+        k += 1;
+    }
+    calls
 }
 
 // The month totals of the file behind a place.
 pub fn totals(words: &[u64], at: usize) -> [MonthTotal; 16]
-    requires { ⌜ (at + 97 ≤ length (now words)) × (at ≤ 6050) ⌝ }
+    requires { ⌜ at + 97 ≤ length (now words) ⌝ }
     ensures { λ r. ⌜ r ≡ totalsOfWords (wordsAt (now (words .entry)) at) ⌝ }
 {
-    [
-        total_at(words, at + 49),
-        total_at(words, at + 52),
-        total_at(words, at + 55),
-        total_at(words, at + 58),
-        total_at(words, at + 61),
-        total_at(words, at + 64),
-        total_at(words, at + 67),
-        total_at(words, at + 70),
-        total_at(words, at + 73),
-        total_at(words, at + 76),
-        total_at(words, at + 79),
-        total_at(words, at + 82),
-        total_at(words, at + 85),
-        total_at(words, at + 88),
-        total_at(words, at + 91),
-        total_at(words, at + 94),
-    ]
+    let none = MonthTotal {
+        recorded: false,
+        month: Month(0),
+        total: 0,
+    };
+    let mut totals = [none; 16];
+    let mut k = 0;
+    while k < 16 {
+        totals[k] = total_at(words, at + (49 + 3 * k));
+        k += 1;
+    }
+    totals
 }
 
 // The file behind a place.
 pub fn file_at(words: &[u64], at: usize) -> File
-    requires { ⌜ (at + 97 ≤ length (now words)) × (at ≤ 6050) ⌝ }
+    requires { ⌜ at + 97 ≤ length (now words) ⌝ }
     ensures { λ r. ⌜ r ≡ fileOfWords (wordsAt (now (words .entry)) at) ⌝ }
 {
     let admitted = flag(words[at + 1]);

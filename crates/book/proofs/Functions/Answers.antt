@@ -25,7 +25,8 @@ use Rattle.book.specs.Account.{fileAt, withFile, ifNumbered, ifAdmitted,
 use Rattle.book.specs.Left.{fileLeft}
 use Rattle.book.specs.Reached.{Given}
 use Rattle.book.proofs.Participant.Decide.{decide-true, decide-false}
-use Rattle.book.proofs.Functions.OnFile.{above-answer, refused-left, known-answer, not-admitted, is-admitted, admitted-left, lodge-left, release-left, settle-left, annual-left}
+use Rattle.book.proofs.Functions.OnFile.{above-answer, refused-left, known-answer, not-admitted, is-admitted, admitted-left, lodge-left}
+use Rattle.book.proofs.Functions.OnFile.{release-left, settle-left, annual-left}
 use Rattle.file.specs.KeepsPositions.{admitted-sound}
 use Rattle.book.proofs.Functions.SoundBook.{sound-made, sound-file}
 use Rattle.book.proofs.History.Life.{given}

@@ -10,7 +10,7 @@ use mathlib.Core.List.{List}
 use lib.Dec.{ltb}
 use lib.ListN.{length, getD, set, length-set}
 use Rattle.laws.specs.Lists.{All}
-use Rattle.laws.specs.Places.{over, over-none, over-more, over-all}
+use Rattle.laws.specs.Places.{over, over-none, over-more, over-all, Filling, filling-first, filling-next}
 use Rattle.file.specs.declared.File.{File}
 use Rattle.file.specs.Answer.{refused, opened}
 use Rattle.file.specs.Admit.{noFile}
@@ -29,31 +29,13 @@ use Rattle.book.proofs.Functions.OnWords.{in-words, nothing-written}
 
 -- ---- the files are read
 
--- The first i places of the array hold the book's files.
-pub record Read (i : ℕ) (l : List ℕ) (before files : List File) : Type 0 where
-  pub few : i ≤ 64
-  pub long : length before ≡ 64
-  pub sofar : files ≡ over i (bookOfWords l .files) before
+pub read-first : (l : List ℕ) (files : List File) → length files ≡ 64 → Filling 64 0 (bookOfWords l .files) files files
+read-first l files long = filling-first 64 (bookOfWords l .files) files (book-long l) long
 
-pub read-first : (l : List ℕ) (files : List File) → length files ≡ 64 → Read 0 l files files
-read-first l files long = record { few = omega arith; long = long; sofar = over-none (bookOfWords l .files) files }
-
-pub read-next : (i : ℕ) (l : List ℕ) (before files : List File) (f : File) → Read i l before files → i < 64 → f ≡ fileIn l i
-    → Read (i + 1) l before (set files i f)
+pub read-next : (i : ℕ) (l : List ℕ) (before files : List File) (f : File) → Filling 64 i (bookOfWords l .files) before files → i < 64
+    → f ≡ fileIn l i → Filling 64 (i + 1) (bookOfWords l .files) before (set files i f)
 read-next i l before files f s h e =
-    record {
-      few = omega arith;
-      long = s .long;
-      sofar =
-          ap (λ (z : List File). set z i f) (s .sofar)
-          ∙ ap (set (over i (bookOfWords l .files) before) i) (e ∙ sym (book-file l i (omega arith)))
-          ∙ over-more i (bookOfWords l .files) before noFile (omega (arith, book-long l)) (book-long l ∙ sym (s .long))
-          ∙ ap (λ (k : ℕ). over k (bookOfWords l .files) before) (sym (add-one i));
-    }
-
-pub read-all : (i : ℕ) (l : List ℕ) (before files : List File) → Read i l before files → 64 ≤ i → files ≡ bookOfWords l .files
-read-all i l before files s h =
-    s .sofar ∙ over-all i (bookOfWords l .files) before (omega (arith, book-long l)) (book-long l ∙ sym (s .long))
+    filling-next 64 (bookOfWords l .files) i before files f noFile s h (e ∙ sym (book-file l i (omega arith)))
 
 -- ---- the files are put back
 

@@ -30,7 +30,7 @@ use Rattle.layout.specs.Parts.{flagOf, slotWords, SlotBack, written}
 use Rattle.layout.specs.Files.{fileOfWords, slotIn, slotsOfWords, callsOfWords, wordsAt}
 use Rattle.layout.specs.Words.{place, fileIn, todayIn}
 use Rattle.layout.specs.WellFormed.{WellFormed}
-use Rattle.layout.proofs.CoverLaws.{slot-there}
+use Rattle.layout.proofs.FileLaws.{slot-there}
 use Rattle.layout.proofs.PartLaws.{slot-put}
 use Rattle.book.specs.Call.{lodge, release, on}
 use Rattle.book.specs.Account.{fileAnswer, fileAfter}

@@ -35,7 +35,8 @@ use Rattle.layout.specs.Parts.{flagOf, totalWords, TotalBack, written}
 use Rattle.layout.specs.Files.{fileOfWords, slotsOfWords, totalsOfWords, wordsAt, Put}
 use Rattle.layout.specs.Words.{bookLength, place, fileIn, todayIn, bookOfWords, bookWords}
 use Rattle.layout.specs.WellFormed.{SoundBook, WellFormed}
-use Rattle.layout.proofs.BookLaws.{book-long, book-file, put-book, put-length, made-book, canonical-put, canonical-made, freshWords, fresh-words, canonical-fresh}
+use Rattle.layout.proofs.BookLaws.{book-long, book-file, put-book, put-length, made-book, canonical-put, canonical-made, freshWords, fresh-words}
+use Rattle.layout.proofs.BookLaws.{canonical-fresh}
 use Rattle.layout.proofs.PartLaws.{withMonths, total-put, next-put}
 use Rattle.book.specs.Call.{Act, admit, lodge, release, settle, annualRun, Call, on, statement, callsMade, isCalled}
 use Rattle.book.specs.Account.{fileAt, freshBook, ifAdmitted, fileAnswer, fileAfter, answer, step, applied}
@@ -43,7 +44,9 @@ use Rattle.book.specs.Reading.Decisions.{cause}
 use Rattle.book.specs.Left.{fileLeft}
 use Rattle.book.specs.Reached.{Given, Begun}
 use Rattle.book.specs.InWords.{GivenWords, BegunWords}
-use Rattle.book.proofs.Functions.Answers.{storedIn, above, sound, left-lodge, left-release, left-annual, left-settle, left-admit, gave-admitted-already, gave-no-role, admission-few, settlement-few, count-fits, today-in, above-statement, unknown-statement, gave-statement, gave-count}
+use Rattle.book.proofs.Functions.Answers.{storedIn, above, sound, left-lodge, left-release, left-annual, left-settle, left-admit}
+use Rattle.book.proofs.Functions.Answers.{gave-admitted-already, gave-no-role, admission-few, settlement-few, count-fits, today-in}
+use Rattle.book.proofs.Functions.Answers.{above-statement, unknown-statement, gave-statement, gave-count}
 use Rattle.book.proofs.Functions.Begins.{begun-refused, begun-done}
 use Rattle.book.proofs.Functions.OnFile.{known-answer, called-is}
 use Rattle.book.proofs.Functions.SoundBook.{step-sound, fresh-sound, behind-admitted}

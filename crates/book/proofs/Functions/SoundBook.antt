@@ -29,7 +29,8 @@ use Rattle.file.specs.KeepsCalls.{open-count, opened-sound, settled-sound, annu
 use Rattle.layout.specs.Book.{Book}
 use Rattle.layout.specs.WellFormed.{openIn, BlankUnlessAdmitted, SoundBook}
 use Rattle.book.specs.Call.{Act, admit, lodge, release, settle, annualRun, Call, on, advance, statement, callsMade}
-use Rattle.book.specs.Account.{freshBook, fileAt, withFile, ifNumbered, ifAdmitted, fileAnswer, fileAfter, callsAdded, openedIfAdmitted, openDay, openDays, answer, applied, step, run}
+use Rattle.book.specs.Account.{freshBook, fileAt, withFile, ifNumbered, ifAdmitted, fileAnswer, fileAfter, callsAdded, openedIfAdmitted}
+use Rattle.book.specs.Account.{openDay, openDays, answer, applied, step, run}
 use Rattle.book.specs.Reading.Decisions.{cause}
 use Rattle.book.specs.Reached.{Reached}
 use Rattle.book.proofs.Participant.Decide.{decide-accepted}

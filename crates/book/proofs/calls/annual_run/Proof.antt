@@ -1,4 +1,5 @@
--- `book::calls::annual_run` meets its contract: cause 1 is the participant's number, a refusal writes nothing, and the amount becomes the next amount.
+-- `book::calls::annual_run` meets its contract: cause 1 is the participant's number, a refusal writes nothing, and the amount becomes the next
+-- amount.
 -- Assumes nothing.
 use borrow.Author.Needs.{needs}
 use Rattle.book.proofs.Functions.OnWords.{above-given, given-no-run, given-run}

@@ -1,4 +1,5 @@
--- `book::calls::settle` meets its contract: cause 1 is the participant's number, a refusal writes nothing, a month's total is put at its place, and a call puts the file and the count.
+-- `book::calls::settle` meets its contract: cause 1 is the participant's number, a refusal writes nothing, a month's total is put at its
+-- place, and a call puts the file and the count.
 -- Assumes nothing.
 use borrow.Author.Needs.{needs}
 use Rattle.book.proofs.Functions.OnWords.{above-given, given-refused, given-recorded, settle-room, given-called}

@@ -3,12 +3,14 @@
 use borrow.Author.Needs.{needs}
 use Prim.Native.Nat.{_-_}
 use native.Mathlib.Omega.{arith}
-use Rattle.book.proofs.Functions.FilesInWords.{Read, read-first, read-next, read-all}
+use Rattle.laws.specs.Places.{Filling, filling-all}
+use Rattle.layout.specs.Words.{bookOfWords}
+use Rattle.book.proofs.Functions.FilesInWords.{read-first, read-next}
 use Rattle.book.proofs.days.files_of.Statement.{statement}
 use Rattle.book.proofs.days.files_of.Tie as tie
 
 abbrev Inv-loop : tie.InvT-loop
-Inv-loop words files₀ p₀ files p = Read p words files₀ files
+Inv-loop words files₀ p₀ files p = Filling 64 p (bookOfWords words .files) files₀ files
 
 abbrev μ-loop : tie.MeasureT-loop
 μ-loop words files₀ p₀ files p = 64 - p
@@ -44,7 +46,7 @@ loop-again : tie.Need-loop-again Inv-loop μ-loop
 loop-again c = search (read-next, needs)
 
 returns : tie.Need-returns Inv-loop μ-loop
-returns c = search (read-all, needs)
+returns c = search (filling-all, needs)
 
 pub files-of-spec : {M : Type 1} → statement M
 files-of-spec =

@@ -1,4 +1,5 @@
--- `book::positions::lodge` meets its contract: cause 1 is the participant's number, a refusal writes nothing, and what was lodged is put at its position.
+-- `book::positions::lodge` meets its contract: cause 1 is the participant's number, a refusal writes nothing, and what was lodged is put at
+-- its position.
 -- Assumes nothing.
 use borrow.Author.Needs.{needs}
 use Rattle.book.proofs.Functions.OnWords.{above-given, given-refused}

@@ -1,4 +1,5 @@
--- `book::positions::release` meets its contract: cause 1 is the participant's number, a refusal writes nothing, and what is left is put at its position.
+-- `book::positions::release` meets its contract: cause 1 is the participant's number, a refusal writes nothing, and what is left is put at its
+-- position.
 -- Assumes nothing.
 use borrow.Author.Needs.{needs}
 use Rattle.book.proofs.Functions.OnWords.{above-given, given-refused}

@@ -3,7 +3,8 @@
 use borrow.Author.Needs.{needs}
 use denote.Ref.{now}
 use borrow.Author.Tests.{not-true, not-false}
-use Rattle.book.proofs.Functions.OnPositions.{release-unknown, release-no-place, release-empty, release-outside, release-above, releasable-here, release-uncovered, release-done}
+use Rattle.book.proofs.Functions.OnPositions.{release-unknown, release-no-place, release-empty, release-outside, release-above}
+use Rattle.book.proofs.Functions.OnPositions.{releasable-here, release-uncovered, release-done}
 use Rattle.book.proofs.positions.release_answer.Statement.{statement}
 use Rattle.book.proofs.positions.release_answer.Tie as tie
 

@@ -95,12 +95,14 @@ shared-slice-read-t32 c = search needs
 
 returns : tie.Need-returns
 returns c =
-    taken-is (wordsAt (c .before .before .before .before .before .before .before .before .before .before .before .before .before .before .args .words .now) (c .before .before .before .before .before .before .before .before .before .before .before .before .before .before .args .at)) _ _ _ _ _
-    (c .before .before .before .before .before .before .before .before .before .before .before .flag .ensures)
-    (c .before .before .before .before .before .before .before .before .before .flag2 .ensures)
-    (c .before .before .before .before .before .before .before .slots .ensures)
-    (c .before .before .before .before .before .before .calls .ensures)
-    (c .before .before .before .before .before .totals .ensures)
+    let given = c .before .before .before .before .before .before .before .before .before .before .before .before .before .before .args in
+    let read = c .before .before .before .before .before in
+    taken-is (wordsAt (given .words .now) (given .at)) _ _ _ _ _
+    (read .before .before .before .before .before .before .flag .ensures)
+    (read .before .before .before .before .flag2 .ensures)
+    (read .before .before .slots .ensures)
+    (read .before .calls .ensures)
+    (read .totals .ensures)
 
 pub file-at-spec : {M : Type 1} → statement M
 file-at-spec =

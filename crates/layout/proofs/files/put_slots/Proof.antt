@@ -1,11 +1,9 @@
 -- `layout::files::put_slots` meets its contract: the first i positions are put.
 -- Assumes nothing.
 use Prim.Native.Nat.{_≤_, _-_}
-use mathlib.Core.Path.{_≡_, refl}
+use mathlib.Core.Path.{_≡_}
 use borrow.Author.Needs.{needs}
-use Rattle.file.specs.Position.{slotOf}
-use Rattle.file.specs.declared.Position.the-variants.{Empty}
-use lib.ListN.{length, getD}
+use lib.ListN.{length}
 use Rattle.layout.specs.Parts.{slotWords, SlotBack}
 use Rattle.layout.specs.Files.{SoFar}
 use Rattle.layout.proofs.Rows.{slots-none, slots-turn, slots-all, kept-length}
@@ -43,14 +41,7 @@ loop-less : tie.Need-loop-less Inv-loop μ-loop
 loop-less c = search needs
 
 loop-again : tie.Need-loop-again Inv-loop μ-loop
-loop-again c = (
-  search needs,
-  search needs,
-  search (kept-length, needs),
-  slots-turn (c .before .before .before .before .before .before .before .before .args .words .now) (c .before .before .before .before .before .before .loop .words) _ (c .before .before .before .before .before .before .before .before .args .at) (c .before .before .before .before .before .before .loop .i) (c .before .before .before .before .before .before .before .before .args .t3)
-      (getD (c .before .before .before .before .before .before .before .before .args .t3) (c .before .before .before .before .before .before .loop .i) (slotOf Empty)) (slotOf Empty) (search needs) (search needs) (c .before .before .before .before .before .before .loop .inv .3) refl
-      (c .before .before .put-slot .ensures .0) (c .before .before .put-slot .ensures .1),
-)
+loop-again c = (search needs, search needs, search (kept-length, needs), search (slots-turn, needs))
 
 same-length : tie.Need-same-length Inv-loop μ-loop
 same-length c = search needs

@@ -1,80 +1,66 @@
--- `layout::files::slots` meets its contract: each position is read at its place.
+-- `layout::files::slots` meets its contract: the first k positions are read.
 -- Assumes nothing.
 use borrow.Author.Needs.{needs}
-use Rattle.layout.proofs.FileLaws.{slots-are}
+use Prim.Native.Nat.{_-_}
+use Rattle.laws.specs.Places.{Filling, filling-first, filling-all}
+use Rattle.layout.specs.Files.{wordsAt, slotsOfWords}
+use Rattle.layout.proofs.FileLaws.{slots-next, slots-long}
 use Rattle.layout.proofs.files.slots.Statement.{statement}
 use Rattle.layout.proofs.files.slots.Tie as tie
 
-add-slot-at : tie.Need-add-slot-at
+abbrev Inv-loop : tie.InvT-loop
+Inv-loop words at slots₀ k₀ slots k = Filling 8 k (slotsOfWords (wordsAt words at)) slots₀ slots
+
+abbrev μ-loop : tie.MeasureT-loop
+μ-loop words at slots₀ k₀ slots k = 8 - k
+
+loop-holds : tie.Need-loop-holds Inv-loop μ-loop
+loop-holds c = search (filling-first, slots-long, needs)
+
+mul-slot-at : tie.Need-mul-slot-at Inv-loop μ-loop
+mul-slot-at c = search needs
+
+add-slot-at : tie.Need-add-slot-at Inv-loop μ-loop
 add-slot-at c = search needs
 
-slot-at-requires : tie.Need-slot-at-requires
-slot-at-requires c κs = search needs
-
-add-slot-at-2 : tie.Need-add-slot-at-2
+add-slot-at-2 : tie.Need-add-slot-at-2 Inv-loop μ-loop
 add-slot-at-2 c = search needs
 
-slot-at-requires-2 : tie.Need-slot-at-requires-2
-slot-at-requires-2 c κs = search needs
+slot-at-requires : tie.Need-slot-at-requires Inv-loop μ-loop
+slot-at-requires c κs = search needs
 
-add-slot-at-3 : tie.Need-add-slot-at-3
-add-slot-at-3 c = search needs
+mul-slots : tie.Need-mul-slots Inv-loop μ-loop
+mul-slots c = search needs
 
-slot-at-requires-3 : tie.Need-slot-at-requires-3
-slot-at-requires-3 c κs = search needs
+array-set-from-slots : tie.Need-array-set-from-slots Inv-loop μ-loop
+array-set-from-slots c = search needs
 
-add-slot-at-4 : tie.Need-add-slot-at-4
-add-slot-at-4 c = search needs
+add-k : tie.Need-add-k Inv-loop μ-loop
+add-k c = search needs
 
-slot-at-requires-4 : tie.Need-slot-at-requires-4
-slot-at-requires-4 c κs = search needs
+loop-less : tie.Need-loop-less Inv-loop μ-loop
+loop-less c = search needs
 
-add-slot-at-5 : tie.Need-add-slot-at-5
-add-slot-at-5 c = search needs
+loop-again : tie.Need-loop-again Inv-loop μ-loop
+loop-again c = search (slots-next, needs)
 
-slot-at-requires-5 : tie.Need-slot-at-requires-5
-slot-at-requires-5 c κs = search needs
-
-add-slot-at-6 : tie.Need-add-slot-at-6
-add-slot-at-6 c = search needs
-
-slot-at-requires-6 : tie.Need-slot-at-requires-6
-slot-at-requires-6 c κs = search needs
-
-add-slot-at-7 : tie.Need-add-slot-at-7
-add-slot-at-7 c = search needs
-
-slot-at-requires-7 : tie.Need-slot-at-requires-7
-slot-at-requires-7 c κs = search needs
-
-add-slot-at-8 : tie.Need-add-slot-at-8
-add-slot-at-8 c = search needs
-
-slot-at-requires-8 : tie.Need-slot-at-requires-8
-slot-at-requires-8 c κs = search needs
-
-returns : tie.Need-returns
-returns c =
-    slots-are (c .before .before .before .before .before .before .before .before .before .args .words .now) (c .before .before .before .before .before .before .before .before .before .args .at) _ _ _ _ _ _ _ _ (c .before .before .before .before .before .before .before .slot-at .ensures) (c .before .before .before .before .before .before .slot-at2 .ensures) (c .before .before .before .before .before .slot-at3 .ensures) (c .before .before .before .before .slot-at4 .ensures) (c .before .before .before .slot-at5 .ensures) (c .before .before .slot-at6 .ensures) (c .before .slot-at7 .ensures) (c .slot-at8 .ensures)
+returns : tie.Need-returns Inv-loop μ-loop
+returns c = search (filling-all, needs)
 
 pub slots-spec : {M : Type 1} → statement M
 slots-spec =
     tie.close
     (tie.spec
+    Inv-loop
+    μ-loop
+    loop-holds
+    mul-slot-at
     add-slot-at
-    slot-at-requires
     add-slot-at-2
-    slot-at-requires-2
-    add-slot-at-3
-    slot-at-requires-3
-    add-slot-at-4
-    slot-at-requires-4
-    add-slot-at-5
-    slot-at-requires-5
-    add-slot-at-6
-    slot-at-requires-6
-    add-slot-at-7
-    slot-at-requires-7
-    add-slot-at-8
-    slot-at-requires-8
+    slot-at-requires
+    mul-slots
+    array-set-from-slots
+    add-k
+    loop-less
+    loop-again
     returns)

@@ -1,6 +1,7 @@
 -- `layout::parts::zigzag` meets its contract: twice the number from 0 on, and twice what is left of it and one below.
 -- Assumes nothing.
-use Rattle.layout.proofs.Zigzag.{negative-flips, negative-cast, negative-twice, negative-more, negative-is, natural-cast, natural-twice, natural-is}
+use Rattle.layout.proofs.Zigzag.{negative-flips, negative-cast, negative-twice, negative-more, negative-is, natural-cast, natural-twice}
+use Rattle.layout.proofs.Zigzag.{natural-is}
 use Rattle.layout.proofs.parts.zigzag.Statement.{statement}
 use Rattle.layout.proofs.parts.zigzag.Tie as tie
 
