@@ -1,11 +1,13 @@
 """The ledger in Python's standard library, over paper 01's reading of the history (reading.py): what the program `ledger` has to answer.
 
-    python3 reference/ledger.py < CALLS                the filter
-    python3 reference/ledger.py --keep FILE < CALLS    keeps the book in the journal FILE
-    python3 reference/ledger.py --check                paper 01's starred figures, as calls and their answers
+    python3 reference/ledger.py [--bail] [--end] < CALLS                the filter
+    python3 reference/ledger.py [--bail] [--end] --keep FILE < CALLS    keeps the book in the journal FILE
+    python3 reference/ledger.py [--bail] [--end] --read FILE < CALLS    answers questions to the journal FILE
+    python3 reference/ledger.py --check                                 paper 01's starred figures, as calls and their answers
 
 A line is read to a tuple, the call's name first and its arguments after it, numbers as numbers; a settlement's last argument is the list of its
-figures, and a special guarantee's arguments are its seven lists. The book is reading.py's; the special guarantee stands here.
+figures, and a special guarantee's arguments are its seven lists. The book is reading.py's; the special guarantee stands here. What the program
+does with the system (locks, forced writes, what fails) is not here: reference/ledger_cases.py tries that.
 """
 import datetime
 import os
@@ -17,6 +19,9 @@ sys.dont_write_bytecode = True
 import reading
 
 LONGEST = 65535                                     # bytes of a line without its newline
+DROPPED = 8191                                      # bytes behind a journal's last newline that are dropped at most
+MARK = b'\xef\xbb\xbf'                              # a byte order mark, passed over at the start of an input
+QUESTIONS = ('statement', 'calls', 'special', 'report')
 NATURAL, DAY, SIGNED = 2 ** 64 - 1, 2 ** 32 - 1, 2 ** 63 - 1
 ROLES = ('supplier', 'self-supplied', 'trader', 'producer', 'res-aggregator', 'demand-response')
 WORD = re.compile(rb'[^ \t\r]+')                    # blanks are spaces, tabs and carriage returns
@@ -265,16 +270,29 @@ class Filter:
     """Answers the lines of an input, which are counted from 1."""
 
     def __init__(self):
-        self.ledger, self.line = Ledger(), 0
+        self.ledger = Ledger()
+        self.begin()
 
-    def answer(self, line):
-        """The answer to the next line, without its newline; None where it has none."""
+    def begin(self, bail=False):
+        """Before the first line of an input; with bail it stops behind the first refusal or error."""
+        self.line, self.accepted, self.bail, self.stopped = 0, 0, bail, False
+
+    def answer(self, line, whole=True):
+        """The answer to the next line, without its newline; None where it has none. A last line that has no newline is not whole."""
         self.line += 1
         try:
-            call = call_of(line)
-            return None if call is None else self.made(call)
+            answer = self.taken(line.removeprefix(MARK) if self.line == 1 else line, whole)
         except Fault as fault:
-            return f'error {self.line} {fault}'
+            answer = f'error {self.line} {fault}'
+        if answer is not None and answer.startswith(('refused', 'error')):
+            self.stopped = self.bail
+        else:
+            self.accepted += 1
+        return answer
+
+    def taken(self, line, whole):
+        call = call_of(line)
+        return None if call is None else self.made(call)
 
     def made(self, call):
         return self.ledger.make(call)
@@ -285,44 +303,37 @@ class Stop(Exception):
 
 
 class Kept(Filter):
-    """The same for a kept book: `fresh` stands only as the first call, and the accepted calls are kept."""
+    """The same for a kept book: changes that are accepted are kept, `fresh` only as the first of them, and no line without its newline is taken."""
 
     def __init__(self):
         super().__init__()
-        self.any = False     # whether the journal has a call
+        self.any = False     # whether the journal has a change
 
     def first_only(self, call):
         if call[0] == 'fresh' and self.any:
             raise Fault('fresh is not the first call')
 
+    def taken(self, line, whole):
+        if not whole:
+            raise Fault('line without newline, not taken')
+        return super().taken(line, whole)
+
     def made(self, call):
         self.first_only(call)
         answer = self.ledger.make(call)
-        if not refused(answer) and call[0] != 'report':
+        if call[0] not in QUESTIONS and not refused(answer):
             self.keep(numeric(call).encode())
             self.any = True
         return answer
 
+    def replay(self, data):
+        """Replays the complete lines of a journal, and gives the rest behind them."""
+        *lines, rest = data.removeprefix(MARK).split(b'\n')
+        for number, line in enumerate(lines, 1):
+            self.replay_line(number, line)
+        return rest
 
-class Keeper(Kept):
-    """Keeps the accepted calls in a journal, which is replayed first."""
-
-    def __init__(self, name):
-        super().__init__()
-        try:
-            self.file = os.fdopen(os.open(name, os.O_RDWR | os.O_CREAT, 0o666), 'r+b', buffering=0)
-            data = self.file.read()
-        except OSError as error:
-            raise Stop(error.strerror)
-        end = data.rfind(b'\n') + 1
-        for number, line in enumerate(data[:end].split(b'\n')[:-1], 1):
-            self.replay(number, line)
-        if end < len(data):
-            print(f'ledger: {name}: the last line has no end and is dropped', file=sys.stderr, flush=True)
-            self.file.truncate(end)
-        self.file.seek(end)
-
-    def replay(self, number, line):
+    def replay_line(self, number, line):
         try:
             call = call_of(line)
             if call is None:
@@ -333,25 +344,83 @@ class Keeper(Kept):
             raise Stop(f'line {number}: {fault}')
         if refused(answer):
             raise Stop(f'line {number}: {answer}')
-        self.any = True
+        self.any |= call[0] not in QUESTIONS
+
+    def found(self, data):
+        """The same for a journal that is to be kept: a rest is given to be dropped only behind a complete line, and if it is not too long."""
+        rest, lines = self.replay(data), data.count(b'\n')
+        if rest and (not lines or len(rest) > DROPPED):
+            raise Stop(f'line {lines + 1}: line without newline')
+        return rest
+
+
+class Read(Kept):
+    """The same for a journal that is only read: questions are answered, and changes are not made. A line without its newline is taken."""
+
+    def taken(self, line, whole):
+        return super().taken(line, True)
+
+    def made(self, call):
+        if call[0] not in QUESTIONS:
+            raise Fault('only questions, the journal is read')
+        return self.ledger.make(call)
+
+
+def shown(rest):
+    """What is dropped, as it is said: bytes that don't print as question marks."""
+    return ''.join(chr(byte) if 32 <= byte <= 126 else '?' for byte in rest)
+
+
+def dropped(name, rest):
+    """What is said of a rest that is dropped."""
+    return f'ledger: {name}: the last line has no end and is dropped: {shown(rest)}'
+
+
+def contents(name):
+    try:
+        with open(name, 'rb') as file:
+            return file.read()
+    except OSError as error:
+        raise Stop(error.strerror)
+
+
+class Keeper(Kept):
+    """Keeps the accepted changes in a journal, which is replayed first."""
+
+    def __init__(self, name):
+        super().__init__()
+        data = contents(name) if os.path.exists(name) else b''
+        rest = self.found(data)
+        self.file = os.fdopen(os.open(name, os.O_RDWR | os.O_CREAT, 0o600), 'r+b', buffering=0)
+        if rest:
+            print(dropped(name, rest), file=sys.stderr, flush=True)
+            self.file.truncate(len(data) - len(rest))
+        self.file.seek(0, os.SEEK_END)
 
     def keep(self, line):
         self.file.write(line + b'\n')
 
 
-def answers(lines, to=None):
-    """The answers of the filter (or of a keeper) to the bytes of an input, as bytes."""
-    to = to or Filter()
-    found = lines.split(b'\n')
-    if not found[-1]:
-        found.pop()
-    return b''.join(answer.encode() + b'\n' for answer in map(to.answer, found) if answer is not None)
+def answers(data, to=None):
+    """The answers of the filter (or of a kept book) to the bytes of an input, as bytes. What stands behind the last newline is the last line."""
+    to, out = to or Filter(), []
+    *lines, rest = data.split(b'\n')
+    for line, whole in [(line, True) for line in lines] + [(rest, False)] * (rest != b''):
+        if to.stopped:
+            break
+        out.append(to.answer(line, whole))
+    return b''.join(answer.encode() + b'\n' for answer in out if answer is not None)
 
 
-def run(to):
+def ended(to):
+    """The line that is due behind the answers where an end is asked for, when the whole input was answered."""
+    return b'' if to.stopped else f'end {to.line} {to.accepted}\n'.encode()
+
+
+def run(to, end):
     """Answers standard input: every complete line that was read before more is waited for."""
     rest = []                # pieces of a line whose newline has not come
-    while True:
+    while not to.stopped:
         piece = os.read(0, 1 << 16)
         whole, newline, last = piece.rpartition(b'\n')
         if newline or not piece:
@@ -360,6 +429,7 @@ def run(to):
             rest = []
         rest.append(last)
         if not piece:
+            put(ended(to) if end else b'')
             return
 
 
@@ -436,14 +506,31 @@ def check():
     return 1 if wrong else 0
 
 
+def book_of(words):
+    """The book that the command line asks for, or None where it asks for none."""
+    if not words:
+        return Filter()
+    if len(words) == 2 and words[0] == '--keep':
+        return Keeper(words[1])
+    if len(words) == 2 and words[0] == '--read':
+        book = Read()
+        book.replay(contents(words[1]))
+        return book
+    return None
+
+
 def main(words):
     if words == ['--check']:
         return check()
-    if words and (len(words) != 2 or words[0] != '--keep'):
-        print('use: ledger.py [--keep FILE | --check]', file=sys.stderr)
-        return 2
+    bail, end = '--bail' in words, '--end' in words
+    words = [word for word in words if word not in ('--bail', '--end')]
     try:
-        run(Keeper(words[1]) if words else Filter())
+        to = book_of(words)
+        if to is None:
+            print('use: ledger.py [--bail] [--end] [--keep FILE | --read FILE], or ledger.py --check', file=sys.stderr)
+            return 2
+        to.begin(bail)
+        run(to, end)
         return 0
     except Stop as stop:
         print(f'ledger: {words[1]}: {stop}', file=sys.stderr)

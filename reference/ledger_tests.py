@@ -27,7 +27,7 @@ ROOT = os.path.dirname(os.path.dirname(os.path.abspath(__file__)))
 SEED = 1
 
 BEFORE = br'''
-# Every kind of line, every refusal, every error. What stands behind `#=` is the answer that is due.
+\xef\xbb\xbf# A byte order mark. Every kind of line, every refusal, every error. What stands behind `#=` is the answer that is due.
 
 # ---- Before any `fresh` the book is the fresh book of day 0.
 calls                                   #= calls 0
@@ -592,7 +592,7 @@ calls calls                             #= error too many words
 statement 3                             #= statement 0 9 0 0 0
 '''
 
-KEPT_JOURNAL = br'''# The journal that is found: comments, blank lines, dates and names, and a last line that a crash cut.
+KEPT_JOURNAL = br'''\xef\xbb\xbf# The journal that is found: a byte order mark, comments, blank lines, dates and names, and a last line that a crash cut.
 
 	fresh	2021-01-01     # a Friday
 
@@ -608,9 +608,9 @@ report
 calls
 special 3 126 4 0 3 3253 4048 4723 3 0 0 0 1 1000000 1 1000000 1 0 1 0
 lodge 0 1 cash 500000
-lodge 2 0 cash 77'''
+lodge\t2 0 cash 77'''
 
-KEPT_STDIN = br'''# What was kept is there: three participants, 1 February 2021.
+KEPT_STDIN = br'''\xef\xbb\xbf# What was kept is there: three participants, 1 February 2021.
 report
 calls                                            #= calls 3 | two minimums and the settlement
 statement 0                                      #= statement 2000000 2500000 0 0 0
@@ -647,9 +647,10 @@ statement 3                                      #= statement 0 0 0 0 0
 advance 2021-02-12 1                             #= opened 1
 statement 3                                      #= statement 2000000 0 2000000 1 100000000
 statement 5                                      #= refused 2
-report # not kept
+report
+\xef\xbb\xbfcalls                                #= error no such call | a mark stands only at the start
 calls                                            #= calls 4
-lodge 1 7 cash 5'''
+lodge 1 7 cash 5                                 #= error line without newline, not taken'''
 
 
 # ---- lines drawn from the seed
@@ -832,10 +833,10 @@ def lines_of(text):
 
 
 def due_answers(lines, to):
-    """Answers the lines, and gives the answers and the differences from what is due."""
+    """Answers the lines, of which the last has no newline, and gives the answers and the differences from what is due."""
     out, wrong = [], []
-    for line in lines:
-        answer = to.answer(line)
+    for n, line in enumerate(lines, 1):
+        answer = to.answer(line, n < len(lines))
         if answer is not None:
             out.append(answer)
         if b'#= ' in line and len(line) < 1000:
@@ -854,7 +855,7 @@ def kept_run(journal, lines):
         said = io.StringIO()
         with contextlib.redirect_stderr(said):
             keeper = ledger.Keeper(path)
-        assert said.getvalue() == f'ledger: {path}: the last line has no end and is dropped\n'
+        assert said.getvalue() == f'ledger: {path}: the last line has no end and is dropped: lodge?2 0 cash 77\n'
         out, wrong = due_answers(lines, keeper)
         keeper.file.close()
         with open(path, 'rb') as file:

@@ -58,10 +58,10 @@ listed-is n most a b c d e f g p q r s t u v =
     same = omega arith
 
 -- The line of a kept call.
-pub kept-line : (request : Request) (zs ys : List ℤ) (n : ℕ) (e f g : List ℕ) (p q : ℕ) → n ≡ numbersIn request (length zs) → ys ≡ take n zs
-    → Put (printed request ys) e 0 p f → Put (10 ∷ []) f p q g → Put (keptLine request zs) e 0 q g
+pub kept-line : (request : Request) (zs ys : List ℤ) (n : ℕ) (e f g : List ℕ) (at p q : ℕ) → n ≡ numbersIn request (length zs) → ys ≡ take n zs
+    → Put (printed request ys) e at p f → Put (10 ∷ []) f p q g → Put (keptLine request zs) e at q g
 unfolding keptLine
-kept-line request zs ys n e f g p q h k x y =
-    put-then (printed request (take (numbersIn request (length zs)) zs)) (10 ∷ []) e f g 0 p q
-    (subst (λ (w : List ℤ). Put (printed request w) e 0 p f) (k ∙ ap (λ (m : ℕ). take m zs) h) x)
+kept-line request zs ys n e f g at p q h k x y =
+    put-then (printed request (take (numbersIn request (length zs)) zs)) (10 ∷ []) e f g at p q
+    (subst (λ (w : List ℤ). Put (printed request w) e at p f) (k ∙ ap (λ (m : ℕ). take m zs) h) x)
     y

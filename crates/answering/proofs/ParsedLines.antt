@@ -68,7 +68,7 @@ call-or-error Request.Report zs f h = h tt
 call-or-error (Request.Error e) zs f h = refl
 
 -- The numbers of a parsed call, lent a slice e which is left as f, are its own in f.
-parsed-own : (line : List ℕ) (e f : List ℤ) (r : Request) → ParsedIs (parsed (length e) line) e r f → IsCall (parsed (length e) line .request)
+pub parsed-own : (line : List ℕ) (e f : List ℤ) (r : Request) → ParsedIs (parsed (length e) line) e r f → IsCall (parsed (length e) line .request)
     → own (parsed (length e) line .request) f ≡ parsed (length e) line .numbers
 parsed-own line e f r x c =
     let zs = parsed (length e) line .numbers in
@@ -113,7 +113,7 @@ parsed-line long kept line e f r q t x h =
 -- ---- a kept line
 
 -- A request that is a call is the parsed one: a later `fresh` is an error.
-call-is-parsed : (kept : ℕ) (r q : Request) → q ≡ freshFirst kept r → IsCall q → q ≡ r
+pub call-is-parsed : (kept : ℕ) (r q : Request) → q ≡ freshFirst kept r → IsCall q → q ≡ r
 unfolding freshFirst
 call-is-parsed kept r q e c =
     split (isFresh r && ltb 0 kept)

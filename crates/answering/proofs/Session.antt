@@ -2,17 +2,24 @@
 -- Assumes nothing.
 use Prim.Native.Nat.{ℕ, _≤_}
 use mathlib.Core.Path.{_≡_, refl, sym, ap, subst, _∙_}
-use mathlib.Core.Bool.{true, false, cond}
+use mathlib.Core.Bool.{Bool, true, false, cond}
 use mathlib.Core.List.{List, [], _∷_}
 use native.Mathlib.Omega.{arith}
 use borrow.Author.Tests.{ltb-false}
 use lib.Dec.{ltb}
 use Rattle.laws.specs.Cases.{split}
 use Rattle.file.specs.Answer as Said
-use Rattle.file.specs.Answer.{accepted, decide}
+use lib.IntN.{ℤ}
+use Rattle.calendar.specs.Civil.{monthOf}
+use Rattle.file.specs.Answer.{Cause, accepted, decide}
+use Rattle.file.specs.declared.File.{File}
+use Rattle.file.specs.Annual.{annualAnswer}
+use Rattle.file.specs.Lodge.{lodgeAnswer}
+use Rattle.file.specs.Release.{releaseAnswer}
+use Rattle.file.specs.Settle.{settlementCalls, checkDue, settledAnswer, settleAnswer}
 use Rattle.layout.specs.Book.{Book}
-use Rattle.book.specs.Call.{Call}
-use Rattle.book.specs.Account.{freshBook, freshAnswer, answer, step, run}
+use Rattle.book.specs.Call.{Call, Act, on, admit, lodge, release, settle, annualRun, advance, statement, callsMade}
+use Rattle.book.specs.Account.{freshBook, freshAnswer, fileAt, ifNumbered, ifAdmitted, fileAnswer, answer, applied, step, run}
 use Rattle.book.specs.Reading.Decisions.{decision, eventsOf}
 use Rattle.book.proofs.History.Life.{life, given}
 use Rattle.printing.specs.declared.Answer.{Answer}
@@ -74,25 +81,74 @@ session lines =
 
 -- ---- what a kept journal holds
 
--- A call is taken exactly when it is accepted.
-takes-shown : (x : Said.Answer) → takes (shown x) ≡ accepted x
-takes-shown (Said.refused n) = refl
-takes-shown Said.done = refl
-takes-shown (Said.called e asked last) = refl
-takes-shown (Said.covered e) = refl
-takes-shown (Said.recorded e) = refl
-takes-shown (Said.annual a n) = refl
-takes-shown (Said.opened n) = refl
-takes-shown (Said.stated f c s d a) = refl
-takes-shown (Said.counted n) = refl
+-- Whether an answer of the book tells what was asked for: a statement, or the count of calls made.
+abbrev tells : Said.Answer → Bool
+tells (Said.refused n) = false
+tells Said.done = false
+tells (Said.called e asked last) = false
+tells (Said.covered e) = false
+tells (Said.recorded e) = false
+tells (Said.annual a n) = false
+tells (Said.opened n) = false
+tells (Said.stated f c s d a) = true
+tells (Said.counted n) = true
 
--- A line that is not taken leaves the book.
+-- A call that is not taken is refused, or its answer tells what was asked for.
+untaken : (x : Said.Answer) → takes (shown x) ≡ false → tells x ≡ false → accepted x ≡ false
+untaken (Said.refused n) h k = refl
+untaken Said.done h k = h
+untaken (Said.called e asked last) h k = h
+untaken (Said.covered e) h k = h
+untaken (Said.recorded e) h k = h
+untaken (Said.annual a n) h k = h
+untaken (Said.opened n) h k = h
+untaken (Said.stated f c s d a) h k = k
+untaken (Said.counted n) h k = k
+
+-- Only questions are told what they ask for: causes of refusal tell nothing, nor does the answer behind them.
+decided-untold : (causes : List Cause) (x : Said.Answer) → tells x ≡ false → tells (decide causes x) ≡ false
+unfolding decide
+decided-untold [] x h = h
+decided-untold (c ∷ causes) x h = split (c .holds) (λ e. rw e refl) (λ e. rw e (decided-untold causes x h))
+
+settled-untold : (f : File) (t m : ℕ) (figures : List ℤ) → tells (settledAnswer f t m figures) ≡ false
+unfolding settledAnswer
+settled-untold f t m figures =
+    split (settlementCalls f t m figures) (λ e. rw e refl) (λ e. rw e (split (checkDue (monthOf t) m) (λ g. rw g refl) (λ g. rw g refl)))
+
+file-untold : (f : File) (t : ℕ) (a : Act) → tells (fileAnswer f t a) ≡ false
+unfolding fileAnswer ifAdmitted lodgeAnswer releaseAnswer settleAnswer annualAnswer
+file-untold f t (admit role) = decided-untold _ Said.done refl
+file-untold f t (lodge k h) = decided-untold _ _ (decided-untold _ Said.done refl)
+file-untold f t (release k a) = decided-untold _ _ (decided-untold _ Said.done refl)
+file-untold f t (settle m figures) = decided-untold _ _ (decided-untold _ _ (settled-untold f t m figures))
+file-untold f t annualRun = decided-untold _ _ (decided-untold _ _ refl)
+
+act-untold : (b : Book) (p : ℕ) (a : Act) → tells (answer b (on p a)) ≡ false
+unfolding answer ifNumbered
+act-untold b p a = decided-untold _ _ (file-untold (fileAt b p) (b .today .0) a)
+
+advance-untold : (b : Book) (day k : ℕ) → tells (answer b (advance day k)) ≡ false
+unfolding answer
+advance-untold b day k = decided-untold _ _ refl
+
+fresh-untold : (d : ℕ) → tells (freshAnswer d) ≡ false
+unfolding freshAnswer
+fresh-untold d = decided-untold _ _ refl
+
+-- A question leaves the book, whatever it is answered.
+question-leaves : (t : Bool) (b : Book) → cond t b b ≡ b
+question-leaves true b = refl
+question-leaves false b = refl
+
+-- A line that is not taken leaves the book: it is refused, or it is a question.
 pub not-taken : (b : Book) (n : ℕ) (a : Asked) → takes (answerTo b n a) ≡ false → bookAfter b a ≡ b
-unfolding step
-not-taken b n (call c) h =
-    let e : accepted (answer b c) ≡ false = sym (takes-shown (answer b c)) ∙ h in rw e
-not-taken b n (fresh d) h =
-    let e : accepted (freshAnswer d) ≡ false = sym (takes-shown (freshAnswer d)) ∙ h in rw e
+unfolding step applied
+not-taken b n (call (on p a)) h = rw (untaken (answer b (on p a)) h (act-untold b p a)) refl
+not-taken b n (call (advance day k)) h = rw (untaken (answer b (advance day k)) h (advance-untold b day k)) refl
+not-taken b n (call (statement p)) h = question-leaves (accepted (answer b (statement p))) b
+not-taken b n (call callsMade) h = question-leaves (accepted (answer b callsMade)) b
+not-taken b n (fresh d) h = rw (untaken (freshAnswer d) h (fresh-untold d)) refl
 not-taken b n (guarantee x) h = refl
 not-taken b n nothing h = refl
 not-taken b n (fault e) h = refl

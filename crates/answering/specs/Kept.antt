@@ -12,7 +12,8 @@ use Rattle.journal.specs.declared.Request.{Request}
 use Rattle.printing.specs.declared.Answer.{Answer}
 use Rattle.printing.specs.Lines.{printed}
 
--- "each accepted call is appended": one that is answered, and neither refused nor an error.
+-- "each accepted call is appended", but for the questions, which change nothing: whether a call with this answer is kept. It is one that is
+-- answered, neither refused nor an error, and not by what was asked for.
 abbrev pub takes : Answer → Bool
 takes (Answer.Refused n) = false
 takes (Answer.Error l e) = false
@@ -23,9 +24,41 @@ takes (Answer.Covered e) = true
 takes (Answer.Recorded e) = true
 takes (Answer.Annual a m) = true
 takes (Answer.Opened d) = true
-takes (Answer.Statement f c s d m) = true
-takes (Answer.Calls n) = true
-takes (Answer.Special c) = true
+takes (Answer.Statement f c s d m) = false
+takes (Answer.Calls n) = false
+takes (Answer.Special c) = false
+
+-- Whether an answer is a refusal or an error.
+abbrev pub refuses : Answer → Bool
+refuses (Answer.Refused n) = true
+refuses (Answer.Error l e) = true
+refuses Answer.Nothing = false
+refuses Answer.Done = false
+refuses (Answer.Called e a d) = false
+refuses (Answer.Covered e) = false
+refuses (Answer.Recorded e) = false
+refuses (Answer.Annual a m) = false
+refuses (Answer.Opened d) = false
+refuses (Answer.Statement f c s d m) = false
+refuses (Answer.Calls n) = false
+refuses (Answer.Special c) = false
+
+-- Whether a request is a call that may change the book: all but the questions, an empty line and an error.
+abbrev pub changes : Request → Bool
+changes Request.Nothing = false
+changes (Request.Fresh d) = true
+changes (Request.Admit p r) = true
+changes (Request.LodgeCash p q a) = true
+changes (Request.LodgeLetter p q a f l) = true
+changes (Request.Release p q a) = true
+changes (Request.Settle p m n) = true
+changes (Request.Annual p) = true
+changes (Request.Advance t b) = true
+changes (Request.Statement p) = false
+changes Request.Calls = false
+changes (Request.Special n) = false
+changes Request.Report = false
+changes (Request.Error e) = false
 
 -- Whether a request asks for a fresh book.
 abbrev pub isFresh : Request → Bool

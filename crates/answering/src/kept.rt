@@ -1,9 +1,9 @@
-// What a kept journal takes: the accepted calls, and `fresh` only as the first of them.
+// What a kept journal takes: the accepted calls but for the questions, and `fresh` only as the first of them.
 ghost use mathlib.Core.Path.{_≡_};
 ghost use Prim.Native.Nat.{min};
 ghost use Rattle.journal.specs.Grammar.{lengthList, total};
 ghost use Rattle.printing.specs.Placed.{Put};
-ghost use Rattle.answering.specs.Kept.{takes, isFresh, freshFirst, numbersIn, keptLine};
+ghost use Rattle.answering.specs.Kept.{takes, refuses, changes, isFresh, freshFirst, numbersIn, keptLine};
 use crate::guarantee::front;
 use crate::guarantee::smaller;
 use journal::Lengths;
@@ -14,7 +14,7 @@ use printing::end_of;
 use printing::put_call;
 use printing::put_text;
 
-// Whether a call with this answer is accepted, and so kept. What has no answer is no call of the book.
+// Whether a call with this answer is kept: it is accepted, and no question. What has no answer is no call of the book.
 pub fn is_kept(answer: Answer) -> bool
     ensures { λ r. ⌜ r ≡ takes answer ⌝ }
 {
@@ -26,11 +26,53 @@ pub fn is_kept(answer: Answer) -> bool
         Answer::Recorded(_) => true,
         Answer::Annual(_, _) => true,
         Answer::Opened(_) => true,
-        Answer::Statement(_, _, _, _, _) => true,
-        Answer::Calls(_) => true,
-        Answer::Special(_) => true,
+        Answer::Statement(_, _, _, _, _) => false,
+        Answer::Calls(_) => false,
+        Answer::Special(_) => false,
         Answer::Error(_, _) => false,
         Answer::Nothing => false,
+    }
+}
+
+// Whether an answer is a refusal or an error.
+pub fn is_refusal(answer: Answer) -> bool
+    ensures { λ r. ⌜ r ≡ refuses answer ⌝ }
+{
+    match answer {
+        Answer::Done => false,
+        Answer::Refused(_) => true,
+        Answer::Called(_, _, _) => false,
+        Answer::Covered(_) => false,
+        Answer::Recorded(_) => false,
+        Answer::Annual(_, _) => false,
+        Answer::Opened(_) => false,
+        Answer::Statement(_, _, _, _, _) => false,
+        Answer::Calls(_) => false,
+        Answer::Special(_) => false,
+        Answer::Error(_, _) => true,
+        Answer::Nothing => false,
+    }
+}
+
+// Whether a request is a call that may change the book.
+pub fn is_change(request: Request) -> bool
+    ensures { λ r. ⌜ r ≡ changes request ⌝ }
+{
+    match request {
+        Request::Nothing => false,
+        Request::Fresh(_) => true,
+        Request::Admit(_, _) => true,
+        Request::LodgeCash(_, _, _) => true,
+        Request::LodgeLetter(_, _, _, _, _) => true,
+        Request::Release(_, _, _) => true,
+        Request::Settle(_, _, _) => true,
+        Request::Annual(_) => true,
+        Request::Advance(_, _) => true,
+        Request::Statement(_) => false,
+        Request::Calls => false,
+        Request::Special(_) => false,
+        Request::Report => false,
+        Request::Error(_) => false,
     }
 }
 
@@ -101,11 +143,11 @@ fn number_count(request: Request, most: usize) -> usize
     }
 }
 
-// The line of a kept call: its numeric form and a newline, from the front of a slice.
-pub fn put_kept(out: &mut [u8], request: Request, numbers: &[i64]) -> usize
-    ensures { λ r. ⌜ Put (keptLine request (now (numbers .entry))) (now (out .entry)) 0 r (now (out .exit)) ⌝ }
+// The line of a kept call: its numeric form and a newline.
+pub fn put_kept(out: &mut [u8], at: usize, request: Request, numbers: &[i64]) -> usize
+    ensures { λ r. ⌜ Put (keptLine request (now (numbers .entry))) (now (out .entry)) at r (now (out .exit)) ⌝ }
 {
     let n = number_count(request, numbers.len());
-    let end = put_call(out, 0, request, front(numbers, n));
+    let end = put_call(out, at, request, front(numbers, n));
     put_text(out, end, b"\n")
 }

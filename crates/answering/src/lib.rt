@@ -7,6 +7,8 @@ mod kept; // kept.rt: what a kept journal takes
 mod requests; // requests.rt: the request that a line of an input is
 
 pub use calls::apply;
+pub use kept::is_change;
 pub use kept::is_kept;
+pub use kept::is_refusal;
 pub use kept::put_kept;
 pub use requests::request_of;

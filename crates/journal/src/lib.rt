@@ -18,7 +18,8 @@ use words::has_control;
 use words::place_of;
 use words::word_at;
 
-// What is wrong with a line. The last is said by a kept journal, in which `fresh` stands only as the first call.
+// What is wrong with a line. The last three are said by a kept journal: `fresh` stands only as its first call, a line without its newline may be
+// a part of one, and where it is only read no call changes it.
 pub enum Reason {
     ControlByte,
     NoCall,
@@ -31,6 +32,8 @@ pub enum Reason {
     NotCashOrLetter,
     TooLong,
     FreshLater,
+    NoNewline,
+    ReadOnly,
 }
 
 // How long each of the seven lists of `special` is.

@@ -195,6 +195,12 @@ module _ (why : Reason) (e g : List ℕ) (at q : ℕ) where
   pub fresh-later : why ≡ Reason.FreshLater → Put (text "fresh is not the first call") e at q g → Put (reasonText why) e at q g
   fresh-later k x = rw k x
 
+  pub no-newline : why ≡ Reason.NoNewline → Put (text "line without newline, not taken") e at q g → Put (reasonText why) e at q g
+  no-newline k x = rw k x
+
+  pub read-only : why ≡ Reason.ReadOnly → Put (text "only questions, the journal is read") e at q g → Put (reasonText why) e at q g
+  read-only k x = rw k x
+
 -- Answers, by their kind.
 
 module _ (answer : Answer) (e g : List ℕ) (at q : ℕ) where

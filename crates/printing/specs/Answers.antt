@@ -20,6 +20,8 @@ reasonText Reason.NotRole = text "not a role"
 reasonText Reason.NotCashOrLetter = text "neither cash nor letter"
 reasonText Reason.TooLong = text "line too long"
 reasonText Reason.FreshLater = text "fresh is not the first call"
+reasonText Reason.NoNewline = text "line without newline, not taken"
+reasonText Reason.ReadOnly = text "only questions, the journal is read"
 
 -- The words of an answer.
 unfoldable pub answerWords : Answer → List (List ℕ)

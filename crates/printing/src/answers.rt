@@ -29,6 +29,8 @@ pub fn put_reason(out: &mut [u8], at: usize, why: Reason) -> usize
         Reason::NotCashOrLetter => put_text(out, at, b"neither cash nor letter"),
         Reason::TooLong => put_text(out, at, b"line too long"),
         Reason::FreshLater => put_text(out, at, b"fresh is not the first call"),
+        Reason::NoNewline => put_text(out, at, b"line without newline, not taken"),
+        Reason::ReadOnly => put_text(out, at, b"only questions, the journal is read"),
     }
 }
 

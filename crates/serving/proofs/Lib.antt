@@ -1,1 +1,5 @@
-pub mod Newlines
+pub mod DeliveryLaws
+pub mod InputLaws
+pub mod PartLaws
+pub mod BufferLaws
+pub mod OptionLaws

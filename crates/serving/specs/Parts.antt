@@ -1,25 +1,24 @@
--- The lines of a part of an input, and where its taking begins.
+-- A part of an input, all complete lines of which are taken.
 -- Assumes nothing.
-use Prim.Native.Nat.{ℕ, suc, _+_, _≤_}
+use Prim.Native.Nat.{ℕ, _≤_}
 use mathlib.Core.Path.{_≡_}
-use mathlib.Core.Bool.{Bool, true, false, cond}
-use mathlib.Core.List.{List, [], _∷_}
-use lib.Dec.{eqb}
-use lib.ListN.{length, drop}
-use Rattle.serving.specs.declared.lines.Progress.{Progress}
+use mathlib.Core.Bool.{Bool, true, false}
+use mathlib.Core.List.{List, []}
+use lib.ListN.{length, take, drop}
+use Rattle.dialogue.specs.declared.Way.{Way}
+use Rattle.dialogue.specs.Split.{linesIn, restIn}
+use Rattle.dialogue.specs.Turns.{State, ended, afterAll}
 
--- "One call a line": how many bytes of a text stand before its first newline, or all of them.
-unfoldable pub untilNewline : List ℕ → ℕ
-untilNewline [] = 0
-untilNewline (b ∷ s) = cond (eqb b 10) 0 (suc (untilNewline s))
+-- The lines of the first `used` bytes of a part taken, which end with a newline; none only where no complete line is left or the lines have ended.
+pub record Step (way : Way) (room : ℕ) (s : State) (input : List ℕ) (used : ℕ) (t : State) : Type 0 where
+  pub within : used ≤ length input
+  pub whole : restIn (take used input) ≡ []
+  pub left : t ≡ afterAll way room s (linesIn (take used input))
+  pub none : used ≡ 0 → ended way (t .place) ≡ false → linesIn input ≡ []
 
--- The end r of the line that begins at a place of an input, the place of its newline or the input's end; where something failed no line is
--- taken, and the end is the input's.
-pub record EndIs (ok : Bool) (input : List ℕ) (from r : ℕ) : Type 0 where
-  pub end : r ≡ cond ok (from + untilNewline (drop from input)) (length input)
-  pub onward : from ≤ r
-  pub within : r ≤ length input
-
--- Before the first line of an input, where the journal holds so many calls.
-abbrev pub atStart : ℕ → Progress
-atStart kept = record { line = 0; kept = kept; bytes = 0; waiting = 0; long = false; ok = true }
+-- Where all is well, the state is that of all lines of the part, and unless they have ended before its end, what is left of it is the rest behind its
+-- last newline.
+pub record Drained (way : Way) (room : ℕ) (s : State) (input : List ℕ) (used : ℕ) (t : State) (ok : Bool) : Type 0 where
+  pub within : used ≤ length input
+  pub left : ok ≡ true → t ≡ afterAll way room s (linesIn input)
+  pub rest : ok ≡ true → ended way (t .place) ≡ false → drop used input ≡ restIn input

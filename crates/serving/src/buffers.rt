@@ -1,6 +1,6 @@
-// Places for lines, the numbers of a line, and answers.
+// Places for the numbers of a line, and the smaller of two lengths.
 ghost use mathlib.Core.Path.{_≡_};
-ghost use Prim.Native.Nat.{_≤_, min};
+ghost use Prim.Native.Nat.{min};
 ghost use lib.ListN.{length};
 
 // Room for the numbers of one line: a line of 65,535 bytes has at most half as many words.

@@ -1,35 +1,46 @@
 // An input, read in parts to its end.
+ghost use mathlib.Core.Path.{_≡_};
+ghost use mathlib.Core.Bool.{_&&_, not};
 ghost use Prim.Native.Nat.{_≤_, _<_};
 ghost use lib.ListN.{length};
 ghost use Rattle.layout.specs.WellFormed.{WellFormed};
-use crate::answers;
+ghost use Rattle.dialogue.specs.Turns.{ended};
+ghost use Rattle.dialogue.specs.Answers.{stateOf};
+ghost use Rattle.serving.specs.Input.{MovedDown, isLong, staying as Input·staying, BehindPart, PartTaken};
 use crate::buffers;
-use crate::lines::Mode;
-use crate::lines::Progress;
-use crate::lines::Taken;
-use crate::lines::take_lines;
-use crate::messages;
+use crate::delivery::Progress;
+use crate::parts::Taken;
+use crate::parts::drain;
+use crate::usage::put_end;
+use crate::ways;
+use dialogue::Way;
+use std::num::wrapping_add_u64;
+use storage::failed;
+use storage::read_part;
 
-// How far an input was taken, and whether a last line has no newline and was not taken.
-pub struct Ended {
-    pub progress: Progress,
-    pub rest: bool,
+// Whether more of an input is to be taken: all is well, and its lines have not ended before its end.
+fn goes_on(progress: Progress, way: Way) -> bool
+    ensures { λ r. ⌜ r ≡ (progress .journal .ok && not (ended way (progress .place))) ⌝ }
+{
+    let place = progress.place;
+    let journal = progress.journal;
+    journal.ok & !ways::has_ended(way, place)
 }
 
-// One read into a buffer behind what is filled. Where something failed, nothing is read, as at the end.
-fn read_more(ok: bool, file: i32, buffer: &mut [u8], filled: usize) -> isize
+// One read into a buffer behind what is filled; at the end of the lines nothing is read, as at the end of the input.
+fn read_more(goes_on: bool, file: i32, buffer: &mut [u8], filled: usize) -> isize
     requires { ⌜ filled ≤ length (now buffer) ⌝ }
 {
-    if !ok {
+    if !goes_on {
         return 0;
     }
-    libc::read(file, &mut buffer[filled..])
+    read_part(file, &mut buffer[filled..])
 }
 
 // Moves the bytes from a place up to another to the front of the buffer, and answers how many they are.
 fn move_down(buffer: &mut [u8], from: usize, to: usize) -> usize
     requires { ⌜ (from ≤ to) × (to ≤ length (now buffer)) ⌝ }
-    ensures { λ r. ⌜ r ≤ to ⌝ }
+    ensures { λ r. ⌜ MovedDown (now (buffer .entry)) from to r (now (buffer .exit)) ⌝ }
 {
     let n = to - from;
     let mut i = 0;
@@ -40,25 +51,35 @@ fn move_down(buffer: &mut [u8], from: usize, to: usize) -> usize
     n
 }
 
-// Says that a read failed.
-fn read_failed(mode: Mode, name: &[u8]) {
-    match mode {
-        Mode::Replay => messages::failed(name),
-        _ => messages::failed(b"standard input"),
+// The progress once something failed.
+fn failed_progress(progress: Progress) -> Progress {
+    let place = progress.place;
+    let mut journal = progress.journal;
+    journal.ok = false;
+    Progress {
+        place,
+        bytes: progress.bytes,
+        journal,
     }
 }
 
 // Where an input ends: a read that answered below 0 failed, which is said.
-fn at_end(mut progress: Progress, got: isize, mode: Mode, name: &[u8]) -> Progress {
+fn at_end(mut progress: Progress, got: isize, silent: bool, name: &[u8]) -> Progress {
     if got < 0 {
-        read_failed(mode, name);
-        progress.ok = false;
+        if silent {
+            failed(name);
+        } else {
+            failed(b"standard input");
+        }
+        return failed_progress(progress);
     }
     progress
 }
 
 // Whether the line that has begun is too long: it was before, or it fills the buffer.
-fn is_long(before: bool, filled: usize, room: usize) -> bool {
+fn is_long(before: bool, filled: usize, room: usize) -> bool
+    ensures { λ r. ⌜ r ≡ isLong before filled room ⌝ }
+{
     before | (filled == room)
 }
 
@@ -66,6 +87,7 @@ fn is_long(before: bool, filled: usize, room: usize) -> bool {
 fn staying(before: bool, filled: usize, room: usize) -> usize
     requires { ⌜ 0 < room ⌝ }
     ensures { λ r. ⌜ r < room ⌝ }
+    ensures { λ r. ⌜ r ≡ Input·staying before filled room ⌝ }
 {
     if before {
         return 0;
@@ -73,40 +95,103 @@ fn staying(before: bool, filled: usize, room: usize) -> usize
     if filled < room { filled } else { 0 }
 }
 
+// The progress behind a part of which so many bytes were complete lines, where the line that has begun has so many bytes in a buffer with room for so
+// many.
+fn behind_part(progress: Progress, used: usize, begun: usize, room: usize) -> Progress
+    ensures { λ r. ⌜ BehindPart progress used begun room r ⌝ }
+{
+    let place = progress.place;
+    let journal = progress.journal;
+    Progress {
+        place: ways::known(place, is_long(place.long, begun, room)),
+        bytes: wrapping_add_u64(progress.bytes, used as u64),
+        journal,
+    }
+}
+
+// Takes the complete lines of a part, which fills the buffer so far, and moves what is left of it to the front: so many bytes of the line that has
+// begun stay there.
+fn take_part(
+    book: &mut [u64],
+    progress: Progress,
+    way: Way,
+    silent: bool,
+    name: &[u8],
+    buffer: &mut [u8],
+    full: usize,
+    numbers: &mut [i64],
+    kept: &mut [u8],
+    out: &mut [u8],
+) -> Taken
+    requires { ⌜ WellFormed (now book) × (full ≤ length (now buffer)) × (0 < length (now buffer)) × (1024 ≤ length (now kept)) × (16384 ≤ length (now out)) ⌝ }
+    ensures { λ r. ⌜ WellFormed (now (book .exit)) × (r .used < length (now (buffer .entry))) ⌝ }
+    ensures { λ r. ⌜ PartTaken way (length (now (numbers .entry))) (stateOf (now (book .entry)) (progress .place)) (now (buffer .entry)) full
+        (stateOf (now (book .exit)) (r .progress .place)) (r .progress .journal .ok) (r .used) (now (buffer .exit)) ⌝ }
+{
+    let taken = drain(
+        book,
+        progress,
+        way,
+        silent,
+        name,
+        &buffer[..full],
+        numbers,
+        kept,
+        out,
+    );
+    let left = taken.progress;
+    let place = left.place;
+    let begun = move_down(buffer, taken.used, full);
+    Taken {
+        progress: behind_part(left, taken.used, begun, buffer.len()),
+        used: staying(place.long, begun, buffer.len()),
+    }
+}
+
 // Reads an input to its end, part by part, and takes the complete lines of each part before it waits for more. What is left of a last line
 // without newline stands at the front of the buffer: `used` bytes.
-fn take_parts(
+pub fn take_parts(
     book: &mut [u64],
     mut progress: Progress,
-    mode: Mode,
+    way: Way,
+    silent: bool,
     file: i32,
     name: &[u8],
     buffer: &mut [u8],
     numbers: &mut [i64],
+    kept: &mut [u8],
     out: &mut [u8],
 ) -> Taken
-    requires { ⌜ WellFormed (now book) × (0 < length (now buffer)) ⌝ }
+    requires { ⌜ WellFormed (now book) × (0 < length (now buffer)) × (1024 ≤ length (now kept)) × (16384 ≤ length (now out)) ⌝ }
     ensures { λ r. ⌜ WellFormed (now (book .exit)) × (r .used < length (now (buffer .entry))) ⌝ }
 {
     let mut filled = 0;
     let mut reads: u64 = 0;
     while reads < 18446744073709551615 {
         reads += 1;
-        let got = read_more(progress.ok, file, buffer, filled);
+        let got = read_more(goes_on(progress, way), file, buffer, filled);
         if got <= 0 {
-            progress = at_end(progress, got, mode, name);
+            progress = at_end(progress, got, silent, name);
             return Taken {
                 progress,
                 used: filled,
             };
         }
         let full = filled + io::count(got, &buffer[filled..]);
-        let taken = take_lines(book, progress, mode, name, &buffer[..full], numbers, out);
+        let taken = take_part(
+            book,
+            progress,
+            way,
+            silent,
+            name,
+            buffer,
+            full,
+            numbers,
+            kept,
+            out,
+        );
         progress = taken.progress;
-        let begun = move_down(buffer, taken.used, full);
-        filled = staying(progress.long, begun, buffer.len());
-        progress.long = is_long(progress.long, begun, buffer.len());
-        progress = answers::flush(progress, out);
+        filled = taken.used;
     }
     Taken {
         progress,
@@ -118,69 +203,73 @@ fn take_parts(
 fn take_last(
     book: &mut [u64],
     taken: Taken,
-    mode: Mode,
+    way: Way,
     name: &[u8],
     buffer: &mut [u8],
     numbers: &mut [i64],
+    kept: &mut [u8],
     out: &mut [u8],
 ) -> Progress
-    requires { ⌜ WellFormed (now book) × (taken .used < length (now buffer)) ⌝ }
+    requires { ⌜ WellFormed (now book) × (taken .used < length (now buffer)) × (1024 ≤ length (now kept)) × (16384 ≤ length (now out)) ⌝ }
     ensures { λ r. ⌜ WellFormed (now (book .exit)) ⌝ }
 {
     let progress = taken.progress;
+    let place = progress.place;
     let end = taken.used;
+    if !(place.long | (0 < end)) {
+        return progress;
+    }
     buffer[end] = b'\n';
     let whole = end + 1;
-    let last = take_lines(book, progress, mode, name, &buffer[..whole], numbers, out);
-    let progress = last.progress;
-    answers::flush(progress, out)
-}
-
-// Replays a journal's file to its end.
-pub fn replay_input(book: &mut [u64], progress: Progress, file: i32, name: &[u8]) -> Ended
-    requires { ⌜ WellFormed (now book) ⌝ }
-    ensures { λ r. ⌜ WellFormed (now (book .exit)) ⌝ }
-{
-    let mut buffer = io::large_buffer();
-    let mut numbers = buffers::numbers();
-    let mut out = io::large_buffer();
-    let taken = take_parts(
+    let last = drain(
         book,
         progress,
-        Mode::Replay,
-        file,
+        ways::last(way),
+        false,
         name,
-        &mut buffer,
-        &mut numbers,
-        &mut out,
+        &buffer[..whole],
+        numbers,
+        kept,
+        out,
     );
-    let progress = taken.progress;
-    Ended {
-        progress,
-        rest: progress.long | (0 < taken.used),
-    }
+    last.progress
 }
 
-// Answers standard input to its end.
-pub fn answer_input(book: &mut [u64], progress: Progress, mode: Mode, name: &[u8])
+// Answers standard input to its end, and says so at last where that is asked for and all was answered.
+pub fn answer_input(book: &mut [u64], progress: Progress, way: Way, says_end: bool, name: &[u8])
     requires { ⌜ WellFormed (now book) ⌝ }
     ensures { λ r. ⌜ WellFormed (now (book .exit)) ⌝ }
 {
     let mut buffer = io::large_buffer();
     let mut numbers = buffers::numbers();
+    let mut kept = io::large_buffer();
     let mut out = io::large_buffer();
     let taken = take_parts(
         book,
         progress,
-        mode,
+        way,
+        false,
         libc::STDIN_FILENO,
         name,
         &mut buffer,
         &mut numbers,
+        &mut kept,
         &mut out,
     );
-    let reached = taken.progress;
-    if reached.ok & (reached.long | (0 < taken.used)) {
-        take_last(book, taken, mode, name, &mut buffer, &mut numbers, &mut out);
+    if !goes_on(taken.progress, way) {
+        return;
+    }
+    let last = take_last(
+        book,
+        taken,
+        way,
+        name,
+        &mut buffer,
+        &mut numbers,
+        &mut kept,
+        &mut out,
+    );
+    if says_end & goes_on(last, way) {
+        put_end(last.place);
     }
 }

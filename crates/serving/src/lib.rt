@@ -1,60 +1,136 @@
-// The two ways to run the ledger: as a filter from standard input to standard output, and with a journal that is kept in a file.
+// The ways to run the ledger: as a filter from standard input to standard output, with a journal that is kept in a file, and reading one. The lines
+// themselves are taken by `dialogue`, and the files and streams are those of `storage`: here the one's bytes become the other's.
 ghost use Rattle.layout.specs.WellFormed.{WellFormed};
 use calendar::Day;
 
-mod answers; // answers.rt: answers on standard output
-mod buffers; // buffers.rt: places for lines, numbers and answers
+mod buffers; // buffers.rt: places for lines, numbers, answers and the journal's bytes
+mod delivery; // delivery.rt: what becomes of the bytes of lines
 mod input; // input.rt: an input, read in parts
-mod journal_file; // journal_file.rt: the file of a kept journal
-mod lines; // lines.rt: the complete lines of a part
-mod messages; // messages.rt: messages on standard error
+mod options; // options.rt: the arguments
+mod parts; // parts.rt: all complete lines of a part of an input
+mod replay; // replay.rt: the replay of a journal
+mod usage; // usage.rt: what is printed of the program itself
+mod ways; // ways.rt: the ways to take the lines of an input
 
+use delivery::Progress;
 use input::answer_input;
-use input::replay_input;
-use lines::Mode;
-use lines::started;
+use options::Options;
+use storage::Journal;
 
 // Answers standard input to its end, with no file.
-fn filter(book: &mut [u64])
+fn filter(book: &mut [u64], options: Options)
     requires { ⌜ WellFormed (now book) ⌝ }
     ensures { λ r. ⌜ WellFormed (now (book .exit)) ⌝ }
 {
-    answer_input(book, started(), Mode::Filter, b"");
+    let progress = Progress {
+        place: ways::at_start(0),
+        bytes: 0,
+        journal: delivery::no_journal(),
+    };
+    answer_input(
+        book,
+        progress,
+        ways::filtering(options.bail),
+        options.end,
+        b"",
+    );
 }
 
-// Replays the journal with this name, and then answers standard input to its end, keeping each accepted call.
-fn keep(book: &mut [u64], name: &[u8])
+// Answers standard input to its end behind a replay, and keeps the changes, or reads only.
+fn answer_behind(book: &mut [u64], kept: u64, journal: Journal, options: Options, name: &[u8])
     requires { ⌜ WellFormed (now book) ⌝ }
     ensures { λ r. ⌜ WellFormed (now (book .exit)) ⌝ }
 {
-    let source = journal_file::open(name);
-    if source < 0 {
-        return;
-    }
-    let replayed = replay_input(book, started(), source, name);
-    let progress = replayed.progress;
-    if !progress.ok {
-        return;
-    }
-    let kept = journal_file::continued(name, source, progress.bytes, replayed.rest);
-    if kept < 0 {
-        return;
-    }
-    answer_input(book, lines::after_replay(progress), Mode::Keep(kept), name);
+    let progress = Progress {
+        place: ways::at_start(kept),
+        bytes: 0,
+        journal,
+    };
+    let way = ways::behind_replay(options.read, options.bail, options.batch);
+    answer_input(book, progress, way, options.end, name);
 }
 
-// The ledger: a filter, or with a name the keeper of that journal. The one book of the program is here, the fresh book of day 0 until a
-// `fresh` line.
+// Replays the journal with this name, and then answers standard input to its end, keeping each accepted change.
+fn keep(book: &mut [u64], options: Options, name: &[u8])
+    requires { ⌜ WellFormed (now book) ⌝ }
+    ensures { λ r. ⌜ WellFormed (now (book .exit)) ⌝ }
+{
+    let opened = storage::open_kept(name);
+    if opened.file < 0 {
+        return;
+    }
+    let replayed = replay::replay(book, opened.file, name, true);
+    if !replayed.ok {
+        storage::close_kept(name, opened);
+        return;
+    }
+    let journal = storage::continue_kept(name, opened, replayed.bytes);
+    if !journal.ok {
+        storage::close_kept(name, journal);
+        return;
+    }
+    answer_behind(book, replayed.kept, journal, options, name);
+    storage::close_kept(name, journal);
+}
+
+// Replays the journal with this name, and then answers the questions of standard input to its end.
+fn read(book: &mut [u64], options: Options, name: &[u8])
+    requires { ⌜ WellFormed (now book) ⌝ }
+    ensures { λ r. ⌜ WellFormed (now (book .exit)) ⌝ }
+{
+    let file = storage::open_read(name);
+    if file < 0 {
+        return;
+    }
+    let replayed = replay::replay(book, file, name, false);
+    libc::close(file);
+    if !replayed.ok {
+        return;
+    }
+    answer_behind(book, replayed.kept, delivery::no_journal(), options, name);
+}
+
+// The ledger with a journal: the standard streams must be open, or the journal's file would take the place of one.
+fn with_journal(book: &mut [u64], options: Options)
+    requires { ⌜ WellFormed (now book) ⌝ }
+    ensures { λ r. ⌜ WellFormed (now (book .exit)) ⌝ }
+{
+    if !storage::are_streams_open() {
+        return;
+    }
+    let mut buffer = io::buffer();
+    let n = os::arg(options.name, &mut buffer);
+    if os::errno() != 0 {
+        storage::failed(b"the journal's name");
+        return;
+    }
+    if options.read {
+        read(book, options, &buffer[..n]);
+        return;
+    }
+    keep(book, options, &buffer[..n]);
+}
+
+// The ledger. The one book of the program is here, the fresh book of day 0 until a `fresh` line.
 pub fn run() {
+    let options = options::asked_for();
+    if options.wrong | (options.read & (options.name == 0)) {
+        usage::put_usage(libc::STDERR_FILENO);
+        return;
+    }
+    if options.help {
+        usage::put_usage(libc::STDOUT_FILENO);
+        return;
+    }
+    if options.version {
+        usage::put_version();
+        return;
+    }
     let mut book = [0u64; 6147];
     book::fresh(&mut book, Day(0));
-    let mut buffer = io::buffer();
-    match os::arg_count() {
-        0 | 1 => filter(&mut book),
-        2 => {
-            let n = os::arg(1, &mut buffer);
-            keep(&mut book, &buffer[..n]);
-        }
-        _ => messages::usage(),
+    if options.name == 0 {
+        filter(&mut book, options);
+        return;
     }
+    with_journal(&mut book, options);
 }

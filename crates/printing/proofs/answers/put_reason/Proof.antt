@@ -1,6 +1,6 @@
 -- `printing::answers::put_reason` meets its contract: the reason decides.
 -- Assumes nothing.
-use Rattle.printing.proofs.LineLaws.{control-byte, no-call, too-few, too-many, no-number, no-day, no-month, no-role, no-cash-or-letter, too-long, fresh-later}
+use Rattle.printing.proofs.LineLaws.{control-byte, no-call, too-few, too-many, no-number, no-day, no-month, no-role, no-cash-or-letter, too-long, fresh-later, no-newline, read-only}
 use borrow.Author.Needs.{needs}
 use Rattle.printing.proofs.answers.put_reason.Statement.{statement}
 use Rattle.printing.proofs.answers.put_reason.Tie as tie
@@ -98,11 +98,29 @@ put-text-requires-10 c κs = search needs
 enum-told-11 : tie.Need-enum-told-11
 enum-told-11 c = search needs
 
+enum-told-12 : tie.Need-enum-told-12
+enum-told-12 c = search needs
+
+enum-told-13 : tie.Need-enum-told-13
+enum-told-13 c = search needs
+
 slice-aggregate-put-text-11 : tie.Need-slice-aggregate-put-text-11
 slice-aggregate-put-text-11 c = search needs
 
+slice-aggregate-put-text-12 : tie.Need-slice-aggregate-put-text-12
+slice-aggregate-put-text-12 c = search needs
+
+slice-aggregate-put-text-13 : tie.Need-slice-aggregate-put-text-13
+slice-aggregate-put-text-13 c = search needs
+
 put-text-requires-11 : tie.Need-put-text-requires-11
 put-text-requires-11 c κs = search needs
+
+put-text-requires-12 : tie.Need-put-text-requires-12
+put-text-requires-12 c κs = search needs
+
+put-text-requires-13 : tie.Need-put-text-requires-13
+put-text-requires-13 c κs = search needs
 
 same-length : tie.Need-same-length
 same-length c = search needs
@@ -167,8 +185,20 @@ returns-10 c = search (too-long, needs)
 same-length-11 : tie.Need-same-length-11
 same-length-11 c = search needs
 
+same-length-12 : tie.Need-same-length-12
+same-length-12 c = search needs
+
+same-length-13 : tie.Need-same-length-13
+same-length-13 c = search needs
+
 returns-11 : tie.Need-returns-11
 returns-11 c = search (fresh-later, needs)
+
+returns-12 : tie.Need-returns-12
+returns-12 c = search (no-newline, needs)
+
+returns-13 : tie.Need-returns-13
+returns-13 c = search (read-only, needs)
 
 pub put-reason-spec : {M : Type 1} → statement M
 put-reason-spec =
@@ -207,6 +237,12 @@ put-reason-spec =
     enum-told-11
     slice-aggregate-put-text-11
     put-text-requires-11
+    enum-told-12
+    slice-aggregate-put-text-12
+    put-text-requires-12
+    enum-told-13
+    slice-aggregate-put-text-13
+    put-text-requires-13
     same-length
     returns
     same-length-2
@@ -228,4 +264,8 @@ put-reason-spec =
     same-length-10
     returns-10
     same-length-11
-    returns-11)
+    returns-11
+    same-length-12
+    returns-12
+    same-length-13
+    returns-13)

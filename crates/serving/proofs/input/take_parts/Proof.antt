@@ -1,5 +1,4 @@
--- `serving::input::take_parts` meets its contract: what is filled stays below the buffer's length, and the lines of each part leave a book that is
--- well-formed. The measure is how many reads may still be made.
+-- `serving::input::take_parts` meets its contract: what is filled stays below the length of the buffer. The measure is how many reads may still be made.
 -- Assumes nothing.
 use Prim.Native.Nat.{_≤_, _<_, _-_}
 use mathlib.Core.Path.{_≡_}
@@ -11,14 +10,12 @@ use Rattle.serving.proofs.input.take_parts.Statement.{statement}
 use Rattle.serving.proofs.input.take_parts.Tie as tie
 
 abbrev Inv-loop : tie.InvT-loop
-Inv-loop book₀ progress₀ mode file name buffer₀ numbers₀ out₀ filled₀ reads₀ book progress buffer numbers out filled reads =
+Inv-loop book₀ progress₀ way silent file name buffer₀ numbers₀ kept₀ out₀ filled₀ reads₀ book progress buffer numbers kept out filled reads =
     (reads ≤ 18446744073709551615) × (filled < length buffer) × (length book ≡ length book₀) × (length buffer ≡ length buffer₀)
-    × (length numbers ≡ length numbers₀)
-    × (length out ≡ length out₀)
-    × WellFormed book
+    × (length numbers ≡ length numbers₀) × (length kept ≡ length kept₀) × (length out ≡ length out₀) × WellFormed book
 
 abbrev μ-loop : tie.MeasureT-loop
-μ-loop book₀ progress₀ mode file name buffer₀ numbers₀ out₀ filled₀ reads₀ book progress buffer numbers out filled reads =
+μ-loop book₀ progress₀ way silent file name buffer₀ numbers₀ kept₀ out₀ filled₀ reads₀ book progress buffer numbers kept out filled reads =
     18446744073709551615 - reads
 
 loop-holds : tie.Need-loop-holds Inv-loop μ-loop
@@ -26,6 +23,9 @@ loop-holds c = search needs
 
 add-reads : tie.Need-add-reads Inv-loop μ-loop
 add-reads c = search needs
+
+goes-on-requires : tie.Need-goes-on-requires Inv-loop μ-loop
+goes-on-requires c κs = search needs
 
 read-more-requires : tie.Need-read-more-requires Inv-loop μ-loop
 read-more-requires c κs = search needs
@@ -45,8 +45,13 @@ same-length-3 c = search needs
 same-length-4 : tie.Need-same-length-4 Inv-loop μ-loop
 same-length-4 c = search needs
 
+same-length-5 : tie.Need-same-length-5 Inv-loop μ-loop
+same-length-5 c = search needs
+
 returns : tie.Need-returns Inv-loop μ-loop
-returns c = (c .before .before .before .before .before .before .before .loop .inv .6, search needs)
+returns c =
+    let inv = c .before .before .before .before .before .before .before .before .loop .inv in
+    (inv .7, omega (arith, inv))
 
 sub-count : tie.Need-sub-count Inv-loop μ-loop
 sub-count c = search needs
@@ -63,61 +68,29 @@ count-requires c κs = search needs
 add-full : tie.Need-add-full Inv-loop μ-loop
 add-full c = search needs
 
-slice-reshare-prefix-take-lines : tie.Need-slice-reshare-prefix-take-lines Inv-loop μ-loop
-slice-reshare-prefix-take-lines c = search needs
-
-slice-aggregate-take-lines : tie.Need-slice-aggregate-take-lines Inv-loop μ-loop
-slice-aggregate-take-lines c = simp length-take (omega arith)
-
-take-lines-requires : tie.Need-take-lines-requires Inv-loop μ-loop
-take-lines-requires c κs = search needs
-
-move-down-requires : tie.Need-move-down-requires Inv-loop μ-loop
-move-down-requires c κs =
-    let taken = c .before .before .before .before .before .before .before in
-    let counted = taken .before .before .before .before .before in
-    let got = counted .before .before .before .before .before .before in
-    let turn = got .before .before .before in (
-      omega (arith, simp length-take at (taken .take-lines .ensures .1)),
-      omega (arith, counted .count .ensures .0, got .read-more .kept, turn .loop .inv),
-    )
-
-staying-requires : tie.Need-staying-requires Inv-loop μ-loop
-staying-requires c κs =
-    let moved = c .before .before in
-    let taken = moved .before .before .before .before .before .before .before .before in
-    let got = taken .before .before .before .before .before .before .before .before .before .before .before in
-    omega (arith, moved .move-down .kept, got .read-more .kept, got .before .before .before .loop .inv)
-
-is-long-requires : tie.Need-is-long-requires Inv-loop μ-loop
-is-long-requires c κs = search needs
-
-flush-requires : tie.Need-flush-requires Inv-loop μ-loop
-flush-requires c κs = search needs
+take-part-requires : tie.Need-take-part-requires Inv-loop μ-loop
+take-part-requires c κs = search needs
 
 loop-less : tie.Need-loop-less Inv-loop μ-loop
 loop-less c =
-    let taken = c .before .before .before .before .before .before .before .before .before .before .before .before .before .before in
-    let turn = taken .before .before .before .before .before .before .before .before .before .before .before .before .before in
-    omega (arith, turn .loop-test, turn .before .loop .inv)
+    let test = c .before .before .before .before .before .before .before .before .before .before .before .before .before .before .before .before .before .before .before .before .before .before .before .before .before in
+    omega (arith, test .loop-test, test .before .loop .inv)
 
 loop-again : tie.Need-loop-again Inv-loop μ-loop
 loop-again c =
-    let moved = c .before .before .before .before .before .before in
-    let taken = moved .before .before .before .before .before .before .before .before in
-    let got = taken .before .before .before .before .before .before .before .before .before .before .before in
-    let turn = got .before .before .before in (
-      omega (arith, got .before .before .loop-test),
-      omega (arith, c .before .before .before .staying .ensures),
-      omega (arith, taken .take-lines .kept, turn .loop .inv),
-      omega (arith, moved .move-down .kept, got .read-more .kept, turn .loop .inv),
-      omega (arith, taken .take-lines .kept, turn .loop .inv),
-      omega (arith, taken .take-lines .kept, turn .loop .inv),
-      taken .take-lines .ensures .0,
+    let taken = c .before .before .before .before .before .before .before .before .before .before .take-part in
+    let got = c .before .before .before .before .before .before .before .before .before .before .before .before .before .before .before .before .before .before .before .before .before .before .read-more in
+    let test = c .before .before .before .before .before .before .before .before .before .before .before .before .before .before .before .before .before .before .before .before .before .before .before .before .before in
+    let inv = test .before .loop .inv in (
+      omega (arith, test .loop-test),
+      omega (arith, taken .ensures .0 .1, taken .kept),
+      omega (arith, taken .kept, inv),
+      omega (arith, taken .kept, got .kept, inv),
+      omega (arith, taken .kept, inv),
+      omega (arith, taken .kept, inv),
+      omega (arith, taken .kept, inv),
+      taken .ensures .0 .0,
     )
-
-same-length-5 : tie.Need-same-length-5 Inv-loop μ-loop
-same-length-5 c = search needs
 
 same-length-6 : tie.Need-same-length-6 Inv-loop μ-loop
 same-length-6 c = search needs
@@ -127,6 +100,12 @@ same-length-7 c = search needs
 
 same-length-8 : tie.Need-same-length-8 Inv-loop μ-loop
 same-length-8 c = search needs
+
+same-length-9 : tie.Need-same-length-9 Inv-loop μ-loop
+same-length-9 c = search needs
+
+same-length-10 : tie.Need-same-length-10 Inv-loop μ-loop
+same-length-10 c = search needs
 
 returns-2 : tie.Need-returns-2 Inv-loop μ-loop
 returns-2 c = search needs
@@ -139,29 +118,26 @@ take-parts-spec =
     μ-loop
     loop-holds
     add-reads
+    goes-on-requires
     read-more-requires
     at-end-requires
     same-length
     same-length-2
     same-length-3
     same-length-4
+    same-length-5
     returns
     sub-count
     part-count-start
     part-count-end
     count-requires
     add-full
-    slice-reshare-prefix-take-lines
-    slice-aggregate-take-lines
-    take-lines-requires
-    move-down-requires
-    staying-requires
-    is-long-requires
-    flush-requires
+    take-part-requires
     loop-less
     loop-again
-    same-length-5
     same-length-6
     same-length-7
     same-length-8
+    same-length-9
+    same-length-10
     returns-2)

@@ -1,0 +1,162 @@
+-- The most bytes of a kept line: it has at most 16 numbers.
+-- Assumes nothing.
+use Prim.Native.Nat.{ℕ, zero, suc, _+_, _*_, _-_, _≤_, _<_, min}
+use mathlib.Core.Path.{_≡_, refl, sym, ap, subst, _∙_}
+use mathlib.Core.Bool.{Bool, true, false, cond, not, _||_}
+use mathlib.Core.List.{List, [], _∷_, _++_, map}
+use native.Mathlib.Omega.{arith}
+use borrow.Author.Tests.{ltb-false, eqb-true}
+use lib.Dec.{ltb, eqb}
+use lib.IntN.{ℤ, pos, negsuc}
+use lib.Signed.{mag}
+use lib.ListN.{length, take, drop, length-append, length-take, length-drop, length-map}
+use Rattle.laws.specs.Cases.{split, clash, cond-true, cond-false, or-first, or-second}
+use Rattle.laws.specs.Lists.{All}
+use Rattle.manual.specs.Figures.{wrongCount}
+use Rattle.special.specs.declared.Special.{Special}
+use Rattle.special.specs.declared.Special.the-variants as Specials
+use Rattle.file.specs.Answer as Said
+use Rattle.file.specs.Answer.{decide, accepted}
+use Rattle.file.specs.DecideLaws.{none-holds}
+use Rattle.file.specs.Settle.{settleAnswer}
+use Rattle.layout.specs.Book.{Book}
+use Rattle.book.specs.Account.{answer, fileAt, fileAnswer, ifNumbered, ifAdmitted}
+use Rattle.book.specs.Call.{Call, on, settle}
+use Rattle.journal.specs.Grammar.{areMarks, lengthList, total}
+use Rattle.journal.specs.declared.Lengths.{Lengths}
+use Rattle.journal.specs.declared.Request.{Request}
+use Rattle.journal.proofs.Counts.{countOf}
+use Rattle.printing.specs.Decimals.{decimal, integer, spaced, joined}
+use Rattle.printing.specs.PlacedLaws.{spaced-append}
+use Rattle.printing.specs.Lines.{cut, listWords, callWords, printed, Natural64, Holds, Hold, Fitting}
+use Rattle.answering.specs.Asked.{Asked, asked, answerTo, markOf, guaranteeOf, semestersOf}
+use Rattle.answering.specs.Kept.{takes}
+use Rattle.answering.specs.Shown.{shown, guaranteeShown}
+use Rattle.dialogue.specs.Said.{Small}
+use Rattle.dialogue.proofs.Lengths.{number-short, integer-short}
+
+-- ---- the words of a call
+
+holds-small : (m : Bool) (z : ℤ) → Holds m z → Small (mag z)
+holds-small false z h = omega arith
+holds-small true (pos n) h = omega arith
+holds-small true (negsuc n) h = absurd h
+
+figures-short : (m : Bool) (zs : List ℤ) → All (Holds m) zs → length (spaced (map integer zs)) ≤ 22 * length zs
+unfolding spaced
+figures-short m [] h = omega arith
+figures-short m (z ∷ zs) h =
+    omega (arith, length-append (32 ∷ integer z) (spaced (map integer zs)), integer-short z (holds-small m z (h .0)), figures-short m zs (h .1))
+
+spaced-more : (w : List ℕ) (ws : List (List ℕ)) → spaced (w ∷ ws) ≡ (32 ∷ w) ++ spaced ws
+unfolding spaced
+spaced-more w ws = refl
+
+spaced-none : spaced [] ≡ []
+unfolding spaced
+spaced-none = refl
+
+lists-short : (ms : List Bool) (ks : List ℕ) (zs : List ℤ) → Hold ms (cut ks zs) → length zs ≤ 18446744073709551615
+    → length (spaced (listWords (cut ks zs))) ≤ 21 * length ks + 22 * length zs
+unfolding cut listWords
+lists-short ms [] zs h n = none
+  where
+    none : length (spaced []) ≤ 21 * 0 + 22 * length zs
+    none = rw spaced-none (omega arith)
+lists-short [] (k ∷ ks) zs h n = absurd h
+lists-short (m ∷ ms) (k ∷ ks) zs h n =
+    let a = take k zs in
+    let rest = listWords (cut ks (drop k zs)) in
+    let e : spaced (decimal (length a) ∷ (map integer a ++ rest)) ≡ (32 ∷ decimal (length a)) ++ (spaced (map integer a) ++ spaced rest) =
+    spaced-more (decimal (length a)) (map integer a ++ rest) ∙ ap (λ (t : List ℕ). (32 ∷ decimal (length a)) ++ t) (spaced-append (map integer a) rest) in
+    rw e
+    (omega (
+      arith,
+      length-append (32 ∷ decimal (length a)) (spaced (map integer a) ++ spaced rest),
+      length-append (spaced (map integer a)) (spaced rest),
+      length-take k zs,
+      length-drop k zs,
+      number-short (length a) (omega (arith, length-take k zs)),
+      figures-short m a (h .0),
+      lists-short ms ks (drop k zs) (h .1) (omega (arith, length-drop k zs)),
+    ))
+
+natural : (n : ℕ) → Natural64 n → length (decimal n) ≤ 20
+natural n h = number-short n (omega arith)
+
+-- A call whose numbers fit their types, as a line.
+pub printed-short : (r : Request) (zs : List ℤ) → Fitting r zs → length (printed r zs) ≤ 200 + 22 * length zs
+unfolding printed callWords joined spaced
+printed-short Request.Nothing zs f = omega arith
+printed-short (Request.Fresh d) zs f = simp length-append (omega (arith, natural (d .0) (omega (arith, f .0))))
+printed-short (Request.Admit p r) zs f = simp length-append (omega (arith, natural p (f .0), natural r (f .1)))
+printed-short (Request.LodgeCash p q a) zs f = simp length-append (omega (arith, natural p (f .0), natural q (f .1), natural a (f .2)))
+printed-short (Request.LodgeLetter p q a b l) zs f =
+    simp length-append
+    (omega (arith, natural p (f .0), natural q (f .1), natural a (f .2), natural (b .0) (omega (arith, f .3)), natural (l .0) (omega (arith, f .4))))
+printed-short (Request.Release p q a) zs f = simp length-append (omega (arith, natural p (f .0), natural q (f .1), natural a (f .2)))
+printed-short (Request.Settle p m n) zs f =
+    simp length-append (omega (arith, natural p (f .0), natural (m .0) (omega (arith, f .1)), figures-short false zs (f .3)))
+printed-short (Request.Annual p) zs f = simp length-append (omega (arith, natural p (f .0)))
+printed-short (Request.Advance t b) zs f = simp length-append (omega (arith, natural (t .0) (omega (arith, f .0)), natural b (f .1)))
+printed-short (Request.Statement p) zs f = simp length-append (omega (arith, natural p (f .0)))
+printed-short Request.Calls zs f = omega arith
+printed-short (Request.Special n) zs f = simp length-append (omega (arith, lists-short areMarks (lengthList n) zs (f .2) (f .0)))
+printed-short Request.Report zs f = omega arith
+printed-short (Request.Error e) zs f = absurd f
+
+-- ---- an accepted call's numbers
+
+-- An accepted answer is that behind the causes.
+behind-causes : (causes : List Said.Cause) (x : Said.Answer) → accepted (decide causes x) ≡ true → accepted x ≡ true
+unfolding decide
+behind-causes [] x e = e
+behind-causes (c ∷ causes) x e =
+    split (c .holds) (λ h. clash {t = false} (sym (ap accepted (cond-true _ (Said.refused (c .number)) (decide causes x) h)) ∙ e) refl)
+    (λ h. behind-causes causes x (sym (ap accepted (cond-false _ (Said.refused (c .number)) (decide causes x) h)) ∙ e))
+
+settle-few : (b : Book) (p m : ℕ) (figures : List ℤ) → accepted (answer b (on p (settle m figures))) ≡ true → length figures ≤ 16
+unfolding answer ifNumbered fileAnswer ifAdmitted settleAnswer wrongCount
+settle-few b p m figures e =
+    let f = fileAt b p in
+    let t = b .today .0 in
+    let x = behind-causes _ (fileAnswer f t (settle m figures)) e in
+    let y = behind-causes _ (settleAnswer f t m figures) x in
+    let h = none-holds _ _ y in
+    omega (arith, ltb-false 16 (length figures) (or-second (ltb (length figures) 5) (ltb 16 (length figures)) (h .1 .0)))
+
+-- The answer of a special guarantee is not kept.
+special-untaken : (x : Special) → takes (guaranteeShown x) ≡ false
+special-untaken (Specials.Guarantee c) = refl
+special-untaken (Specials.Refused n) = refl
+
+-- A call that is kept is accepted.
+taken-accepted : (x : Said.Answer) → takes (shown x) ≡ true → accepted x ≡ true
+taken-accepted (Said.refused n) h = h
+taken-accepted Said.done h = refl
+taken-accepted (Said.called e asked last) h = refl
+taken-accepted (Said.covered e) h = refl
+taken-accepted (Said.recorded e) h = refl
+taken-accepted (Said.annual a n) h = refl
+taken-accepted (Said.opened n) h = refl
+taken-accepted (Said.stated f c s d a) h = refl
+taken-accepted (Said.counted n) h = refl
+
+-- A kept call has at most 16 numbers: those of a settlement.
+pub few : (b : Book) (k : ℕ) (r : Request) (zs : List ℤ) → countOf r ≡ length zs → takes (answerTo b k (asked r zs)) ≡ true → length zs ≤ 16
+few b k Request.Nothing zs e h = omega arith
+few b k (Request.Fresh d) zs e h = omega arith
+few b k (Request.Admit p r) zs e h = omega arith
+few b k (Request.LodgeCash p q a) zs e h = omega arith
+few b k (Request.LodgeLetter p q a f l) zs e h = omega arith
+few b k (Request.Release p q a) zs e h = omega arith
+few b k (Request.Settle p m n) zs e h =
+    let x : accepted (answer b (on p (settle (m .0) (take n zs)))) ≡ true = taken-accepted (answer b (on p (settle (m .0) (take n zs)))) h in
+    omega (arith, settle-few b p (m .0) (take n zs) x, length-take n zs)
+few b k (Request.Annual p) zs e h = omega arith
+few b k (Request.Advance t n) zs e h = omega arith
+few b k (Request.Statement p) zs e h = omega arith
+few b k Request.Calls zs e h = omega arith
+few b k (Request.Special n) zs e h = clash {t = false} (sym (special-untaken (guaranteeOf n zs)) ∙ h) refl
+few b k Request.Report zs e h = omega arith
+few b k (Request.Error w) zs e h = omega arith

@@ -1,0 +1,111 @@
+-- The lines of a whole input, cut anywhere: the state, the answers, the journal and what was asked are those of the parts.
+-- Assumes nothing.
+use Prim.Native.Nat.{ℕ}
+use mathlib.Core.Path.{_≡_, refl, sym, ap, _∙_}
+use mathlib.Core.Bool.{true, false}
+use mathlib.Core.List.{List, [], _∷_, _++_, append-assoc}
+use Rattle.laws.specs.Cases.{split}
+use Rattle.answering.specs.Asked.{Asked}
+use Rattle.dialogue.specs.declared.Way.{Way}
+use Rattle.dialogue.specs.Split.{linesIn, restIn}
+use Rattle.dialogue.specs.Asks.{asks}
+use Rattle.dialogue.specs.Turns.{State, after, bytesOf, journalOf, ended}
+use Rattle.dialogue.specs.Whole.{placeBefore, stateBefore, streamAfter, streamBytes, streamJournal, streamAsks}
+use Rattle.dialogue.specs.Dialogue.{Cut}
+use Rattle.dialogue.proofs.SplitLaws.{lines-cut, rest-cut}
+
+module _ (most : ℕ) (way : Way) (room : ℕ) where
+  -- ---- behind an end nothing more is taken
+
+  pub ended-state : (s : State) (ls : List (List ℕ)) → ended way (s .place) ≡ true → streamAfter most way room s ls ≡ s
+  unfolding streamAfter
+  ended-state s [] e = refl
+  ended-state s (l ∷ ls) e = rw e refl
+
+  pub ended-answers : (s : State) (ls : List (List ℕ)) → ended way (s .place) ≡ true → streamBytes most way room s ls ≡ []
+  unfolding streamBytes
+  ended-answers s [] e = refl
+  ended-answers s (l ∷ ls) e = rw e refl
+
+  pub ended-kept : (s : State) (ls : List (List ℕ)) → ended way (s .place) ≡ true → streamJournal most way room s ls ≡ []
+  unfolding streamJournal
+  ended-kept s [] e = refl
+  ended-kept s (l ∷ ls) e = rw e refl
+
+  pub ended-asks : (s : State) (seen : List Asked) (ls : List (List ℕ)) → ended way (s .place) ≡ true → streamAsks most way room s seen ls ≡ seen
+  unfolding streamAsks
+  ended-asks s seen [] e = refl
+  ended-asks s seen (l ∷ ls) e = rw e refl
+
+  -- ---- before it, one line and then the others
+
+  pub on-state : (s : State) (l : List ℕ) (ls : List (List ℕ)) → ended way (s .place) ≡ false
+      → streamAfter most way room s (l ∷ ls) ≡ streamAfter most way room (after way room (stateBefore most s l) l) ls
+  unfolding streamAfter
+  on-state s l ls e = rw e refl
+
+  pub on-kept : (s : State) (l : List ℕ) (ls : List (List ℕ)) → ended way (s .place) ≡ false
+      → streamJournal most way room s (l ∷ ls)
+      ≡ journalOf way room (stateBefore most s l) l ++ streamJournal most way room (after way room (stateBefore most s l) l) ls
+  unfolding streamJournal
+  on-kept s l ls e = rw e refl
+
+  -- ---- lines behind others
+
+  pub state-append : (s : State) (a b : List (List ℕ))
+      → streamAfter most way room s (a ++ b) ≡ streamAfter most way room (streamAfter most way room s a) b
+  unfolding streamAfter
+  state-append s [] b = refl
+  state-append s (l ∷ a) b =
+      split (ended way (s .place)) (λ e. rw e (sym (ended-state s b e)))
+      (λ e. rw e (state-append (after way room (stateBefore most s l) l) a b))
+
+  pub answers-append : (s : State) (a b : List (List ℕ))
+      → streamBytes most way room s (a ++ b) ≡ streamBytes most way room s a ++ streamBytes most way room (streamAfter most way room s a) b
+  unfolding streamAfter streamBytes
+  answers-append s [] b = refl
+  answers-append s (l ∷ a) b =
+      let t = after way room (stateBefore most s l) l in
+      let x = bytesOf way room (stateBefore most s l) l in
+      split (ended way (s .place)) (λ e. rw e (sym (ended-answers s b e)))
+      (λ e.
+      rw e
+      (ap (λ (z : List ℕ). x ++ z) (answers-append t a b)
+      ∙ sym (append-assoc x (streamBytes most way room t a) (streamBytes most way room (streamAfter most way room t a) b))))
+
+  pub kept-append : (s : State) (a b : List (List ℕ))
+      → streamJournal most way room s (a ++ b) ≡ streamJournal most way room s a ++ streamJournal most way room (streamAfter most way room s a) b
+  unfolding streamAfter streamJournal
+  kept-append s [] b = refl
+  kept-append s (l ∷ a) b =
+      let t = after way room (stateBefore most s l) l in
+      let x = journalOf way room (stateBefore most s l) l in
+      split (ended way (s .place)) (λ e. rw e (sym (ended-kept s b e)))
+      (λ e.
+      rw e
+      (ap (λ (z : List ℕ). x ++ z) (kept-append t a b)
+      ∙ sym (append-assoc x (streamJournal most way room t a) (streamJournal most way room (streamAfter most way room t a) b))))
+
+  pub asks-append : (s : State) (seen : List Asked) (a b : List (List ℕ))
+      → streamAsks most way room s seen (a ++ b) ≡ streamAsks most way room (streamAfter most way room s a) (streamAsks most way room s seen a) b
+  unfolding streamAfter streamAsks
+  asks-append s seen [] b = refl
+  asks-append s seen (l ∷ a) b =
+      split (ended way (s .place)) (λ e. rw e (sym (ended-asks s seen b e)))
+      (λ e. rw e (asks-append (after way room (stateBefore most s l) l) (asks way room (placeBefore most (s .place) l) l ∷ seen) a b))
+
+  -- ---- an input cut anywhere
+
+  pub cut-anywhere : (s : State) (a b : List ℕ) → Cut most way room s a b
+  cut-anywhere s a b =
+      record {
+        state = ap (streamAfter most way room s) (lines-cut a b) ∙ state-append s (linesIn a) (linesIn (restIn a ++ b));
+        bytes = ap (streamBytes most way room s) (lines-cut a b) ∙ answers-append s (linesIn a) (linesIn (restIn a ++ b));
+        journal = ap (streamJournal most way room s) (lines-cut a b) ∙ kept-append s (linesIn a) (linesIn (restIn a ++ b));
+        rest = rest-cut a b;
+      }
+
+  pub cut-asks : (s : State) (seen : List Asked) (a b : List ℕ)
+      → streamAsks most way room s seen (linesIn (a ++ b))
+      ≡ streamAsks most way room (streamAfter most way room s (linesIn a)) (streamAsks most way room s seen (linesIn a)) (linesIn (restIn a ++ b))
+  cut-asks s seen a b = ap (streamAsks most way room s seen) (lines-cut a b) ∙ asks-append s seen (linesIn a) (linesIn (restIn a ++ b))

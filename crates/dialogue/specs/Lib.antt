@@ -1,0 +1,9 @@
+pub mod Split
+pub mod Asks
+pub mod Said
+pub mod Turns
+pub mod Decided
+pub mod Answers
+pub mod Whole
+pub mod Dialogue
+pub mod KeptLife

@@ -1,0 +1,15 @@
+-- What may stand behind the last newline of a journal.
+-- Assumes nothing.
+use Prim.Native.Nat.{ℕ}
+use mathlib.Core.Bool.{Bool, cond, not, _&&_, _||_}
+use lib.Dec.{ltb}
+use Rattle.dialogue.specs.declared.Place.{Place}
+
+-- "Only a rest of at most one kept line's length, behind complete lines that replay, is dropped": whether so many bytes may be a rest, at the place
+-- behind the complete lines. Older versions kept lines of up to 8,192 bytes, those of special guarantees.
+abbrev pub isRest : Place → ℕ → Bool
+isRest p n = (ltb 0 (p .line) && not (p .long)) && ltb n 8192
+
+-- Whether a journal may be gone on with: nothing stands there, or such a rest.
+abbrev pub passes : Place → ℕ → Bool
+passes p n = not (p .long || ltb 0 n) || isRest p n

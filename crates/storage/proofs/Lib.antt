@@ -1,0 +1,4 @@
+pub mod Bytes
+pub mod Journals
+pub mod Lent
+pub mod Signs

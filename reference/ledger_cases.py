@@ -1,0 +1,1403 @@
+"""The ledger and the system, case by case: what happens where files, streams, disks and other programs do what they seldom do.
+
+`tools/torture --cases` runs them. A case is a function below with a sentence of what it tries. It runs the ledger in a folder of its own, and
+compares the answers, the journal's bytes and what was acknowledged with the reference (ledger.py). It raises Wrong with what differs, or Skip where
+the machine doesn't permit it. Some need root, for a mount or another user; strace makes calls of the system fail and shows their order.
+
+Three programs that a comparison of whole runs alone might pass, and the cases that catch each:
+- every answer is `done`: `filter`, `kept changes` and every other case that compares answers;
+- an answer is written before its line is appended, and a failure is ignored: `order of the calls`, `failing write`, `failing fdatasync`;
+- the order is right, and a failure is ignored: `failing write`, `failing fdatasync`, `full disk`, `file size limit`.
+"""
+import contextlib
+import fcntl
+import os
+import re
+import resource
+import select
+import shutil
+import signal
+import stat
+import subprocess
+import sys
+import tempfile
+import time
+
+sys.dont_write_bytecode = True
+
+import ledger
+
+PATIENCE = 20        # seconds without an answer or an end
+SHORT = 5            # the same where the ledger has to stop
+NOBODY = 65534
+CASES = []
+
+
+class Wrong(Exception):
+    """What was found is not what is due."""
+
+
+class Skip(Exception):
+    """What a case needs is not permitted here."""
+
+
+class Model(ledger.Kept):
+    """The reference's kept book, with the lines of its journal."""
+
+    def __init__(self, journal=b''):
+        super().__init__()
+        self.lines = []
+        self.replay(journal)
+
+    def keep(self, line):
+        self.lines.append(line)
+
+    def people(self):
+        return self.ledger.book.people
+
+    def height(self, call):
+        """How many lines the answer to a call has."""
+        return 2 + len(self.people()) if call == ('report',) else 1
+
+    def appended(self):
+        return b''.join(line + b'\n' for line in self.lines)
+
+
+def case(function):
+    """Enters a function among the cases."""
+    CASES.append((function.__name__.replace('_', ' '), function))
+    return function
+
+
+def cut_down(value):
+    return value if not isinstance(value, bytes) or len(value) < 400 else value[:200] + b' .. ' + value[-150:]
+
+
+def same(what, got, due):
+    """Compares what was found with what is due; of long bytes it shows where they part."""
+    if got == due:
+        return
+    if isinstance(got, tuple) and isinstance(due, tuple):       # standard output and standard error, say
+        for n, (one, other) in enumerate(zip(got, due), 1):
+            same(f'{what}, part {n}', one, other)
+    if isinstance(got, bytes) and isinstance(due, bytes) and len(got) + len(due) > 600:
+        at = len(os.path.commonprefix([got, due]))
+        at = due.rfind(b'\n', 0, at) + 1
+        raise Wrong(f'{what}, {len(got)} bytes, from byte {at} on {got[at:at + 150]}, due are {len(due)}, there {due[at:at + 150]}')
+    raise Wrong(f'{what}: {cut_down(got)}, due is {cut_down(due)}')
+
+
+def holds(what, whether, got=None):
+    if not whether:
+        raise Wrong(what if got is None else f'{what}: {cut_down(got)}')
+
+
+# ---- calls
+
+SPECIAL = b'special 3 126 4 0 3 3253 4048 4723 3 0 0 0 1 1000000 1 1000000 1 0 1 0'
+CALLS = b'''calls
+statement 0
+''' + SPECIAL + b'''
+fresh 2021-02-01       # the first change, behind questions
+admit 0 supplier
+admit 01 trader
+
+report
+# a comment
+lodge 0 0 cash 02000000
+lodge 1 0 letter 500 2021-02-01 2021-06-30
+release 1 0 9
+settle 0 2020-12 2500000 0 0 0 -10
+statement 0
+frob
+fresh 0
+admit 1 1
+lodge 0 1 cash 500000
+release 0 1 10
+settle 0 2020-10 1 2 3 4 5 6
+special 0 0 0 0 0 0 0
+advance 2021-02-12 100
+annual 0
+statement 0
+statement 1
+calls
+report
+'''
+
+
+def joined(lines):
+    return b''.join(line + b'\n' for line in lines)
+
+
+def settled(numbers):
+    """Changes that are all accepted, each with a line and an answer of its own."""
+    return joined(b'settle 0 2020-10 %d 0 0 0 0' % n for n in numbers)
+
+
+def many(count):
+    """A fresh book and so many settlements."""
+    return joined([b'fresh 2021-02-01', b'admit 0 producer']) + settled(range(count))
+
+
+# ---- the ledger in a folder
+
+class Place:
+    """A folder of a case, the journal there, and runs of the ledger on it."""
+
+    def __init__(self, command, folder):
+        self.command, self.folder = command, folder
+        self.path = os.path.join(folder, 'book.journal')
+        self.lock = self.path + '.lock'
+
+    def at(self, name):
+        return os.path.join(self.folder, name)
+
+    def put(self, data, name='book.journal'):
+        with open(self.at(name), 'wb') as file:
+            file.write(data)
+
+    def got(self, name='book.journal'):
+        """The bytes of a file, or None where there is none."""
+        if not os.path.lexists(self.at(name)):
+            return None
+        with open(self.at(name), 'rb') as file:
+            return file.read()
+
+    def names(self):
+        return sorted(os.listdir(self.folder))
+
+    def run(self, *words, data=b'', before=(), **ways):
+        """A run to its end: what it wrote to standard output and to standard error. The words before are a program that starts it."""
+        ways = {'stdout': subprocess.PIPE, 'cwd': self.folder, **ways}
+        try:
+            done = subprocess.run([*before, self.command, *words], **({'input': data} if 'stdin' not in ways else {}), stderr=subprocess.PIPE,
+                                  timeout=PATIENCE, **ways)
+        except subprocess.TimeoutExpired:
+            raise Wrong(f'no end after {PATIENCE} seconds')
+        if done.returncode < 0:
+            raise Wrong(f'ended by signal {-done.returncode}')
+        return done.stdout, done.stderr
+
+    def keep(self, data, *words, **ways):
+        return self.run(self.path, *words, data=data, **ways)
+
+    def talk(self, *words, **ways):
+        return Talk([self.command, *(words or (self.path,))], cwd=self.folder, **ways)
+
+
+class Talk:
+    """A run of the ledger that is given lines one after the other."""
+
+    def __init__(self, words, **ways):
+        self.process = subprocess.Popen(words, stdin=subprocess.PIPE, stdout=subprocess.PIPE, stderr=subprocess.PIPE, **ways)
+        self.out = b''
+
+    def __enter__(self):
+        return self
+
+    def __exit__(self, *what):
+        if self.process.poll() is None:
+            self.process.kill()
+        for stream in (self.process.stdin, self.process.stdout, self.process.stderr):
+            with contextlib.suppress(BrokenPipeError):
+                stream.close()
+        self.process.wait()
+
+    def send(self, data):
+        with contextlib.suppress(BrokenPipeError):
+            self.process.stdin.write(data)
+            self.process.stdin.flush()
+
+    def hear(self, lines, patience=PATIENCE):
+        """Reads until so many lines more have come, or the end. Gives what was read."""
+        heard, stream = b'', self.process.stdout.fileno()
+        while heard.count(b'\n') < lines:
+            if not select.select([stream], [], [], patience)[0]:
+                raise Wrong(f'neither an answer nor an end for {patience} seconds, after {cut_down(heard)}')
+            piece = os.read(stream, 65536)
+            if not piece:
+                break
+            heard += piece
+        self.out += heard
+        return heard
+
+    def ask(self, data, model):
+        """Sends lines and compares the answers with the model's."""
+        due = ledger.answers(data, model)
+        self.send(data)
+        same(f'the answers to {cut_down(data)}', self.hear(due.count(b'\n')), due)
+
+    def stops(self, data):
+        """Sends lines at which the ledger has to stop, though its input goes on. Gives what it answered and said."""
+        self.send(data)
+        return self.rest(SHORT)
+
+    def rest(self, patience=PATIENCE):
+        heard = self.hear(float('inf'), patience)
+        said = self.process.stderr.read()
+        try:
+            self.process.wait(PATIENCE)
+        except subprocess.TimeoutExpired:
+            raise Wrong('it closed its streams and does not end')
+        return heard, said
+
+    def end(self):
+        """Ends the input. Gives what is still answered, and what was said."""
+        with contextlib.suppress(BrokenPipeError):
+            self.process.stdin.close()
+        return self.rest()
+
+
+# ---- what is due
+
+def due(data, journal=b'', bail=False, end=False):
+    """The answers to an input and the journal that is left, by the reference, of a journal whose lines are all complete."""
+    model = Model(journal)
+    model.begin(bail)
+    out = ledger.answers(data, model)
+    return out + (ledger.ended(model) if end else b''), journal + model.appended()
+
+
+def filtered(data, bail=False, end=False):
+    to = ledger.Filter()
+    to.begin(bail)
+    return ledger.answers(data, to) + (ledger.ended(to) if end else b'')
+
+
+def keeps(place, data, *words, journal=None, bail=False, end=False, said=b'', **ways):
+    """A run that goes well: answers, journal and messages are as due, and no lock is left."""
+    if journal is not None:
+        place.put(journal)
+    out, heard = place.keep(data, *words, **ways)
+    answers, left = due(data, journal or b'', bail, end)
+    same('on standard error', heard, said)
+    same('the answers', out, answers)
+    same('the journal', place.got(), left)
+    same('the lock that is left', place.got('book.journal.lock'), None)
+
+
+def refuses(place, *words, data=b'admit 1 2\ncalls\n', texts=(), **ways):
+    """A run that has to stop at its start: nothing answered, nothing made or changed, and a message that has these texts. Gives the message."""
+    before = snapshot(place.folder)
+    out, said = place.run(*words, data=data, **ways)
+    same('the answers', out, b'')
+    same('the files', snapshot(place.folder), before)
+    for text in (b'ledger: ',) + tuple(texts):
+        holds(f'no {text} on standard error', text in said, said)
+    return said
+
+
+def snapshot(folder):
+    """Names, kinds, modes and bytes of all that is in a folder."""
+    found = {}
+    for name in sorted(os.listdir(folder)):
+        path = os.path.join(folder, name)
+        about = os.lstat(path)
+        found[name] = (oct(about.st_mode), b'')
+        if stat.S_ISREG(about.st_mode) and os.access(path, os.R_OK):
+            with open(path, 'rb') as file:
+                found[name] = (oct(about.st_mode), file.read())
+    return found
+
+
+def acknowledged(model, data, out):
+    """Has the model answer as many lines of an input as were answered, and compares. Its lines are those acknowledged. Gives how many were not."""
+    lines = data.split(b'\n')[:-1]
+    for n, line in enumerate(lines):
+        kept, answer = len(model.lines), model.answer(line)
+        text = b'' if answer is None else answer.encode() + b'\n'
+        if text and not out:
+            del model.lines[kept:]
+            return len(lines) - n
+        if not out.startswith(text):
+            raise Wrong(f'{line}: {cut_down(out)}, due is {text}')
+        out = out[len(text):]
+    same('the answers behind the last', out, b'')
+    return 0
+
+
+def failed(place, journal, data, out, said, acked=None):
+    """After a failure: a message, no answer to the call that was not kept nor behind it, and a journal of the acknowledged changes."""
+    model = Model(journal)
+    left = acknowledged(model, data, out)
+    same('the journal', place.got(), journal + model.appended())
+    holds('every line was answered in spite of the failure', left)
+    if acked is not None:
+        same('the acknowledged changes', len(model.lines), acked)
+    holds('no message on standard error', said.startswith(b'ledger: ') and place.path.encode() in said, said)
+    same('the lock that is left', place.got('book.journal.lock'), None)
+
+
+def as_nobody():
+    """For a run without the rights of root."""
+    if os.getuid() == 0:
+        os.setgroups([])
+        os.setgid(NOBODY)
+        os.setuid(NOBODY)
+
+
+def lent(place):
+    """A place whose ledger and folder anybody may use."""
+    shutil.copy(place.command, place.at('program'))
+    os.chmod(place.at('program'), 0o755)
+    folder = place.at('lent')
+    os.mkdir(folder)
+    os.chmod(folder, 0o777)
+    return Place(place.at('program'), folder)
+
+
+@contextlib.contextmanager
+def disk(place, options):
+    """A place on a small file system of its own."""
+    folder = place.at('disk')
+    os.mkdir(folder)
+    if subprocess.run(['mount', '-t', 'tmpfs', '-o', options, 'none', folder], stderr=subprocess.DEVNULL).returncode:
+        raise Skip('no mount is permitted')
+    try:
+        yield Place(place.command, folder)
+    finally:
+        subprocess.run(['umount', folder], check=True)
+
+
+def fill(path, left):
+    """Fills a disk by a file, up to so many bytes."""
+    file = os.open(path, os.O_WRONLY | os.O_CREAT)
+    try:
+        while True:
+            os.write(file, bytes(4096))
+    except OSError:
+        os.ftruncate(file, os.fstat(file).st_size - left)
+    os.close(file)
+
+
+def strace(*words):
+    if not shutil.which('strace'):
+        raise Skip('there is no strace')
+    return ['strace', '-f', '-qq', '-o', '/dev/null', *words]
+
+
+def fault(path, *faults):
+    """Makes calls of the system on a path fail: each fault has the calls, the error and which of them fail."""
+    words = ['-P', path, '-e', 'trace=' + ','.join(calls for calls, _, _ in faults)]
+    for calls, error, when in faults:
+        words += ['-e', f'inject={calls}:error={error}:when={when}']
+    return strace(*words)
+
+
+FORCE, APPEND, CUT = 'fdatasync,fsync', 'write,pwrite64,writev', 'ftruncate,truncate'
+
+
+# ---- the filter, and how an input is read
+
+@case
+def filter(place):
+    """Lines of every kind are answered as the reference answers them, and a last line without newline too."""
+    for data in (CALLS, CALLS + b'statement 0', many(50) + CALLS, b'', b'\n', b'calls', b'#', b'admit 0 0 # no newline'):
+        out, said = place.run(data=data)
+        same('the answers', out, filtered(data))
+        same('on standard error', said, b'')
+    same('the files', place.names(), [])
+
+
+@case
+def byte_order_mark(place):
+    """A mark at the start of an input is passed over, in one part or in single bytes, and nowhere else."""
+    mark = ledger.MARK
+    for data in (mark + CALLS, mark + b'\n' + CALLS, mark + mark + CALLS, b'\n' + mark + CALLS, mark[:2] + CALLS, mark + b'calls', b' ' + mark + CALLS):
+        same('the answers', place.run(data=data)[0], filtered(data))
+        with place.talk('--end') as talk:
+            for byte in data[:12]:
+                talk.send(bytes([byte]))
+                time.sleep(0.003)
+            talk.send(data[12:])
+            same('the answers to single bytes', talk.end()[0], filtered(data, end=True))
+
+
+@case
+def byte_order_mark_of_a_journal(place):
+    """A mark at the start of a journal is passed over and stays there; the mark of the input is not kept."""
+    keeps(place, ledger.MARK + b'calls\nadmit 1 1\n', journal=ledger.MARK + b'fresh 5\nadmit 0 0\n')
+    keeps(place, ledger.MARK + b'fresh 7\nadmit 1 1\nreport\n', journal=b'')
+    place.put(b'fresh 5\n' + ledger.MARK + b'admit 0 0\n')
+    refuses(place, place.path, texts=[f'{place.path}: line 2: no such call'.encode()])
+
+
+@case
+def one_byte_at_a_time(place):
+    """A slow pipe gives the same answers and the same journal as a file."""
+    answers, left = due(CALLS)
+    for words in ((place.path,), ('--batch', place.path)):
+        with place.talk(*words) as talk:
+            for byte in CALLS:
+                talk.send(bytes([byte]))
+                time.sleep(0.0005)
+            out, said = talk.end()
+        same('the answers', out, answers)
+        same('the journal', place.got(), left)
+        same('on standard error', said, b'')
+        os.remove(place.path)
+    place.put(CALLS, 'input')
+    with open(place.at('input'), 'rb') as file:
+        same('the answers to a file', place.run(place.path, stdin=file), (answers, b''))
+    same('the journal of a file', place.got(), left)
+
+
+def long_input():
+    """Lines around the longest, as calls, comments and no calls, with short ones between them."""
+    lines = [b'fresh 2021-02-01', b'admit 0 producer']
+    for n, size in enumerate((65534, 65535, 65536, 65537, 131072, 200000, 65535)):
+        start = b'settle 0 2020-10 %d 0 0 0' % n
+        for line in (start + b' ' * (size - len(start) - 1) + b'7', b'#' * size, b'x' * size, b'calls'.ljust(size)):
+            lines += [line, b'settle 0 2020-10 100 %d 0 0 0' % len(lines)]
+    return joined(lines)
+
+
+@case
+def long_lines(place):
+    """Lines of 65,535 bytes are taken and longer ones are errors, wherever the parts of the input end."""
+    data = long_input()
+    same('the answers of the filter', place.run(data=data), (filtered(data), b''))
+    keeps(place, data)
+    os.remove(place.path)
+    answers, left = due(data)
+    with place.talk('--batch', place.path) as talk:
+        for at in range(0, len(data), 49999):
+            talk.send(data[at:at + 49999])
+        same('the answers to parts', talk.end(), (answers, b''))
+    same('the journal', place.got(), left)
+
+
+@case
+def long_lines_of_a_journal(place):
+    """A journal's line of 65,535 bytes is replayed, and a longer one stops the replay."""
+    keeps(place, b'report\n', journal=b'admit 0 0'.ljust(65535) + b'\n' + b'admit 1 0'.ljust(65535) + b'\nadmit 2 0\n')
+    for size in (65536, 200000):
+        place.put(b'admit 3 0\n' + b'admit 0 0'.ljust(size) + b'\nadmit 1 0\n')
+        refuses(place, place.path, texts=[f'ledger: {place.path}: line 2: line too long\n'.encode()])
+
+
+@case
+def torn_input(place):
+    """A last line of standard input without its newline is not taken in the kept way."""
+    for rest in (b'admit 5 1', b'calls', b'a', b' ', b'# a comment', b'frob', b'\x00', b'calls'.ljust(65535), b'x' * 200000):
+        data = CALLS + rest
+        keeps(place, data)
+        holds('it is taken', place.got() == due(CALLS)[1])
+        os.remove(place.path)
+        keeps(place, data, '--batch', '--end', end=True)
+        os.remove(place.path)
+    keeps(place, b'admit 5 1')
+
+
+@case
+def interrupted_streams(place):
+    """A read or write of the standard streams that is interrupted is made again."""
+    place.put(CALLS + settled(range(300)), 'input')
+    data = place.got('input')
+    for words, answers in (((), filtered(data)), ((place.path,), due(data)[0])):
+        with open(place.at('input'), 'rb') as inward, open(place.at('output'), 'wb') as outward:
+            _, said = place.run(*words, stdin=inward, stdout=outward, before=strace(
+                '-P', place.at('input'), '-P', place.at('output'), '-e', 'trace=read,write', '-e', 'inject=read,write:error=EINTR:when=1+2'))
+        same('on standard error', said, b'')
+        same('the answers', place.got('output'), answers)
+    same('the journal', place.got(), due(data)[1])
+
+
+def pipe(size):
+    """A small pipe, of which both ends don't wait."""
+    ends = os.pipe()
+    fcntl.fcntl(ends[1], fcntl.F_SETPIPE_SZ, size)
+    for end in ends:
+        os.set_blocking(end, False)
+    return ends
+
+
+def unwaiting(place, words, data):
+    """A run whose standard input and output are small pipes that don't wait, fed and read with pauses: a long one before its first
+    line, and one when its answers wait. Gives its answers and messages."""
+    (ask, tell), (hear, answer) = pipe(4096), pipe(4096)
+    process = subprocess.Popen([place.command, *words], stdin=ask, stdout=answer, stderr=subprocess.PIPE)
+    os.close(ask), os.close(answer)
+    out, heard, rests = b'', time.time(), [0, 9000]
+    try:
+        while True:
+            time.sleep(0.7 if rests and len(out) >= rests[0] and rests.pop(0) >= 0 else 0.02)
+            if tell is not None:
+                with contextlib.suppress(BlockingIOError):
+                    data = data[os.write(tell, data[:3000]):]
+                if not data:
+                    tell = os.close(tell)
+            with contextlib.suppress(BlockingIOError):
+                piece = os.read(hear, 2000)
+                out, heard = out + piece, time.time()
+                if not piece:
+                    return out, process.stderr.read()
+            holds(f'no answer for {PATIENCE} seconds', time.time() < heard + PATIENCE)
+    except BrokenPipeError:
+        raise Wrong(f'it ended before its input: {process.stderr.read()}')
+    finally:
+        process.kill()
+        process.wait()
+        process.stderr.close()
+        for end in (tell, hear):
+            if end is not None:
+                os.close(end)
+
+
+@case
+def streams_that_do_not_wait(place):
+    """Standard streams with O_NONBLOCK are waited for, and not by running in circles."""
+    data = CALLS + b'report\n' * 60 + settled(range(900))          # the reports fill the pipe
+    for words, answers in (((), filtered(data)), (('--batch', place.path), due(data)[0])):
+        began, used = time.time(), resource.getrusage(resource.RUSAGE_CHILDREN)
+        same('the answers', unwaiting(place, words, data), (answers, b''))
+        now = resource.getrusage(resource.RUSAGE_CHILDREN)
+        spent, passed = now.ru_utime + now.ru_stime - used.ru_utime - used.ru_stime, time.time() - began
+        holds(f'{spent:.1f} s of computing in {passed:.1f} s', spent < 0.25 * passed)
+    same('the journal', place.got(), due(data)[1])
+
+
+# ---- what is kept
+
+@case
+def kept_changes(place):
+    """Changes are kept in their numeric form and questions are not; the next run goes on from there."""
+    keeps(place, CALLS)
+    keeps(place, b'report\nfresh 5\nadmit 9 producer\n', journal=place.got())
+    keeps(place, many(40), journal=b'')
+    left = place.got()
+    keeps(place, b'report\ncalls\nstatement 0\n' + SPECIAL + b'\n', journal=left)
+    same('the journal after questions', place.got(), left)
+    for data in (b'', b'\n\n', b'# nothing\n', b'calls\nreport\n', b'frob\nadmit 64 0\n'):
+        keeps(place, data, journal=b'')
+        same('the journal without a change', place.got(), b'')
+
+
+@case
+def fresh_behind_questions(place):
+    """`fresh` is accepted until the first change, in this run or an earlier one."""
+    keeps(place, b'calls\nreport\nfresh 29220\nfresh 2021-01-01\nfresh 7\nreport\n')
+    keeps(place, b'fresh 7\ncalls\n', journal=place.got())
+    keeps(place, b'report\nfresh 7\nreport\n', journal=b'# no change yet\n\ncalls\nreport\n' + SPECIAL + b'\n')
+    keeps(place, b'admit 0 0\nfresh 7\n', journal=b'')
+
+
+@case
+def old_journal(place):
+    """A journal with questions in it, as they were kept once, is replayed, is not rewritten and is gone on with."""
+    old = b'calls\nadmit 0 0\nstatement 0\n' + SPECIAL + b'\nlodge 0 0 cash 2000000\ncalls\n'
+    keeps(place, b'report\nfresh 5\nlodge 0 1 cash 7\n', journal=old)
+
+
+@case
+def mode_of_a_new_journal(place):
+    """A new journal may be read and written by its owner alone, whatever the mask; the mode of an old one stays."""
+    for mask in (0, 0o022, 0o077):
+        keeps(place, b'admit 0 0\n', preexec_fn=lambda: os.umask(mask))
+        same('the mode', oct(os.stat(place.path).st_mode & 0o7777), oct(0o600))
+        os.remove(place.path)
+    place.put(b'')
+    os.chmod(place.path, 0o640)
+    keeps(place, b'admit 0 0\n')
+    same('the mode of an old one', oct(os.stat(place.path).st_mode & 0o7777), oct(0o640))
+
+
+@case
+def relative_name(place):
+    """A journal named without a directory is made, locked and gone on with in the working directory."""
+    for data, journal in ((b'admit 0 0\n', b''), (b'admit 1 1\nreport\n', b'admit 0 0\n')):
+        answers, left = due(data, journal)
+        same('the answers', place.run('book.journal', data=data, cwd=place.folder), (answers, b''))
+        same('the journal', place.got(), left)
+        same('the files', place.names(), ['book.journal'])
+
+
+# ---- torn journals, and files that are none
+
+@case
+def torn_journal(place):
+    """A short rest behind complete lines is cut off, and what it was is said."""
+    journal = due(CALLS)[1]
+    for rest in (b'a', b'lodge 0 0 cash 777', b'admit 5 1', b'\x00\x1f\x7f\xff~ \t', b' ', b'#', b'\r', b'x' * 4096, b'y' * 8191):
+        place.put(journal + rest)
+        out, said = place.keep(b'report\nadmit 5 1\n')
+        answers, left = due(b'report\nadmit 5 1\n', journal)
+        same('on standard error', said, (ledger.dropped(place.path, rest) + '\n').encode())
+        same('the answers', out, answers)
+        same('the journal', place.got(), left)
+        same('the lock that is left', place.got('book.journal.lock'), None)
+
+
+@case
+def rest_that_is_not_dropped(place):
+    """A rest with no complete line before it, or of 8,192 bytes and more, stops the ledger with nothing changed."""
+    for journal, rest in ((b'', b'admit 0 0'), (b'', b'a'), (b'', b'x' * 200000), (b'admit 0 0\n', b'x' * 8192), (b'admit 0 0\n', b'y' * 65536),
+                          (b'admit 0 0\nadmit 1 0\n', b'z' * 200000), (b'', ledger.MARK + b'admit 0 0')):
+        place.put(journal + rest)
+        refuses(place, place.path, texts=[f'ledger: {place.path}: line {journal.count(10) + 1}: '.encode()])
+
+
+@case
+def journal_that_does_not_replay(place):
+    """A line that is refused or no call stops the ledger with nothing changed, a rest behind it too."""
+    for journal, said in ((b'admit 0 0\n\nadmit 0 0\n', 'line 3: refused 3'), (b'admit 0 0\nfrob\nadmit 1 0\n', 'line 2: no such call'),
+                          (b'admit 0 0\nfresh 5\n', 'line 2: fresh is not the first call'), (b'statement 0\n', 'line 1: refused 2'),
+                          (b'admit 0 0\nadmit 64 0\nadm', 'line 2: refused 1'), (b'admit 0 0\nadmit 1\x00 0\nx', 'line 2: a control byte'),
+                          (many(3000) + b'admit 0 0\n', 'line 3003: refused 3')):
+        place.put(journal)
+        refuses(place, place.path, texts=[f'ledger: {place.path}: {said}\n'.encode()])
+
+
+@case
+def file_that_is_no_journal(place):
+    """A text or a program given by mistake is left byte for byte as it is."""
+    text = b'Dear reader,\nthis is a letter.\n'
+    for data in (text, text[:-1], b'a note', b'a note\n', b'x' * 9000, b'\x7fELF\x02\x01\x01\x00' + bytes(range(256)) * 100, b'\r\n'.join([b'a', b'b']),
+                 b'1;2;3\n' * 9000):
+        place.put(data)
+        refuses(place, place.path, texts=[f'ledger: {place.path}: line 1: '.encode()])
+
+
+@case
+def failing_cut(place):
+    """Where a torn line can't be cut off, the ledger says so and answers nothing."""
+    place.put(b'admit 0 0\nadm')
+    out, said = place.keep(b'calls\nadmit 1 1\n', before=fault(place.path, (CUT, 'EIO', '1+')))
+    same('the answers', out, b'')
+    same('the journal', place.got(), b'admit 0 0\nadm')
+    holds('no message of the failure', b'Input/output error' in said, said)
+
+
+# ---- the lock
+
+def dead():
+    """The number of a process that has ended."""
+    process = subprocess.Popen(['true'])
+    process.wait()
+    return process.pid
+
+
+@case
+def two_ledgers(place):
+    """A second ledger on a journal names the first, answers nothing and changes nothing; when the first has ended, it may."""
+    model = Model()
+    with place.talk() as first:
+        first.ask(b'fresh 5\nadmit 0 0\n', model)
+        same('the lock', place.got('book.journal.lock'), b'%d\n' % first.process.pid)
+        said = f'ledger: {place.path}: kept by process {first.process.pid}, see {place.lock}\n'.encode()
+        same('the second says', refuses(place, place.path), said)
+        same('the second with --batch says', refuses(place, '--batch', place.path), said)
+        first.ask(b'admit 1 2\nreport\n', model)
+        same('the end of the first', first.end(), (b'', b''))
+    same('the journal', place.got(), model.appended())
+    keeps(place, b'admit 2 2\nreport\n', journal=place.got())
+
+
+@case
+def stale_lock(place):
+    """A lock whose process was killed or no longer exists is taken over."""
+    model = Model()
+    with place.talk() as talk:
+        talk.ask(b'fresh 5\nadmit 0 0\n', model)
+        talk.process.send_signal(signal.SIGKILL)
+        talk.rest()
+        same('the lock after a kill', place.got('book.journal.lock'), b'%d\n' % talk.process.pid)
+    keeps(place, b'admit 1 2\nreport\n', journal=place.got())
+    place.put(b'%d\n' % dead(), 'book.journal.lock')
+    keeps(place, b'admit 2 2\nreport\n', journal=place.got())
+    os.remove(place.path)
+    place.put(b'%d\n' % dead(), 'book.journal.lock')
+    keeps(place, b'admit 2 2\nreport\n')
+
+
+@case
+def lock_of_a_living_process(place):
+    """A lock of any process that exists is respected, of one too that may not be sent signals."""
+    place = lent(place)
+    place.put(b'admit 0 0\n')
+    os.chmod(place.path, 0o666)
+    for number in (os.getpid(), 1):
+        place.put(b'%d\n' % number, 'book.journal.lock')
+        said = refuses(place, place.path, preexec_fn=as_nobody)
+        same('on standard error', said, f'ledger: {place.path}: kept by process {number}, see {place.lock}\n'.encode())
+
+
+@case
+def empty_lock_file(place):
+    """A lock that names no process is taken over, or refused by name with nothing changed."""
+    for lock in (b'', b'\n', b'12', b'not a number\n', b'99999999999999999999999999\n', b'-1\n', b'0\n'):
+        place.put(b'admit 0 0\n')
+        place.put(lock, 'book.journal.lock')
+        before = snapshot(place.folder)
+        out, said = place.keep(b'admit 1 1\nreport\n')
+        if out:
+            same('the answers', (out, place.got()), due(b'admit 1 1\nreport\n', b'admit 0 0\n'))
+            same('the lock that is left', place.got('book.journal.lock'), None)
+        else:
+            same('the files', snapshot(place.folder), before)
+            holds('the lock is not named', place.lock.encode() in said, said)
+
+
+@case
+def two_names(place):
+    """Two ledgers that keep one file by two names lose nothing: the second is refused, or the first stops."""
+    link, model = place.at('link'), Model()
+    os.symlink(place.path, link)
+    with place.talk() as first:
+        first.ask(b'fresh 5\nadmit 0 0\n', model)
+        with place.talk(link) as second:
+            second.send(b'lodge 0 0 cash 5\n')
+            if second.hear(1):
+                same('the second answers', second.out, b'done\n')
+                model.answer(b'lodge 0 0 cash 5')
+                out, said = first.stops(b'admit 1 1\n')
+                same('the first answers', out, b'')
+                holds('the first says nothing', b'nothing more is kept' in said, said)
+            else:
+                first.ask(b'admit 1 1\n', model)
+    same('the journal', place.got(), model.appended())
+
+
+def meddled(place, meddle, expected, words=()):
+    """What another program does to a journal while it is kept: no change is answered then, the ledger stops, and what it finds stays."""
+    model = Model()
+    with place.talk(*words, place.path) as talk:
+        talk.ask(many(5) + b'report\n', model)
+        meddle(model.appended())
+        out, said = talk.stops(settled([77]))
+    same('the answers', out, b'')
+    holds('on standard error', said.startswith(f'ledger: {place.path}'.encode()) and b'nothing more is kept' in said, said)
+    same('the files', {name: data for name, (_, data) in snapshot(place.folder).items()}, expected(model.appended()))
+
+
+@case
+def journal_truncated(place):
+    """A journal that was truncated while it was open gets no more lines."""
+    for size in (0, 20):
+        for words in ((), ('--batch',)):
+            meddled(place, lambda data: os.truncate(place.path, size), lambda data: {'book.journal': data[:size]}, words)
+            os.remove(place.path)
+
+
+@case
+def journal_appended_to(place):
+    """A journal that another program appended to gets no more lines, and keeps those."""
+    for more in (b'admit 9 3\n', b'x'):
+        for words in ((), ('--batch',)):
+            meddled(place, lambda data: place.put(data + more), lambda data: {'book.journal': data + more}, words)
+            os.remove(place.path)
+
+
+@case
+def journal_renamed(place):
+    """A journal that was renamed while it was open gets no more lines."""
+    meddled(place, lambda data: os.rename(place.path, place.at('away')), lambda data: {'away': data})
+
+
+@case
+def journal_deleted(place):
+    """A journal that was deleted while it was open is not answered for, nor made again."""
+    meddled(place, lambda data: os.remove(place.path), lambda data: {})
+
+
+@case
+def journal_replaced(place):
+    """A journal whose name leads to another file gets no more lines, though that has the same bytes."""
+    def replace(data):
+        place.put(data, 'new')
+        os.rename(place.at('new'), place.path)
+    meddled(place, replace, lambda data: {'book.journal': data})
+
+
+@case
+def lock_removed(place):
+    """A ledger whose lock was removed keeps nothing more."""
+    meddled(place, lambda data: os.remove(place.lock), lambda data: {'book.journal': data})
+
+
+@case
+def lock_replaced(place):
+    """A ledger whose lock is another's keeps nothing more, and leaves that lock."""
+    other = b'%d\n' % os.getpid()
+
+    def replace(data):
+        os.remove(place.lock)
+        place.put(other, 'book.journal.lock')
+    meddled(place, replace, lambda data: {'book.journal': data, 'book.journal.lock': other})
+
+
+@case
+def questions_go_on(place):
+    """Questions need no append: they are answered though the journal was renamed."""
+    model = Model()
+    with place.talk() as talk:
+        talk.ask(many(5), model)
+        os.rename(place.path, place.at('away'))
+        talk.ask(b'report\ncalls\nadmit 0 0\n', model)
+        same('the answers to a change', talk.stops(b'admit 1 1\n')[0], b'')
+
+
+# ---- streams that are closed, or take nothing
+
+@case
+def answers_that_can_not_be_written(place):
+    """Where standard output takes nothing, the ledger says so and stops: no more than the one change in work is kept, with --batch the one part."""
+    for words, most in (((), 1), (('--batch',), 22)):
+        with open('/dev/full', 'wb') as full:
+            _, said = place.run(*words, place.path, data=many(20), stdout=full)
+        holds('no message', b'standard output' in said, said)
+        holds('more is kept', due(many(20))[1].startswith(place.got()) and place.got().count(b'\n') <= most, place.got())
+        same('the lock that is left', place.got('book.journal.lock'), None)
+        os.remove(place.path)
+
+
+def closed(place, number):
+    """Runs with a closed descriptor, on no journal and on one: nothing made, nothing changed."""
+    for journal in (None, b'fresh 5\nadmit 0 0\n'):
+        for words in ((place.path,), ('--batch', place.path)):
+            if journal is not None:
+                place.put(journal)
+            before = snapshot(place.folder)
+            out, said = place.run(*words, data=b'admit 1 2\ncalls\n', preexec_fn=lambda: os.close(number))
+            same('the files', snapshot(place.folder), before)
+            same('the answers', out, b'')
+            holds('no message on standard error', number == 2 or said.startswith(b'ledger: '), said)
+
+
+@case
+def closed_standard_input(place):
+    """With standard input closed nothing is made or changed: the journal could get its number."""
+    closed(place, 0)
+
+
+@case
+def closed_standard_output(place):
+    """With standard output closed nothing is made or changed: answers could go to the journal."""
+    closed(place, 1)
+
+
+@case
+def closed_standard_error(place):
+    """With standard error closed nothing is made or changed: messages could go to the journal."""
+    closed(place, 2)
+
+
+# ---- failures of the disk
+
+@case
+def full_disk(place):
+    """On a disk that gets full, the call that doesn't fit is not answered, and the journal is cut back to the answered ones."""
+    with disk(place, 'size=64k') as small:
+        for words in ((small.path,), (small.path, '--batch')):
+            fill(small.at('filler'), 8192)          # a page for the lock and one for the journal
+            with small.talk(*words) as talk:
+                talk.send(many(20))
+                out = talk.hear(22)
+                rest, said = talk.stops(settled(range(20, 400)))
+            failed(small, b'', many(400), out + rest, said)
+            holds('no message of a full disk', b'No space left on device' in said, said)
+            os.remove(small.at('filler'))
+            left = small.got()
+            keeps(small, b'report\n' + settled([5]), journal=left)
+            os.remove(small.path)
+
+
+@case
+def full_disk_at_the_start(place):
+    """On a full disk the ledger says so, answers no change, and leaves no lock that is in the way later."""
+    with disk(place, 'size=64k') as small:
+        small.put(b'admit 0 0\n')
+        fill(small.at('filler'), 0)
+        out, said = small.keep(settled([1]))
+        holds('no message', said.startswith(b'ledger: '), said)
+        same('the answers', out, b'')
+        same('the journal', small.got(), b'admit 0 0\n')
+        os.remove(small.at('filler'))
+        keeps(small, b'admit 1 1\n', journal=b'admit 0 0\n')
+
+
+@case
+def file_size_limit(place):
+    """At the system's limit of a file's size, the call that doesn't fit is not answered, and the part of its line is cut off."""
+    def limit():
+        signal.signal(signal.SIGXFSZ, signal.SIG_IGN)
+        resource.setrlimit(resource.RLIMIT_FSIZE, (1010, 1010))
+    with place.talk(preexec_fn=limit, restore_signals=False) as talk:
+        out, said = talk.stops(many(200))
+    failed(place, b'', many(200), out, said)
+
+
+@case
+def failing_fdatasync(place):
+    """A change that can't be forced to disk is not answered, and nothing behind it; it is cut off."""
+    journal, data = due(many(3))[1], settled(range(50, 60))
+    for when, lines in ((1, data), (3, data), (3, b'calls\nfrob\n' + data), (10, data)):
+        place.put(journal)
+        with Talk(fault(place.path, (FORCE, 'EIO', when)) + [place.command, place.path]) as talk:
+            out, said = talk.stops(lines)
+        failed(place, journal, lines, out, said, when - 1)
+        keeps(place, b'report\n' + data, journal=place.got())
+
+
+@case
+def failing_write(place):
+    """A change that can't be appended is not answered, and nothing behind it."""
+    journal, data = due(many(3))[1], settled(range(50, 60))
+    for error in ('ENOSPC', 'EIO', 'EDQUOT'):
+        for when in (1, 3, 10):
+            place.put(journal)
+            with Talk(fault(place.path, (APPEND, error, when)) + [place.command, place.path]) as talk:
+                out, said = talk.stops(data)
+            failed(place, journal, data, out, said, when - 1)
+            keeps(place, b'report\n' + data, journal=place.got())
+
+
+@case
+def failing_batch(place):
+    """Of a part that can't be forced to disk no change is answered, and all of it is cut off."""
+    for calls in (FORCE, APPEND):
+        journal, first, data = due(many(3))[1], settled(range(50, 60)), settled(range(60, 90))
+        place.put(journal)
+        model = Model(journal)
+        with Talk(fault(place.path, (calls, 'EIO', 2)) + [place.command, '--batch', place.path]) as talk:
+            talk.ask(first, model)
+            out, said = talk.stops(data)
+        same('the answers to the second part', out, b'')
+        failed(place, journal, first + data, talk.out, said, 10)
+
+
+@case
+def failing_cut_back(place):
+    """Where the journal can't be cut back either, the call that failed is still not answered."""
+    journal, data = due(many(3))[1], settled(range(50, 60))
+    place.put(journal)
+    with Talk(fault(place.path, (FORCE, 'EIO', '2+'), (CUT, 'EIO', '1+')) + [place.command, place.path]) as talk:
+        out, said = talk.stops(data)
+    same('the answers', out, due(data, journal)[0][:len(out)])
+    same('the answered lines', out.count(b'\n'), 1)
+    holds('the acknowledged call is not in the journal', place.got().startswith(due(settled([50]), journal)[1]))
+    holds('no message on standard error', said.startswith(b'ledger: '), said)
+
+
+def unmade(place, path):
+    """The first force to disk of a path fails, while a journal is made: no journal is left, nothing is answered."""
+    refuses(place, place.path, before=fault(path, (FORCE, 'EIO', 1)))
+    keeps(place, b'admit 1 2\ncalls\n')
+
+
+@case
+def failing_fsync_of_a_new_journal(place):
+    """A journal that can't be forced to disk when it is made is not left."""
+    unmade(place, place.path)
+
+
+@case
+def failing_fsync_of_the_directory(place):
+    """A journal whose directory can't be forced to disk when it is made is not left."""
+    unmade(place, place.folder)
+
+
+# ---- the order of the calls of the system
+
+def trace(place, words, data):
+    """Runs the ledger from a file to a file. Gives the calls of the system on those and the journal: name, file, result."""
+    strace()
+    place.put(data, 'input')
+    with open(place.at('input'), 'rb') as inward, open(place.at('output'), 'wb') as outward:
+        _, said = place.run(*words, stdin=inward, stdout=outward, before=[
+            'strace', '-f', '-qq', '-y', '-s', '0', '-o', place.at('trace'), '-e', 'trace=read,write,pwrite64,writev,fdatasync,fsync'])
+    same('on standard error', said, b'')
+    found = re.findall(r'^\d+ +(\w+)\(\d+<([^>]*)>.*?\) += (-?\d+)', place.got('trace').decode(), re.M)
+    return [(call, os.path.basename(path), int(result)) for call, path, result in found]
+
+
+def needs(data):
+    """For each byte of the answers to an input how long the journal on disk has to be before it: 0 where it belongs to no change."""
+    model, found, length = Model(), [], 0
+    for line in data.split(b'\n')[:-1]:
+        kept, answer = len(model.lines), model.answer(line)
+        more = sum(len(line) + 1 for line in model.lines[kept:])
+        length += more
+        found += [length if more else 0] * (len(answer) + 1 if answer is not None else 0)
+    return found
+
+
+def in_order(place, words, data):
+    """A run on a new journal: no byte of an answer to a change is written before a force to disk that follows the append of its line. Gives the
+    counts of reads, appends and forces."""
+    calls = trace(place, words, data)
+    same('the answers', place.got('output'), due(data)[0])
+    same('the journal', place.got(), due(data)[1])
+    due_at, appended, forced, answered = needs(data), 0, 0, 0
+    counts = {'read': 0, 'append': 0, 'force': 0}
+    for call, name, result in calls:
+        holds(f'{call} of {name} failed', result >= 0)
+        if name == 'book.journal' and 'write' in call:
+            appended, counts['append'] = appended + result, counts['append'] + 1
+        elif name == 'book.journal' and 'sync' in call:
+            counts['force'] += appended > forced
+            forced = appended
+        elif name == 'input' and result:
+            counts['read'] += 1
+        elif name == 'output':
+            least = max(due_at[answered:answered + result], default=0)
+            holds(f'an answer at byte {answered} when {appended} bytes were appended and {forced} forced, due are {least}', forced >= least)
+            answered += result
+    return counts
+
+
+@case
+def order_of_the_calls(place):
+    """Every answer to a change is written after its line was appended and then forced to disk; each change has its own force."""
+    data = CALLS + settled(range(30)) + b'report\n' * 3 + settled(range(90, 99))
+    counts = in_order(place, [place.path], data)
+    changes = due(data)[1].count(b'\n')
+    same('appends and forces', (counts['append'], counts['force']), (changes, changes))
+
+
+@case
+def order_of_a_batch(place):
+    """With --batch the changes that were read at once have one append and one force, and still no answer comes before."""
+    data = many(250)
+    counts = in_order(place, ['--batch', place.path], data)
+    same('reads, appends and forces', (counts['read'], counts['append'], counts['force']), (1, 1, 1))
+    os.remove(place.path)
+    data = many(6000)
+    counts = in_order(place, ['--batch', place.path], data)
+    holds('more appends or forces than reads', max(counts['append'], counts['force']) <= counts['read'], counts)
+
+
+@case
+def batch_with_many_answers(place):
+    """A part whose answers are far longer than itself is answered in order and never before it is on disk."""
+    lines = [b'fresh 2021-02-01'] + [b'admit %d 3' % p for p in range(64)]
+    for n in range(150):
+        lines += [b'settle 0 2020-10 %d 0 0 0 0' % n, b'report', b'report', b'frob', b'admit 0 0']
+    data = joined(lines)
+    in_order(place, ['--batch', place.path], data)
+
+
+STEPS = ('openat', 'read', 'write', 'fdatasync', 'fsync', 'close', 'fstat', 'newfstatat', 'stat', 'ftruncate', 'unlink', 'link', 'rename')
+
+
+def killed(place, step, when, data):
+    """Kills the ledger as it is about to make a call of the system for the n-th time on the journal, its lock, its directory or its output. Gives
+    what it answered."""
+    words = strace('-e', f'trace=?{step}', '-e', f'inject=?{step}:signal=KILL:when={when}')
+    for path in (place.path, place.lock, place.folder, place.at('output')):
+        words += ['-P', path]
+    with open(place.at('output'), 'wb') as outward:
+        subprocess.run(words + [place.command, place.path], input=data, stdout=outward, stderr=subprocess.DEVNULL, timeout=PATIENCE)
+    return place.got('output')
+
+
+def restarts(place, journal, rest, data, out):
+    """After a kill: the journal has what was acknowledged and at most one change more, and the next start goes on from there."""
+    model = Model(journal)
+    acknowledged(model, data, out)
+    found, whole = place.got() or b'', due(data, journal)[1]
+    if out or found != journal + rest:
+        holds('the journal', whole.startswith(found) and found[-1:] in (b'', b'\n'), found)
+        holds('not one change more', found.count(b'\n') - journal.count(b'\n') - len(model.lines) in (0, 1), found)
+    found = found[:found.rfind(b'\n') + 1]
+    same('the answers after a start', place.keep(b'report\n')[0], due(b'report\n', found)[0])
+    same('the journal after a start', place.got(), found)
+    same('the lock that is left', place.got('book.journal.lock'), None)
+
+
+@case
+def killed_at_every_step(place):
+    """Killed before any of its calls of the system, the ledger leaves what was acknowledged and at most one change more, and starts again."""
+    data = b'calls\n' + many(3)
+    for journal, rest in ((b'', b''), (b'fresh 397\nadmit 0 3\n', b'adm')):
+        for step in STEPS:
+            for when in (1, 2, 3, 4, 6):
+                if journal:
+                    place.put(journal + rest)
+                try:
+                    restarts(place, journal, rest, data, killed(place, step, when, data))
+                except Wrong as wrong:
+                    raise Wrong(f'killed before {step} {when}, {len(journal)} bytes of journal: {wrong}')
+                os.remove(place.path)
+
+
+# ---- what is no file, and what may not be used
+
+@case
+def device(place):
+    """A device is no journal."""
+    for name in ('null', 'full', 'zero'):
+        os.symlink(f'/dev/{name}', place.at(name))
+        refuses(place, place.at(name), texts=[place.at(name).encode()])
+
+
+@case
+def named_pipe(place):
+    """A pipe is no journal, and is not waited for, be it read or kept."""
+    os.mkfifo(place.path)
+    refuses(place, place.path, texts=[place.path.encode()])
+    refuses(place, '--read', place.path, texts=[place.path.encode()])
+
+
+@case
+def directory(place):
+    """A directory is no journal, with or without a slash behind its name, nor is a name in no directory."""
+    os.mkdir(place.at('inner'))
+    for name in (place.at('inner'), place.at('inner') + '/', place.at('absent') + '/', place.at('absent/journal')):
+        refuses(place, name, texts=[name.encode()])
+        refuses(place, '--read', name, texts=[name.encode()])
+    same('what is in it', os.listdir(place.at('inner')), [])
+
+
+@case
+def empty_name(place):
+    """An empty name is no journal, and no lock is left."""
+    refuses(place, '', cwd=place.folder)
+    refuses(place, '--read', '', cwd=place.folder)
+
+
+@case
+def unwritable_directory(place):
+    """Where no file may be made, the message says that permission is denied; an old journal isn't kept there either, since it can't be locked."""
+    place = lent(place)
+    os.chmod(place.folder, 0o555)
+    refuses(place, place.path, texts=[place.path.encode(), b'Permission denied'], preexec_fn=as_nobody)
+    os.chmod(place.folder, 0o755)
+    place.put(b'admit 0 0\n')
+    os.chmod(place.path, 0o666)
+    os.chmod(place.folder, 0o555)
+    refuses(place, place.path, texts=[place.path.encode(), b'Permission denied'], preexec_fn=as_nobody)
+
+
+@case
+def unwritable_journal(place):
+    """A journal that may not be written or read is not kept, and the message says that permission is denied."""
+    place = lent(place)
+    for mode in (0o444, 0o000):
+        place.put(b'admit 0 0\n')
+        os.chmod(place.path, mode)
+        refuses(place, place.path, texts=[place.path.encode(), b'Permission denied'], preexec_fn=as_nobody)
+        os.remove(place.path)
+
+
+@case
+def read_only_file_system(place):
+    """On a file system that may only be read, the message says so, and --read works."""
+    with disk(place, 'size=64k') as small:
+        small.put(b'admit 0 0\n')
+        if subprocess.run(['mount', '-o', 'remount,ro', small.folder], stderr=subprocess.DEVNULL).returncode:
+            raise Skip('no mount is permitted')
+        for name in ('book.journal', 'another'):
+            refuses(small, small.at(name), texts=[small.at(name).encode(), b'Read-only file system'])
+        reads(small, b'report\nadmit 1 1\n')
+
+
+@case
+def long_names(place):
+    """A name that is too long for the journal or for its lock is refused as that, and the longest that fits is kept."""
+    for size in (251, 255, 256, 300):
+        refuses(place, place.at('n' * size), texts=[b'File name too long'])
+    same('the answers for a name of 250', place.run(place.at('n' * 250), data=b'admit 0 0\n'), (b'done\n', b''))
+    same('the files', place.names(), ['n' * 250])
+    for size in (4096, 4097, 5000, 8192, 9000, 70000):
+        refuses(place, path_of(place, size), texts=[b'File name too long'])
+    same('the answers for a path of 4,090', place.run(path_of(place, 4090), data=b'admit 0 0\n'), (b'done\n', b''))
+    same('the files', len(place.names()), 2)
+
+
+def path_of(place, size):
+    """A path of so many bytes to a file in the folder, by many ways to stay there."""
+    rest = size - len(place.folder) - 1
+    return place.folder + '/' + './' * ((rest - 100) // 2) + 'n' * (100 + rest % 2)
+
+
+# ---- options
+
+@case
+def bail(place):
+    """--bail stops behind the first refusal or error, whose answer is printed; what stands behind it is not kept."""
+    for data in (CALLS, many(20), many(20) + b'frob\n' + many(5), many(20) + b'admit 0 0\n' + settled([7]), b'frob\n', b'x' * 200000 + b'\nadmit 0 0\n'):
+        same('the answers of the filter', place.run('--bail', data=data), (filtered(data, bail=True), b''))
+        for words in ((), ('--batch',)):
+            keeps(place, data, '--bail', *words, bail=True)
+            os.remove(place.path)
+    with place.talk('--bail', place.path) as talk:
+        same('the answer', talk.stops(b'admit 0 0\nfrob\nadmit 1 1\n'), (b'done\nerror 2 no such call\n', b''))
+    same('the journal', place.got(), b'admit 0 0\n')
+
+
+@case
+def end(place):
+    """--end writes the count of lines and of those accepted behind the last answer, whatever the input's last line is."""
+    for data in (b'', b'\n', b'\n\n# a comment\nreport\n', CALLS, many(20), b'frob\n', b'frob', b'calls', b'admit 0 0\nadmit 0 0\nadmit 1 1',
+                 b'x' * 70000 + b'\n'):
+        same('the answers of the filter', place.run('--end', data=data), (filtered(data, end=True), b''))
+        for words in ((), ('--batch',)):
+            keeps(place, data, '--end', *words, end=True)
+            os.remove(place.path)
+
+
+@case
+def bail_and_end(place):
+    """There is no end line behind a refusal that stopped the ledger, and there is one where nothing did."""
+    for data in (CALLS, many(20), many(20) + b'frob\n', b'admit 0 0\nadmit 1 1'):
+        same('the answers of the filter', place.run('--bail', '--end', data=data), (filtered(data, True, True), b''))
+        for words in ((), ('--batch',)):
+            keeps(place, data, '--end', *words, '--bail', bail=True, end=True)
+            os.remove(place.path)
+
+
+@case
+def no_end_after_a_failure(place):
+    """Where the journal can't be written, there is no end line."""
+    place.put(b'admit 0 3\n')
+    for words in ((), ('--batch',)):
+        out, said = place.keep(b'admit 1 1\nadmit 2 2\n', '--end', *words, before=fault(place.path, (APPEND, 'EIO', 1)))
+        same('the answers', out, b'')
+        same('the journal', place.got(), b'admit 0 3\n')
+        holds('no message on standard error', said.startswith(b'ledger: ') and place.path.encode() in said, said)
+
+
+@case
+def batch(place):
+    """--batch gives the same answers and the same journal, of a file and of a pipe in any parts."""
+    data = CALLS + settled(range(400)) + CALLS
+    keeps(place, data, '--batch')
+    os.remove(place.path)
+    for size in (1, 7, 100, 4096):
+        with place.talk('--batch', place.path) as talk:
+            for at in range(0, len(data[:200 * size]), size):
+                talk.send(data[at:min(at + size, 200 * size)])
+            answers = talk.end()
+        part = data[:200 * size]
+        same('the answers', answers, (due(part)[0], b''))
+        same('the journal', place.got(), due(part)[1])
+        os.remove(place.path)
+    same('the answers of the filter', place.run('--batch', data=data), (filtered(data), b''))
+
+
+def reads(place, data, *words, bail=False, end=False, **ways):
+    """A run of --read: the answers are due, and nothing is made or changed."""
+    book, before = ledger.Read(), snapshot(place.folder)
+    book.replay(place.got())
+    book.begin(bail)
+    answers = ledger.answers(data, book) + (ledger.ended(book) if end else b'')
+    same('the answers', place.run(*words, '--read', place.path, data=data, **ways), (answers, b''))
+    same('the files', snapshot(place.folder), before)
+
+
+@case
+def read(place):
+    """--read answers questions, and every change as one; nothing is made or changed."""
+    for journal in (b'', due(CALLS)[1], CALLS[:7], ledger.MARK + b'admit 0 0\n', many(3000)):
+        place.put(journal)
+        reads(place, CALLS)
+        reads(place, b'report\n' + CALLS + b'fresh 99999\n', '--end', end=True)
+        reads(place, b'report\nadmit 1 1\ncalls\n', '--bail', '--end', bail=True, end=True)
+    refuses(place, '--read', place.at('absent'), texts=[place.at('absent').encode(), b'No such file or directory'])
+    place.put(b'admit 0 0\nadmit 0 0\n')
+    refuses(place, '--read', place.path, texts=[f'ledger: {place.path}: line 2: refused 3\n'.encode()])
+
+
+@case
+def read_while_it_is_kept(place):
+    """--read works beside the ledger that keeps the journal, and each run of it sees what was acknowledged before."""
+    model = Model()
+    with place.talk() as talk:
+        for data in (many(5), settled(range(50, 60)), b'advance 2021-03-01 5\n'):
+            talk.ask(data, model)
+            reads(place, b'report\ncalls\nstatement 0\nadmit 1 1\n')
+        same('the end of the first', talk.end(), (b'', b''))
+    same('the journal', place.got(), model.appended())
+
+
+@case
+def read_a_torn_journal(place):
+    """--read passes over a rest behind the last newline and leaves it."""
+    for rest in (b'a', b'admit 1 1', b'x' * 200000):
+        place.put(b'admit 0 0\n' + rest)
+        before = snapshot(place.folder)
+        same('the answers', place.run('--read', place.path, data=b'report\n')[0], due(b'report\n', b'admit 0 0\n')[0])
+        same('the files', snapshot(place.folder), before)
+
+
+@case
+def read_without_the_right_to_write(place):
+    """--read needs only the right to read, of the journal and of its directory."""
+    place = lent(place)
+    place.put(due(CALLS)[1])
+    os.chmod(place.path, 0o444)
+    os.chmod(place.folder, 0o555)
+    reads(place, b'report\nstatement 0\nadmit 1 1\n', preexec_fn=as_nobody)
+    os.chmod(place.path, 0o000)
+    refuses(place, '--read', place.path, texts=[place.path.encode(), b'Permission denied'], preexec_fn=as_nobody)
+
+
+@case
+def options_behind_the_name(place):
+    """Options stand before or behind the journal's name."""
+    data = CALLS
+    for words in (('--end', '--bail', place.path), (place.path, '--end', '--bail'), ('--bail', place.path, '--end'),
+                  ('--batch', place.path, '--bail', '--end')):
+        same('the answers', place.run(*words, data=data), (due(data, bail=True, end=True)[0], b''))
+        same('the journal', place.got(), due(data, bail=True, end=True)[1])
+        os.remove(place.path)
+    place.put(b'admit 0 0\n')
+    answers = place.run('--read', '--end', place.path, data=b'report\n')
+    for words in ((place.path, '--read', '--end'), ('--end', place.path, '--read')):
+        same('the answers', place.run(*words, data=b'report\n'), answers)
+    holds('there is no end line', answers[0].endswith(b'end 1 1\n'), answers[0])
+
+
+@case
+def usage_asked_for(place):
+    """--help and -h write the usage to standard output, --version a line, and nothing is made."""
+    for word in ('--help', '-h'):
+        out, said = place.run(word, data=b'admit 0 0\n')
+        same('on standard error', said, b'')
+        for text in (b'ledger', b'--bail', b'--end', b'--batch', b'--read', b'JOURNAL'):
+            holds(f'{word}: no {text} in the usage', text in out, out)
+    out, said = place.run('--version', data=b'admit 0 0\n')
+    holds('the version', re.fullmatch(rb'ledger [0-9]+(\.[0-9]+)+\n', out), out)
+    same('on standard error', said, b'')
+    same('the files', place.names(), [])
+
+
+@case
+def usage_after_a_mistake(place):
+    """An unknown option, a second journal, or --read without one gives the usage on standard error, and does nothing else."""
+    for words in (('--frob',), ('-x',), ('-',), ('--',), ('--end=1',), ('--en',), ('--frob', place.path), (place.path, '--frob'), (place.path, place.at('b')),
+                  ('--read',), ('--read', place.path, place.at('b')), ('--bail', '--read'), (place.path, place.path), ('--end', place.path, '-v')):
+        before = snapshot(place.folder)
+        out, said = place.run(*words, data=b'admit 0 0\ncalls\n', cwd=place.folder)
+        same(f'{words[-2:]}: the answers', out, b'')
+        same(f'{words[-2:]}: the files', snapshot(place.folder), before)
+        holds(f'{words[-2:]}: no usage on standard error', b'JOURNAL' in said, said)
+
+
+# ---- all of them
+
+def tried(command, name, function, where):
+    """Runs a case in a folder of its own. Gives what differs, or None, and prints how it went."""
+    what = None
+    with tempfile.TemporaryDirectory(prefix='case-', dir=where, ignore_cleanup_errors=True) as folder:
+        os.chmod(folder, 0o755)
+        try:
+            function(Place(command, os.path.realpath(folder)))
+            print(f'case {name}: ok', flush=True)
+        except Skip as skip:
+            print(f'case {name}: skipped, {skip}', flush=True)
+        except (Wrong, OSError, ValueError) as wrong:
+            what = str(wrong) if isinstance(wrong, Wrong) else f'{type(wrong).__name__}: {wrong}'
+            print(f'case {name}: {what}'[:1500].replace(folder, 'FOLDER'), flush=True)
+        for inner, _, _ in os.walk(folder):         # so that it can be removed
+            os.chmod(inner, 0o755)
+    return what
+
+
+def run(command, where=None, only=None):
+    """Runs the cases, all or those whose names are given. Gives how many differ."""
+    chosen = [(name, function) for name, function in CASES if not only or name in only]
+    wrong = [name for name, function in chosen if tried(command, name, function, where)]
+    print(f'{len(chosen)} cases, {len(wrong)} differ', flush=True)
+    return len(wrong)
