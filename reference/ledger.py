@@ -341,7 +341,7 @@ class Kept(Filter):
             self.first_only(call)
             answer = self.ledger.make(call)
         except Fault as fault:
-            raise Stop(f'line {number}: {fault}')
+            raise Stop(f'line {number}: error {number} {fault}')
         if refused(answer):
             raise Stop(f'line {number}: {answer}')
         self.any |= call[0] not in QUESTIONS

@@ -419,7 +419,7 @@ def byte_order_mark_of_a_journal(place):
     keeps(place, ledger.MARK + b'calls\nadmit 1 1\n', journal=ledger.MARK + b'fresh 5\nadmit 0 0\n')
     keeps(place, ledger.MARK + b'fresh 7\nadmit 1 1\nreport\n', journal=b'')
     place.put(b'fresh 5\n' + ledger.MARK + b'admit 0 0\n')
-    refuses(place, place.path, texts=[f'{place.path}: line 2: no such call'.encode()])
+    refuses(place, place.path, texts=[f'{place.path}: line 2: error 2 no such call'.encode()])
 
 
 @case
@@ -473,7 +473,7 @@ def long_lines_of_a_journal(place):
     keeps(place, b'report\n', journal=b'admit 0 0'.ljust(65535) + b'\n' + b'admit 1 0'.ljust(65535) + b'\nadmit 2 0\n')
     for size in (65536, 200000):
         place.put(b'admit 3 0\n' + b'admit 0 0'.ljust(size) + b'\nadmit 1 0\n')
-        refuses(place, place.path, texts=[f'ledger: {place.path}: line 2: line too long\n'.encode()])
+        refuses(place, place.path, texts=[f'ledger: {place.path}: line 2: error 2 line too long\n'.encode()])
 
 
 @case
@@ -640,9 +640,9 @@ def rest_that_is_not_dropped(place):
 @case
 def journal_that_does_not_replay(place):
     """A line that is refused or no call stops the ledger with nothing changed, a rest behind it too."""
-    for journal, said in ((b'admit 0 0\n\nadmit 0 0\n', 'line 3: refused 3'), (b'admit 0 0\nfrob\nadmit 1 0\n', 'line 2: no such call'),
-                          (b'admit 0 0\nfresh 5\n', 'line 2: fresh is not the first call'), (b'statement 0\n', 'line 1: refused 2'),
-                          (b'admit 0 0\nadmit 64 0\nadm', 'line 2: refused 1'), (b'admit 0 0\nadmit 1\x00 0\nx', 'line 2: a control byte'),
+    for journal, said in ((b'admit 0 0\n\nadmit 0 0\n', 'line 3: refused 3'), (b'admit 0 0\nfrob\nadmit 1 0\n', 'line 2: error 2 no such call'),
+                          (b'admit 0 0\nfresh 5\n', 'line 2: error 2 fresh is not the first call'), (b'statement 0\n', 'line 1: refused 2'),
+                          (b'admit 0 0\nadmit 64 0\nadm', 'line 2: refused 1'), (b'admit 0 0\nadmit 1\x00 0\nx', 'line 2: error 2 a control byte'),
                           (many(3000) + b'admit 0 0\n', 'line 3003: refused 3')):
         place.put(journal)
         refuses(place, place.path, texts=[f'ledger: {place.path}: {said}\n'.encode()])
@@ -1282,8 +1282,14 @@ def reads(place, data, *words, bail=False, end=False, **ways):
     book.replay(place.got())
     book.begin(bail)
     answers = ledger.answers(data, book) + (ledger.ended(book) if end else b'')
-    same('the answers', place.run(*words, '--read', place.path, data=data, **ways), (answers, b''))
+    same('the answers', place.run(*words, '--read', place.path, data=data, **ways), (answers, passed_over(place)))
     same('the files', snapshot(place.folder), before)
+
+
+def passed_over(place):
+    """What is said of a rest behind the last newline of a journal that is read."""
+    whole = place.got().endswith(b'\n') or not place.got()
+    return b'' if whole else f'ledger: {place.path}: the last line has no end and is passed over\n'.encode()
 
 
 @case
@@ -1313,12 +1319,15 @@ def read_while_it_is_kept(place):
 
 @case
 def read_a_torn_journal(place):
-    """--read passes over a rest behind the last newline and leaves it."""
-    for rest in (b'a', b'admit 1 1', b'x' * 200000):
+    """--read passes over a rest behind the last newline and leaves it; what is no rest of a kept line stops it."""
+    for rest in (b'a', b'admit 1 1', b'x' * 8191):
         place.put(b'admit 0 0\n' + rest)
         before = snapshot(place.folder)
         same('the answers', place.run('--read', place.path, data=b'report\n')[0], due(b'report\n', b'admit 0 0\n')[0])
         same('the files', snapshot(place.folder), before)
+    for journal in (b'admit 0 0\n' + b'x' * 8192, b'admit 0 0\n' + b'x' * 200000, b'no journal'):
+        place.put(journal)
+        refuses(place, '--read', place.path, texts=[f'ledger: {place.path}: line {journal.count(10) + 1}: '.encode()])
 
 
 @case

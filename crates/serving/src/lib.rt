@@ -73,7 +73,8 @@ fn keep(book: &mut [u64], options: Options, name: &[u8])
     storage::close_kept(name, journal);
 }
 
-// Replays the journal with this name, and then answers the questions of standard input to its end.
+// Replays the journal with this name, and then answers the questions of standard input to its end. No call is counted as kept there, so that a
+// `fresh` is an error like every other change.
 fn read(book: &mut [u64], options: Options, name: &[u8])
     requires { ⌜ WellFormed (now book) ⌝ }
     ensures { λ r. ⌜ WellFormed (now (book .exit)) ⌝ }
@@ -87,7 +88,7 @@ fn read(book: &mut [u64], options: Options, name: &[u8])
     if !replayed.ok {
         return;
     }
-    answer_behind(book, replayed.kept, delivery::no_journal(), options, name);
+    answer_behind(book, 0, delivery::no_journal(), options, name);
 }
 
 // The ledger with a journal: the standard streams must be open, or the journal's file would take the place of one.
