@@ -1,19 +1,19 @@
 -- The special guarantee of lists in a row: parts of the row, marks, and their number.
 -- Assumes nothing.
-use Prim.Native.Nat.{ℕ, suc, _+_, _-_, _≤_, _<_, min}
+use Prim.Native.Nat.{ℕ, _+_, _-_, _≤_, _<_, min}
 use mathlib.Core.Path.{_≡_, refl, sym, ap, _∙_}
-use mathlib.Core.Bool.{Bool, true, false, cond, not, _||_, false≢true}
+use mathlib.Core.Bool.{true, false, false≢true}
 use mathlib.Core.List.{List, [], _∷_, _++_, map, map-append}
 use native.Mathlib.Numerals.{add-one}
 use native.Mathlib.Omega.{arith}
-use borrow.Author.Tests.{ltb-true, ltb-false, lt-ltb, ne-eqb}
+use borrow.Author.Tests.{ltb-true, ltb-false, ne-eqb}
 use mir.Facts.{toZ-ofZ}
 use mir.Syntax.{w64}
 use mir.Val.{SFits, toZ, ofZ}
-use lib.Dec.{ltb, eqb}
+use lib.Dec.{ltb}
 use lib.IntN.{ℤ, pos, negsuc, natAbs}
 use lib.Signed.{ltZ}
-use lib.ListN.{length, getD, set, take, drop, length-drop, length-take, length-map, length-set}
+use lib.ListN.{length, getD, set, take, drop, length-drop, length-map, length-set}
 use lib.Seq.{take-suc, take-set-le, take-all, getD-set-same}
 use Rattle.laws.specs.Cases.{split}
 use Rattle.laws.specs.Clipped.{drop-clipped}

@@ -3,13 +3,13 @@
 -- Assumes nothing.
 use Prim.Native.Nat.{ℕ, _≤_, min}
 use mathlib.Core.Path.{_≡_, refl, sym, ap, subst, _∙_}
-use mathlib.Core.Bool.{Bool, true, false, cond, _&&_}
+use mathlib.Core.Bool.{Bool, true, false, _&&_}
 use mathlib.Core.List.{List}
 use native.Mathlib.Omega.{arith}
 use lib.IntN.{ℤ}
 use lib.Dec.{ltb}
 use lib.ListN.{length, take}
-use lib.Seq.{sets, length-sets}
+use lib.Seq.{length-sets}
 use Rattle.laws.specs.Cases.{split}
 use Rattle.journal.specs.Grammar.{Parsed, parsed}
 use Rattle.journal.specs.Steps.{ParsedIs}

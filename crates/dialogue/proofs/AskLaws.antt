@@ -1,9 +1,9 @@
 -- What a line asks: its text behind a byte order mark, held back where only questions are answered or the newline lacks.
 -- Assumes nothing.
-use Prim.Native.Nat.{ℕ, _+_, _-_, _≤_, _<_}
+use Prim.Native.Nat.{ℕ, _-_, _≤_, _<_}
 use mathlib.Core.Path.{_≡_, refl, sym, ap, subst, _∙_}
 use mathlib.Core.Bool.{Bool, true, false, cond, _&&_}
-use mathlib.Core.List.{List, [], _∷_}
+use mathlib.Core.List.{List}
 use native.Mathlib.Omega.{arith}
 use borrow.Author.Tests.{ne-eqb}
 use lib.Dec.{eqb}
@@ -15,7 +15,7 @@ use Rattle.journal.specs.Grammar.{parsed}
 use Rattle.journal.proofs.Counts.{IsCall}
 use Rattle.journal.specs.declared.Reason.{Reason}
 use Rattle.journal.specs.declared.Request.{Request}
-use Rattle.answering.specs.Asked.{Asked, asked}
+use Rattle.answering.specs.Asked.{asked}
 use Rattle.answering.specs.Kept.{changes}
 use Rattle.answering.specs.Lines.{lineRequest, lineAsks, LineIs}
 use Rattle.dialogue.specs.declared.Way.{Way}

@@ -2,19 +2,19 @@
 -- Assumes nothing.
 use Prim.Native.Nat.{ℕ}
 use mathlib.Core.Path.{_≡_, refl, sym, ap, _∙_}
-use mathlib.Core.Bool.{Bool, cond, _&&_}
+use mathlib.Core.Bool.{cond, _&&_}
 use mathlib.Core.List.{List, [], _∷_, _++_}
 use Rattle.layout.specs.Book.{Book}
 use Rattle.printing.specs.declared.Answer.{Answer}
 use Rattle.answering.specs.Asked.{Asked, call, fresh, guarantee, nothing, fault, answerTo, bookAfter}
 use Rattle.answering.specs.Kept.{takes, refuses}
-use Rattle.answering.specs.Session.{bookOf, Session}
+use Rattle.answering.specs.Session.{bookOf}
 use Rattle.answering.proofs.Session.{session}
 use Rattle.dialogue.specs.declared.Way.{Way}
 use Rattle.dialogue.specs.declared.Place.{Place}
 use Rattle.dialogue.specs.Asks.{requestOf, asks}
 use Rattle.dialogue.specs.Said.{said, tabled}
-use Rattle.dialogue.specs.Turns.{State, next, further, answerOf, isKept, after, bytesOf, ended, afterAll, allBytes}
+use Rattle.dialogue.specs.Turns.{State, next, further, answerOf, isKept, after, bytesOf, ended, allBytes}
 use Rattle.dialogue.specs.Decided.{decidedAnswer, readBook, decidedTo, decidedOf, decidedPlace, decidedBytes}
 
 -- An answer is the decided one.

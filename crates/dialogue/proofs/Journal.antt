@@ -21,7 +21,6 @@ use Rattle.dialogue.specs.Dialogue.{replaying, Begins, Replayed}
 use Rattle.dialogue.proofs.CompleteLines.{line-first, rest-first}
 use Rattle.dialogue.proofs.KeptForm.{numeric-plain}
 use Rattle.dialogue.proofs.KeptAgain.{numeric-short, book-again, count-again, none-refused, line-again}
-use Rattle.dialogue.proofs.LongLine.{after-begins}
 use Rattle.dialogue.proofs.Streams.{ended-state, ended-kept, on-state, on-kept}
 
 -- ---- one line more in the journal

@@ -1,16 +1,16 @@
 -- The most bytes of a kept line: it has at most 16 numbers.
 -- Assumes nothing.
-use Prim.Native.Nat.{ℕ, zero, suc, _+_, _*_, _-_, _≤_, _<_, min}
-use mathlib.Core.Path.{_≡_, refl, sym, ap, subst, _∙_}
-use mathlib.Core.Bool.{Bool, true, false, cond, not, _||_}
+use Prim.Native.Nat.{ℕ, _+_, _*_, _-_, _≤_}
+use mathlib.Core.Path.{_≡_, refl, sym, ap, _∙_}
+use mathlib.Core.Bool.{Bool, true, false}
 use mathlib.Core.List.{List, [], _∷_, _++_, map}
 use native.Mathlib.Omega.{arith}
-use borrow.Author.Tests.{ltb-false, eqb-true}
-use lib.Dec.{ltb, eqb}
+use borrow.Author.Tests.{ltb-false}
+use lib.Dec.{ltb}
 use lib.IntN.{ℤ, pos, negsuc}
 use lib.Signed.{mag}
-use lib.ListN.{length, take, drop, length-append, length-take, length-drop, length-map}
-use Rattle.laws.specs.Cases.{split, clash, cond-true, cond-false, or-first, or-second}
+use lib.ListN.{length, take, drop, length-append, length-take, length-drop}
+use Rattle.laws.specs.Cases.{split, clash, cond-true, cond-false, or-second}
 use Rattle.laws.specs.Lists.{All}
 use Rattle.manual.specs.Figures.{wrongCount}
 use Rattle.special.specs.declared.Special.{Special}
@@ -21,15 +21,14 @@ use Rattle.file.specs.DecideLaws.{none-holds}
 use Rattle.file.specs.Settle.{settleAnswer}
 use Rattle.layout.specs.Book.{Book}
 use Rattle.book.specs.Account.{answer, fileAt, fileAnswer, ifNumbered, ifAdmitted}
-use Rattle.book.specs.Call.{Call, on, settle}
-use Rattle.journal.specs.Grammar.{areMarks, lengthList, total}
-use Rattle.journal.specs.declared.Lengths.{Lengths}
+use Rattle.book.specs.Call.{on, settle}
+use Rattle.journal.specs.Grammar.{areMarks, lengthList}
 use Rattle.journal.specs.declared.Request.{Request}
 use Rattle.journal.proofs.Counts.{countOf}
 use Rattle.printing.specs.Decimals.{decimal, integer, spaced, joined}
 use Rattle.printing.specs.PlacedLaws.{spaced-append}
 use Rattle.printing.specs.Lines.{cut, listWords, callWords, printed, Natural64, Holds, Hold, Fitting}
-use Rattle.answering.specs.Asked.{Asked, asked, answerTo, markOf, guaranteeOf, semestersOf}
+use Rattle.answering.specs.Asked.{asked, answerTo, guaranteeOf}
 use Rattle.answering.specs.Kept.{takes}
 use Rattle.answering.specs.Shown.{shown, guaranteeShown}
 use Rattle.dialogue.specs.Said.{Small}

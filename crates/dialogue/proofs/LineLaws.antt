@@ -1,20 +1,20 @@
 -- One line taken.
 -- Assumes nothing.
-use Prim.Native.Nat.{ℕ, _+_, _*_, _%_, _^_, _≤_}
+use Prim.Native.Nat.{ℕ, _+_, _%_, _^_, _≤_}
 use mathlib.Core.Path.{_≡_, refl, sym, ap, subst, _∙_}
 use mathlib.Core.Bool.{Bool, true, false, cond, _&&_}
 use mathlib.Core.List.{List, [], _∷_, _++_}
 use native.Mathlib.Omega.{arith}
 use lib.IntN.{ℤ}
 use lib.ListN.{length, length-append}
-use Rattle.laws.specs.Cases.{split, clash, by-test, cond-true, and-right}
+use Rattle.laws.specs.Cases.{split, clash, by-test, and-right}
 use Rattle.layout.specs.Book.{Book}
 use Rattle.layout.specs.Words.{bookOfWords}
 use Rattle.layout.specs.WellFormed.{WellFormed}
 use Rattle.journal.specs.Grammar.{parsed}
 use Rattle.journal.specs.Steps.{ParsedIs}
 use Rattle.journal.specs.declared.Request.{Request}
-use Rattle.journal.proofs.Counts.{countOf, IsCall, parsed-counted}
+use Rattle.journal.proofs.Counts.{IsCall, parsed-counted}
 use Rattle.printing.specs.declared.Answer.{Answer}
 use Rattle.printing.specs.Answers.{answerLine}
 use Rattle.printing.specs.Lines.{printed}
@@ -32,7 +32,7 @@ use Rattle.dialogue.specs.declared.Way.{Way}
 use Rattle.dialogue.specs.declared.Place.{Place}
 use Rattle.dialogue.specs.Asks.{textOf, heldBack, requestOf, asks, LineAsked}
 use Rattle.dialogue.specs.Said.{speaks, Spoken, said, Said, wantsTable, tabled, Tabled, Added}
-use Rattle.dialogue.specs.Turns.{State, next, counted, further, answerOf, isKept, after, bytesOf, numeric, journalOf}
+use Rattle.dialogue.specs.Turns.{next, counted, further, answerOf, isKept, after, bytesOf, numeric, journalOf}
 use Rattle.dialogue.specs.Answers.{stateOf, LineTaken}
 use Rattle.dialogue.proofs.AskLaws.{held-call}
 use Rattle.dialogue.proofs.KeptLengths.{printed-short, few}

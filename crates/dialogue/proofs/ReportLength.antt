@@ -1,21 +1,20 @@
 -- The most bytes of a report: the figures of well-formed words are sound, so that each column has its most bytes.
 -- Assumes nothing.
-use Prim.Native.Nat.{ℕ, zero, suc, _+_, _-_, _*_, _/_, _%_, _^_, _≤_, _<_}
-use mathlib.Core.Path.{_≡_, refl, sym, ap, subst, _∙_}
-use mathlib.Core.Bool.{Bool, true, false, cond, not}
+use Prim.Native.Nat.{ℕ, zero, suc, _+_, _-_, _*_, _/_, _%_, _^_, _≤_}
+use mathlib.Core.Path.{_≡_, refl, ap, _∙_}
+use mathlib.Core.Bool.{not}
 use mathlib.Core.List.{List, [], _∷_, _++_}
 use native.Mathlib.Nat.{div-le-self}
 use native.Mathlib.Omega.{arith}
 use borrow.Author.Tests.{ltb-true, ltb-false}
-use lib.Dec.{ltb, leb}
+use lib.Dec.{ltb}
 use lib.ListN.{length, getD, length-append, length-replicate, List·getD-eq-default}
-use Rattle.laws.specs.Cases.{split, by-test}
+use Rattle.laws.specs.Cases.{split}
 use Rattle.laws.specs.Lists.{all-default, table}
 use Rattle.laws.specs.Tabulated.{length-table, getD-table}
-use Rattle.words.specs.Text.{text}
 use Rattle.calendar.specs.Dates.{dateOf}
 use Rattle.calendar.specs.declared.date.Dated.{Dated}
-use Rattle.file.specs.Answer.{Answer, refused, done, called, covered, recorded, annual, opened, stated, counted, decide, statementSays}
+use Rattle.file.specs.Answer.{stated, decide}
 use Rattle.file.specs.Fields.{coverOf, shortfallOf}
 use Rattle.file.specs.KeepsPositions.{sound-cover}
 use Rattle.file.specs.Sound.{Sound}
@@ -27,14 +26,13 @@ use Rattle.layout.specs.Words.{place, fileIn, bookOfWords}
 use Rattle.layout.proofs.FileLaws.{slots-long}
 use Rattle.layout.specs.WellFormed.{SoundBook, WellFormed}
 use Rattle.book.specs.Account.{fileAt, ifNumbered, ifAdmitted, answer}
-use Rattle.book.specs.Call.{Call, statement}
 use Rattle.file.specs.Admit.{noFile}
 use Rattle.book.proofs.Functions.SoundBook.{sound-file}
 use Rattle.journal.specs.Names.{roleNames}
 use Rattle.printing.specs.Decimals.{decimal, spaced, joined}
 use Rattle.report.specs.Columns.{padded, digits, fixed}
 use Rattle.report.specs.Dates.{datedText, dateText}
-use Rattle.report.specs.Table.{widths, inColumns, tableLine, heading, roleText, lineOf, row, rows, admittedBelow, admittedCount, titleLine, reportText}
+use Rattle.report.specs.Table.{inColumns, tableLine, heading, roleText, lineOf, row, rows, admittedBelow, admittedCount, titleLine, reportText}
 use Rattle.dialogue.specs.Said.{Small}
 use Rattle.dialogue.proofs.Lengths.{number-short}
 

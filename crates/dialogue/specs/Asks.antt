@@ -2,9 +2,9 @@
 -- Assumes nothing.
 use Prim.Native.Nat.{ℕ, _≤_}
 use mathlib.Core.Path.{_≡_}
-use mathlib.Core.Bool.{Bool, true, false, cond, _&&_}
-use mathlib.Core.List.{List, []}
-use lib.Dec.{eqb, ltb}
+use mathlib.Core.Bool.{cond, _&&_}
+use mathlib.Core.List.{List}
+use lib.Dec.{eqb}
 use lib.IntN.{ℤ}
 use lib.ListN.{length, drop, getD}
 use Rattle.journal.specs.Grammar.{parsed}

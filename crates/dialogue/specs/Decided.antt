@@ -1,7 +1,7 @@
 -- The answers that the reading of the history decides, with no book but that of the readings.
 -- Assumes nothing.
 use Prim.Native.Nat.{ℕ}
-use mathlib.Core.Bool.{Bool, cond, _&&_}
+use mathlib.Core.Bool.{cond, _&&_}
 use mathlib.Core.List.{List, [], _∷_, _++_}
 use Rattle.layout.specs.Book.{Book}
 use Rattle.book.specs.Account.{freshAnswer}

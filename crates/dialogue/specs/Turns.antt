@@ -1,14 +1,14 @@
 -- Lines taken in turn: what each asks and is answered, the state that it leaves, the bytes that it adds to the answers and to the journal.
 -- Assumes nothing.
 use Prim.Native.Nat.{ℕ, _+_, _%_, _^_}
-use mathlib.Core.Bool.{Bool, true, false, cond, _&&_}
+use mathlib.Core.Bool.{Bool, false, cond, _&&_}
 use mathlib.Core.List.{List, [], _∷_, _++_}
 use lib.Dec.{ltb}
 use Rattle.layout.specs.Book.{Book}
 use Rattle.journal.specs.Grammar.{parsed}
 use Rattle.printing.specs.declared.Answer.{Answer}
 use Rattle.printing.specs.Lines.{printed}
-use Rattle.answering.specs.Asked.{Asked, answerTo, bookAfter}
+use Rattle.answering.specs.Asked.{answerTo, bookAfter}
 use Rattle.answering.specs.Kept.{takes, refuses}
 use Rattle.dialogue.specs.declared.Way.{Way}
 use Rattle.dialogue.specs.declared.Place.{Place}

@@ -1,3 +1,5 @@
+-- `dialogue::lines::next_number` meets its contract: a sum of 64 bits.
+-- Assumes nothing.
 use Rattle.dialogue.proofs.LineLaws.{next-is}
 use borrow.Author.Needs.{needs}
 use Rattle.dialogue.proofs.lines.next_number.Statement.{statement}

@@ -1,3 +1,5 @@
+-- `dialogue::said::put_said` meets its contract: a line where the answer says something, else nothing.
+-- Assumes nothing.
 use Rattle.dialogue.proofs.LineLaws.{said-line, said-none}
 use borrow.Author.Needs.{needs}
 use Rattle.dialogue.proofs.said.put_said.Statement.{statement}

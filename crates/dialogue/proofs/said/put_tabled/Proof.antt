@@ -1,3 +1,5 @@
+-- `dialogue::said::put_tabled` meets its contract: the table where it is asked for, else nothing.
+-- Assumes nothing.
 use Rattle.dialogue.proofs.LineLaws.{tabled-book, tabled-none}
 use borrow.Author.Needs.{needs}
 use Rattle.dialogue.proofs.said.put_tabled.Statement.{statement}
