@@ -11,7 +11,7 @@ use lib.Dec.{ltb}
 use lib.ListN.{length, take}
 use lib.Seq.{length-sets}
 use Rattle.laws.specs.Cases.{split}
-use Rattle.journal.specs.Grammar.{Parsed, parsed}
+use Rattle.journal.specs.Grammar.{parsed}
 use Rattle.journal.specs.Steps.{ParsedIs}
 use Rattle.journal.specs.declared.Reason.{Reason}
 use Rattle.journal.specs.declared.Request.{Request}
@@ -20,8 +20,6 @@ use Rattle.journal.proofs.Counts.{countOf, IsCall, parsed-counted}
 use Rattle.answering.specs.Asked.{asked}
 use Rattle.answering.specs.Kept.{numbersIn, isFresh, freshFirst}
 use Rattle.answering.specs.Lines.{lineRequest, lineAsks, LineIs}
-use Rattle.printing.specs.Lines.{Natural64, printed}
-use Rattle.printing.proofs.ParsedFits.{parsed-again}
 use Rattle.answering.proofs.OwnNumbers.{own, asked-cut}
 
 -- The numbers of a request, clipped, are those that it says it has, clipped.
@@ -119,19 +117,3 @@ call-is-parsed kept r q e c =
     split (isFresh r && ltb 0 kept)
     (λ t. let g : q ≡ Request.Error Reason.FreshLater = rw t at e in absurd (subst IsCall g c))
     (λ t. rw t at e)
-
--- The line that is kept of a line, parsed again, asks what that line asked: with `Session.replays`, the journal leads to the session's book.
-pub line-kept : (kept : ℕ) (line : List ℕ) (e f : List ℤ) (q : Request) → Natural64 (length e) → LineIs false kept line e q f → IsCall q
-    → asked (parsed (length e) (printed q (own q f)) .request) (parsed (length e) (printed q (own q f)) .numbers) ≡ lineAsks false kept (length e) line
-unfolding lineRequest lineAsks
-line-kept kept line e f q h x c =
-    let room = length e in
-    let r = parsed room line .request in
-    let zs = parsed room line .numbers in
-    let g : q ≡ r = call-is-parsed kept r q (x .request) c in
-    let p : ParsedIs (parsed room line) e r f = record { request = refl; numbers = x .numbers } in
-    let d : IsCall r = subst IsCall g c in
-    let o : own r f ≡ zs = parsed-own line e f r p d in
-    let again : parsed room (printed q (own q f)) ≡ parsed room line =
-    ap (λ (z : Request). parsed room (printed z (own z f))) g ∙ ap (λ (ys : List ℤ). parsed room (printed r ys)) o ∙ parsed-again room line h d in
-    ap (λ (z : Parsed). asked (z .request) (z .numbers)) again ∙ ap (λ (z : Request). asked z zs) (sym g ∙ x .request)

@@ -1,7 +1,7 @@
--- The claim about a whole session, and about what a kept journal holds of it.
+-- The claim about a whole session; and a line that is not kept leaves the book.
 -- Assumes nothing.
 use Prim.Native.Nat.{ℕ, _≤_}
-use mathlib.Core.Path.{_≡_, refl, sym, ap, subst, _∙_}
+use mathlib.Core.Path.{_≡_, refl, sym, ap}
 use mathlib.Core.Bool.{Bool, true, false, cond}
 use mathlib.Core.List.{List, [], _∷_}
 use native.Mathlib.Omega.{arith}
@@ -26,7 +26,7 @@ use Rattle.printing.specs.declared.Answer.{Answer}
 use Rattle.answering.specs.Shown.{shown}
 use Rattle.answering.specs.Asked.{Asked, call, fresh, guarantee, nothing, fault, answerTo, bookAfter}
 use Rattle.answering.specs.Kept.{takes}
-use Rattle.answering.specs.Session.{bookOf, Since, since, Session, keptOf, Accepted, Replays}
+use Rattle.answering.specs.Session.{bookOf, Since, since, Session}
 
 -- ---- a fresh book's answer
 
@@ -79,7 +79,7 @@ session lines =
     decided s calls b h e c =
         given b c (answer b c) (step b c) refl refl .decided s calls h (sym e)
 
--- ---- what a kept journal holds
+-- ---- what is not kept
 
 -- Whether an answer of the book tells what was asked for: a statement, or the count of calls made.
 abbrev tells : Said.Answer → Bool
@@ -152,27 +152,3 @@ not-taken b n (fresh d) h = rw (untaken (freshAnswer d) h (fresh-untold d)) refl
 not-taken b n (guarantee x) h = refl
 not-taken b n nothing h = refl
 not-taken b n (fault e) h = refl
-
--- One line more: it is kept and accepted again, or it leaves the book.
-kept-more : (a : Asked) (before : List Asked) → Replays before → Replays (a ∷ before)
-unfolding keptOf bookOf
-kept-more a before w =
-    split (takes (answerTo (bookOf before) 0 a))
-    (λ e.
-    let kept : keptOf (a ∷ before) ≡ a ∷ keptOf before = rw e in
-    record {
-      same = ap bookOf kept ∙ ap (λ (b : Book). bookAfter b a) (w .same);
-      accepted = subst Accepted (sym kept) (ap (λ (b : Book). takes (answerTo b 0 a)) (w .same) ∙ e, w .accepted);
-    })
-    (λ e.
-    let kept : keptOf (a ∷ before) ≡ keptOf before = rw e in
-    record {
-      same = ap bookOf kept ∙ w .same ∙ sym (not-taken (bookOf before) 0 a e);
-      accepted = subst Accepted (sym kept) (w .accepted);
-    })
-
--- The kept lines lead to the session's book, and each is accepted again.
-pub replays : (lines : List Asked) → Replays lines
-unfolding keptOf bookOf
-replays [] = record { same = refl; accepted = tt }
-replays (a ∷ before) = kept-more a before (replays before)

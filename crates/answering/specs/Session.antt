@@ -1,9 +1,9 @@
--- A whole session: lines answered one after the other, from the fresh book of day 0; and what a kept journal holds of it. Lists have the
--- newest line first, as lists of calls have in the book's theorem.
+-- A whole session: lines answered one after the other, from the fresh book of day 0. Lists have the newest line first, as lists of calls have
+-- in the book's theorem.
 -- Assumes nothing.
 use Prim.Native.Nat.{ℕ, _≤_}
 use mathlib.Core.Path.{_≡_}
-use mathlib.Core.Bool.{true, cond}
+use mathlib.Core.Bool.{cond}
 use mathlib.Core.List.{List, [], _∷_}
 use lib.Dec.{ltb}
 use Rattle.layout.specs.Book.{Book}
@@ -13,7 +13,6 @@ use Rattle.book.specs.Reading.Decisions.{decision, eventsOf}
 use Rattle.book.specs.Life.{Life}
 use Rattle.answering.specs.Shown.{shown}
 use Rattle.answering.specs.Asked.{Asked, call, fresh, guarantee, nothing, fault, answerTo, bookAfter}
-use Rattle.answering.specs.Kept.{takes}
 
 -- The book that lines lead to: "Before any `fresh` line the book is the fresh book of day 0".
 unfoldable pub bookOf : List Asked → Book
@@ -41,18 +40,3 @@ pub record Session (lines : List Asked) : Type 0 where
   pub life : Life (since lines .start) (since lines .calls)
   pub answered : (n : ℕ) (c : Call)
       → answerTo (bookOf lines) n (call c) ≡ shown (decision (since lines .start) (eventsOf (since lines .start) (since lines .calls)) c)
-
--- The lines that a kept journal takes.
-unfoldable pub keptOf : List Asked → List Asked
-keptOf [] = []
-keptOf (a ∷ before) = cond (takes (answerTo (bookOf before) 0 a)) (a ∷ keptOf before) (keptOf before)
-
--- Each line is accepted on the book that those before it lead to.
-abbrev pub Accepted : List Asked → Type 0
-Accepted [] = Unit {0}
-Accepted (a ∷ before) = (takes (answerTo (bookOf before) 0 a) ≡ true) × Accepted before
-
--- "no complete line is ever lost or repeated": the kept lines, replayed, lead to the book of the whole session, and none of them is refused.
-pub record Replays (lines : List Asked) : Type 0 where
-  pub same : bookOf (keptOf lines) ≡ bookOf lines
-  pub accepted : Accepted (keptOf lines)
