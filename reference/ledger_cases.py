@@ -1293,6 +1293,23 @@ def passed_over(place):
 
 
 @case
+def journal_that_is_a_stream(place):
+    """A journal that is standard input, output or error too is refused, with nothing read, written or changed."""
+    journal = b'admit 0 0\nadvance 5 5\n'
+    for number in range(3):
+        place.put(journal)
+        streams = [subprocess.PIPE] * 3
+        with open(place.path, 'rb' if number == 0 else 'ab') as file:
+            streams[number] = file
+            process = subprocess.Popen([place.command, place.path], stdin=streams[0], stdout=streams[1], stderr=streams[2])
+            out, said = process.communicate(b'statement 0\nadmit 1 0\n' if number else None, timeout=20)
+        same('the answers', out or b'', b'')
+        same('on standard error', said or b'', f'ledger: {place.path}: is standard input or output too; nothing is kept\n'.encode() if number < 2 else b'')
+        same('the journal', place.got(), journal)
+        same('the lock that is left', place.got('book.journal.lock'), None)
+
+
+@case
 def read(place):
     """--read answers questions, and every change as one; nothing is made or changed."""
     for journal in (b'', due(CALLS)[1], CALLS[:7], ledger.MARK + b'admit 0 0\n', many(3000)):

@@ -1,16 +1,14 @@
 -- A part of an input in the buffer: its lines taken, and what is left of it moved to the front.
 -- Assumes nothing.
-use Prim.Native.Nat.{ℕ, _+_, _-_, _%_, _^_, _≤_, _<_}
+use Prim.Native.Nat.{ℕ, _+_, _-_, _%_, _^_, _≤_}
 use mathlib.Core.Path.{_≡_, refl, sym, ap, subst, _∙_}
 use mathlib.Core.Bool.{Bool, true, false}
-use mathlib.Core.List.{List, _++_}
+use mathlib.Core.List.{List}
 use native.Mathlib.Omega.{arith}
-use borrow.Author.Tests.{ltb-true}
 use lib.Dec.{ltb}
 use lib.ListN.{length, take, drop, length-take, length-drop}
-use lib.Seq.{take-add, take-take, take-nil, drop-at, length-take-le}
+use lib.Seq.{take-add, take-take, drop-at, length-take-le}
 use Rattle.laws.specs.Cases.{split}
-use Rattle.layout.specs.Words.{bookOfWords}
 use Rattle.dialogue.specs.declared.Way.{Way}
 use Rattle.dialogue.specs.declared.Place.{Place}
 use Rattle.dialogue.specs.Split.{linesIn, restIn}
@@ -37,7 +35,7 @@ behind before p used begun room n t e h k =
     record { place = h ∙ ap (λ (b : Bool). knownPlace b (before .place)) e; bytes = k; journal = refl }
 
 -- Whether the lines have ended does not hang on a line that has begun.
-ended-known : (way : Way) (t : Bool) (p : Place) → ended way (knownPlace t p) ≡ ended way p
+pub ended-known : (way : Way) (t : Bool) (p : Place) → ended way (knownPlace t p) ≡ ended way p
 unfolding ended
 ended-known way t p = refl
 

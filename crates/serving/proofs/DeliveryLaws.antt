@@ -1,18 +1,17 @@
 -- What becomes of the bytes of lines.
 -- Assumes nothing.
-use Prim.Native.Nat.{ℕ, _-_, _≤_, _<_}
-use mathlib.Core.Path.{_≡_, refl, sym, ap, _∙_}
-use mathlib.Core.Bool.{Bool, true, false, cond}
-use mathlib.Core.List.{List, []}
+use Prim.Native.Nat.{ℕ, _-_}
+use mathlib.Core.Path.{_≡_, refl, _∙_}
+use mathlib.Core.Bool.{Bool, true, false}
+use mathlib.Core.List.{List}
 use native.Mathlib.Omega.{arith}
-use borrow.Author.Tests.{lt-ltb, le-ltb, eq-eqb, ne-eqb}
-use lib.Dec.{ltb, eqb}
-use lib.ListN.{length, take}
-use lib.Seq.{take-all}
+use borrow.Author.Tests.{lt-ltb, ne-eqb}
+use lib.Dec.{ltb}
+use lib.ListN.{length}
 use Rattle.laws.specs.Cases.{clash}
 use Rattle.dialogue.specs.declared.Place.{Place}
 use Rattle.storage.specs.declared.kept.Journal.{Journal}
-use Rattle.storage.specs.Kept.{grownBy, stoppedOf, Appended}
+use Rattle.storage.specs.Kept.{stoppedOf, Appended}
 use Rattle.serving.specs.Delivery.{stoppedIf, Delivered, Became}
 
 -- ---- answers

@@ -2,4 +2,6 @@ pub mod DeliveryLaws
 pub mod InputLaws
 pub mod PartLaws
 pub mod BufferLaws
+pub mod StreamLaws
+pub mod InputStream
 pub mod OptionLaws

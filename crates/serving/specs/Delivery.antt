@@ -5,7 +5,7 @@ use mathlib.Core.Path.{_≡_}
 use mathlib.Core.Bool.{Bool, true, false, cond}
 use mathlib.Core.List.{List}
 use lib.Dec.{eqb, ltb}
-use lib.IntN.{ℤ, negsuc}
+use lib.IntN.{negsuc}
 use lib.ListN.{length}
 use Rattle.dialogue.specs.declared.Place.{Place}
 use Rattle.storage.specs.declared.kept.Journal.{Journal}

@@ -3,14 +3,21 @@
 use Prim.Native.Nat.{ℕ, _+_, _-_, _%_, _^_}
 use mathlib.Core.Path.{_≡_}
 use mathlib.Core.Bool.{Bool, true, false, cond, _||_}
-use mathlib.Core.List.{List}
-use lib.Dec.{eqb, ltb}
+use mathlib.Core.List.{List, []}
+use lib.Dec.{eqb, ltb, leb}
+use lib.IntN.{ℤ, pos}
 use lib.ListN.{length, take, drop}
 use Rattle.dialogue.specs.declared.Way.{Way}
 use Rattle.dialogue.specs.Split.{linesIn, restIn}
 use Rattle.dialogue.specs.Turns.{State, ended, afterAll}
-use Rattle.dialogue.specs.Whole.{knownPlace}
+use Rattle.dialogue.specs.Whole.{knownPlace, streamAfter}
 use Rattle.serving.specs.declared.delivery.Progress.{Progress}
+
+-- One read behind the first `filled` bytes of a buffer, which was e and is f: those bytes stay as they were, and where no more is to be taken, it
+-- answers 0, as at the end of the input.
+pub record MoreRead (goesOn : Bool) (filled : ℕ) (e : List ℕ) (got : ℤ) (f : List ℕ) : Type 0 where
+  pub front : take filled f ≡ take filled e
+  pub none : goesOn ≡ false → got ≡ pos 0
 
 -- The bytes from one place up to another were moved to the front of a buffer, which was e and is f; they are r.
 pub record MovedDown (e : List ℕ) (from to r : ℕ) (f : List ℕ) : Type 0 where
@@ -44,3 +51,15 @@ pub record PartTaken (way : Way) (room : ℕ) (s : State) (e : List ℕ) (full :
   pub many : ok ≡ true → ended way (t .place) ≡ false
       → used ≡ staying (afterAll way room s (linesIn (take full e)) .place .long) (length (restIn (take full e))) (length e)
   pub front : ok ≡ true → ended way (t .place) ≡ false → take used f ≡ take used (restIn (take full e))
+
+-- An input read to its end in parts into a buffer of `most` bytes, from state s, in which no line that is too long has begun. The system says
+-- nothing of the bytes that it reads, so they are some bytes. Where all is well and the lines have not ended before the input's end, the state t
+-- is that of all complete lines of those bytes, however the parts were cut, with whether what stands behind the last newline is too long; and
+-- the buffer f begins with that rest, `used` bytes, or with nothing of it where it is too long.
+pub record InputTaken (way : Way) (room : ℕ) (s : State) (most : ℕ) (t : State) (ok : Bool) (used : ℕ) (f : List ℕ) : Type 0 where
+  pub bytes : List ℕ
+  pub book : ok ≡ true → ended way (t .place) ≡ false → t .book ≡ streamAfter most way room s (linesIn bytes) .book
+  pub place : ok ≡ true → ended way (t .place) ≡ false
+      → t .place ≡ knownPlace (leb most (length (restIn bytes))) (streamAfter most way room s (linesIn bytes) .place)
+  pub many : ok ≡ true → ended way (t .place) ≡ false → used ≡ cond (leb most (length (restIn bytes))) 0 (length (restIn bytes))
+  pub rest : ok ≡ true → ended way (t .place) ≡ false → take used f ≡ cond (leb most (length (restIn bytes))) [] (restIn bytes)

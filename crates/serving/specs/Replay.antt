@@ -1,7 +1,7 @@
 -- What may stand behind the last newline of a journal.
 -- Assumes nothing.
 use Prim.Native.Nat.{ℕ}
-use mathlib.Core.Bool.{Bool, cond, not, _&&_, _||_}
+use mathlib.Core.Bool.{Bool, not, _&&_, _||_}
 use lib.Dec.{ltb}
 use Rattle.dialogue.specs.declared.Place.{Place}
 

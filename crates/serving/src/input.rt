@@ -1,12 +1,12 @@
 // An input, read in parts to its end.
 ghost use mathlib.Core.Path.{_≡_};
-ghost use mathlib.Core.Bool.{_&&_, not};
+ghost use mathlib.Core.Bool.{true, false, _&&_, not};
 ghost use Prim.Native.Nat.{_≤_, _<_};
 ghost use lib.ListN.{length};
 ghost use Rattle.layout.specs.WellFormed.{WellFormed};
 ghost use Rattle.dialogue.specs.Turns.{ended};
 ghost use Rattle.dialogue.specs.Answers.{stateOf};
-ghost use Rattle.serving.specs.Input.{MovedDown, isLong, staying as Input·staying, BehindPart, PartTaken};
+ghost use Rattle.serving.specs.Input.{MoreRead, MovedDown, isLong, staying as Input·staying, BehindPart, PartTaken, InputTaken};
 use crate::buffers;
 use crate::delivery::Progress;
 use crate::parts::Taken;
@@ -30,6 +30,7 @@ fn goes_on(progress: Progress, way: Way) -> bool
 // One read into a buffer behind what is filled; at the end of the lines nothing is read, as at the end of the input.
 fn read_more(goes_on: bool, file: i32, buffer: &mut [u8], filled: usize) -> isize
     requires { ⌜ filled ≤ length (now buffer) ⌝ }
+    ensures { λ r. ⌜ MoreRead «goes_on» filled (now (buffer .entry)) r (now (buffer .exit)) ⌝ }
 {
     if !goes_on {
         return 0;
@@ -52,7 +53,9 @@ fn move_down(buffer: &mut [u8], from: usize, to: usize) -> usize
 }
 
 // The progress once something failed.
-fn failed_progress(progress: Progress) -> Progress {
+fn failed_progress(progress: Progress) -> Progress
+    ensures { λ r. ⌜ r .journal .ok ≡ false ⌝ }
+{
     let place = progress.place;
     let mut journal = progress.journal;
     journal.ok = false;
@@ -64,7 +67,9 @@ fn failed_progress(progress: Progress) -> Progress {
 }
 
 // Where an input ends: a read that answered below 0 failed, which is said.
-fn at_end(mut progress: Progress, got: isize, silent: bool, name: &[u8]) -> Progress {
+fn at_end(mut progress: Progress, got: isize, silent: bool, name: &[u8]) -> Progress
+    ensures { λ r. ⌜ (r .journal .ok ≡ true → r ≡ progress) ⌝ }
+{
     if got < 0 {
         if silent {
             failed(name);
@@ -164,6 +169,9 @@ pub fn take_parts(
 ) -> Taken
     requires { ⌜ WellFormed (now book) × (0 < length (now buffer)) × (1024 ≤ length (now kept)) × (16384 ≤ length (now out)) ⌝ }
     ensures { λ r. ⌜ WellFormed (now (book .exit)) × (r .used < length (now (buffer .entry))) ⌝ }
+    ensures { λ r. ⌜ (progress .place .long ≡ false
+        → InputTaken way (length (now (numbers .entry))) (stateOf (now (book .entry)) (progress .place)) (length (now (buffer .entry)))
+        (stateOf (now (book .exit)) (r .progress .place)) (r .progress .journal .ok) (r .used) (now (buffer .exit))) ⌝ }
 {
     let mut filled = 0;
     let mut reads: u64 = 0;

@@ -9,6 +9,7 @@ use crate::files::checked;
 use crate::files::cut;
 use crate::files::may_open;
 use crate::known::Facts;
+use crate::known::facts_at;
 use crate::known::facts_of;
 use crate::known::is_same;
 use crate::known::leads_to;
@@ -95,9 +96,34 @@ fn continued(journal: Journal, file: i32, end: u64) -> Journal
     }
 }
 
+// Whether a descriptor is open on the file at a name.
+fn leads_from(file: i32, name: &[u8]) -> bool {
+    let facts = facts_at(name);
+    if !facts.ok {
+        return false;
+    }
+    is_same(facts_of(file), facts.device, facts.inode)
+}
+
+// Whether a name leads to the file of a standard stream, which is said: what is kept would be read again, or answers would stand among the calls.
+// Where it is standard error nothing is said, since that would stand there too.
+fn is_stream(name: &[u8]) -> bool {
+    if leads_from(libc::STDERR_FILENO, name) {
+        return true;
+    }
+    if leads_from(libc::STDIN_FILENO, name) | leads_from(libc::STDOUT_FILENO, name) {
+        about(name, b"is standard input or output too; nothing is kept");
+        return true;
+    }
+    false
+}
+
 // Opens the journal with a name to be kept, making it if it is absent, and takes its lock. If it can't be had that is said, and there is no lock.
 pub fn open_kept(name: &[u8]) -> Journal {
     if !may_open(name) {
+        return no_journal();
+    }
+    if is_stream(name) {
         return no_journal();
     }
     let lock = take_lock(name);

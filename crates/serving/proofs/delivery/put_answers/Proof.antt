@@ -1,6 +1,6 @@
 -- `serving::delivery::put_answers` meets its contract: where the answers were written the journal is as it was.
 -- Assumes nothing.
-use Rattle.serving.proofs.DeliveryLaws.{answered, unanswered}
+use Rattle.serving.proofs.DeliveryLaws.{unanswered}
 use borrow.Author.Needs.{needs}
 use Rattle.serving.proofs.delivery.put_answers.Statement.{statement}
 use Rattle.serving.proofs.delivery.put_answers.Tie as tie

@@ -54,7 +54,7 @@ slice-aggregate-take-last-4 : tie.Need-slice-aggregate-take-last-4
 slice-aggregate-take-last-4 c = search needs
 
 take-last-requires : tie.Need-take-last-requires
-take-last-requires c κs = (c .before .before .before .before .before .before .before .before .before .before .before .before .before .take-parts .ensures .0, omega (arith, c .before .before .before .before .before .before .before .before .before .before .before .before .before .take-parts .ensures .1, c .before .before .before .before .before .before .before .before .before .before .before .before .before .take-parts .kept), omega (arith, c .before .before .before .before .before .before .before .before .before .before .before .before .before .take-parts .kept, c .before .before .before .before .before .before .before .before .before .before .before .before .before .before .before .before .before .before .before .before .large-buffer2 .ensures), omega (arith, c .before .before .before .before .before .before .before .before .before .before .before .before .before .take-parts .kept, c .before .before .before .before .before .before .before .before .before .before .before .before .before .before .before .before .before .before .before .large-buffer3 .ensures))
+take-last-requires c κs = (c .before .before .before .before .before .before .before .before .before .before .before .before .before .take-parts .ensures .0 .0, omega (arith, c .before .before .before .before .before .before .before .before .before .before .before .before .before .take-parts .ensures .0 .1, c .before .before .before .before .before .before .before .before .before .before .before .before .before .take-parts .kept), omega (arith, c .before .before .before .before .before .before .before .before .before .before .before .before .before .take-parts .kept, c .before .before .before .before .before .before .before .before .before .before .before .before .before .before .before .before .before .before .before .before .large-buffer2 .ensures), omega (arith, c .before .before .before .before .before .before .before .before .before .before .before .before .before .take-parts .kept, c .before .before .before .before .before .before .before .before .before .before .before .before .before .before .before .before .before .before .before .large-buffer3 .ensures))
 
 goes-on-requires-2 : tie.Need-goes-on-requires-2
 goes-on-requires-2 c κs = search needs

@@ -1,6 +1,6 @@
 -- `serving::input::staying` meets its contract: the tests are those of the definition.
 -- Assumes nothing.
-use Rattle.serving.proofs.InputLaws.{stays, leaves, leaves-long}
+use Rattle.serving.proofs.InputLaws.{stays, leaves}
 use borrow.Author.Needs.{needs}
 use Rattle.serving.proofs.input.staying.Statement.{statement}
 use Rattle.serving.proofs.input.staying.Tie as tie

@@ -1,10 +1,15 @@
--- `serving::input::take_parts` meets its contract: what is filled stays below the length of the buffer. The measure is how many reads may still be made.
+-- `serving::input::take_parts` meets its contract: what is filled stays below the length of the buffer, and each turn takes one part more of the
+-- bytes read. The measure is how many reads may still be made.
 -- Assumes nothing.
 use Prim.Native.Nat.{_≤_, _<_, _-_}
 use mathlib.Core.Path.{_≡_}
+use mathlib.Core.Bool.{false}
 use native.Mathlib.Omega.{arith}
-use lib.ListN.{length, length-take}
+use lib.ListN.{length}
 use Rattle.layout.specs.WellFormed.{WellFormed}
+use Rattle.dialogue.specs.Answers.{stateOf}
+use Rattle.serving.specs.Input.{InputTaken}
+use Rattle.serving.proofs.InputStream.{none-taken, turn, ended-taken}
 use borrow.Author.Needs.{needs}
 use Rattle.serving.proofs.input.take_parts.Statement.{statement}
 use Rattle.serving.proofs.input.take_parts.Tie as tie
@@ -13,13 +18,26 @@ abbrev Inv-loop : tie.InvT-loop
 Inv-loop book₀ progress₀ way silent file name buffer₀ numbers₀ kept₀ out₀ filled₀ reads₀ book progress buffer numbers kept out filled reads =
     (reads ≤ 18446744073709551615) × (filled < length buffer) × (length book ≡ length book₀) × (length buffer ≡ length buffer₀)
     × (length numbers ≡ length numbers₀) × (length kept ≡ length kept₀) × (length out ≡ length out₀) × WellFormed book
+    × (progress₀ .place .long ≡ false
+    → InputTaken way (length numbers₀) (stateOf book₀ (progress₀ .place)) (length buffer₀) (stateOf book (progress .place)) (progress .journal .ok)
+    filled buffer)
 
 abbrev μ-loop : tie.MeasureT-loop
 μ-loop book₀ progress₀ way silent file name buffer₀ numbers₀ kept₀ out₀ filled₀ reads₀ book progress buffer numbers kept out filled reads =
     18446744073709551615 - reads
 
 loop-holds : tie.Need-loop-holds Inv-loop μ-loop
-loop-holds c = search needs
+loop-holds c = (
+  search needs,
+  search needs,
+  search needs,
+  search needs,
+  search needs,
+  search needs,
+  search needs,
+  search needs,
+  none-taken _ _ _ _ _ _ (search needs),
+)
 
 add-reads : tie.Need-add-reads Inv-loop μ-loop
 add-reads c = search needs
@@ -51,7 +69,10 @@ same-length-5 c = search needs
 returns : tie.Need-returns Inv-loop μ-loop
 returns c =
     let inv = c .before .before .before .before .before .before .before .before .loop .inv in
-    (inv .7, omega (arith, inv))
+    let got = c .before .before .before .before .read-more in (
+      (inv .7, omega (arith, inv)),
+      λ e. ended-taken _ _ _ _ _ _ _ _ _ _ (inv .8 e) (c .at-end .ensures) (got .ensures .front),
+    )
 
 sub-count : tie.Need-sub-count Inv-loop μ-loop
 sub-count c = search needs
@@ -81,6 +102,8 @@ loop-again c =
     let taken = c .before .before .before .before .before .before .before .before .before .before .take-part in
     let got = c .before .before .before .before .before .before .before .before .before .before .before .before .before .before .before .before .before .before .before .before .before .before .read-more in
     let test = c .before .before .before .before .before .before .before .before .before .before .before .before .before .before .before .before .before .before .before .before .before .before .before .before .before in
+    let on = c .before .before .before .before .before .before .before .before .before .before .before .before .before .before .before .before .before .before .before .before .before .before .before .before .goes-on in
+    let more = c .before .before .before .before .before .before .before .before .before .before .before .before .before .before .before .before .before .before .before in
     let inv = test .before .loop .inv in (
       omega (arith, test .loop-test),
       omega (arith, taken .ensures .0 .1, taken .kept),
@@ -90,6 +113,9 @@ loop-again c =
       omega (arith, taken .kept, inv),
       omega (arith, taken .kept, inv),
       taken .ensures .0 .0,
+      λ e.
+          turn _ _ _ _ _ _ _ _ _ _ _ _ _ _ _ _ _ e (inv .8 e) (on .ensures) (got .ensures) (more .if1 .left) (taken .ensures .1) (omega (arith, inv))
+          (omega (arith, got .kept, inv)),
     )
 
 same-length-6 : tie.Need-same-length-6 Inv-loop μ-loop
@@ -108,7 +134,9 @@ same-length-10 : tie.Need-same-length-10 Inv-loop μ-loop
 same-length-10 c = search needs
 
 returns-2 : tie.Need-returns-2 Inv-loop μ-loop
-returns-2 c = search needs
+returns-2 c =
+    let inv = c .before .loop .inv in
+    ((inv .7, omega (arith, inv)), inv .8)
 
 pub take-parts-spec : {M : Type 1} → statement M
 take-parts-spec =
