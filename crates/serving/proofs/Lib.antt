@@ -1,6 +1,7 @@
 pub mod DeliveryLaws
 pub mod InputLaws
 pub mod PartLaws
+pub mod GrowthLaws
 pub mod BufferLaws
 pub mod StreamLaws
 pub mod InputStream

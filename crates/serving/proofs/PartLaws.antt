@@ -31,7 +31,7 @@ unfolding linesIn restIn afterAll
 begins way room s input = record { within = omega arith; whole = refl; left = refl }
 
 -- The part as the code has it.
-part-is : (input : List ℕ) (start : ℕ) → take (length input - start) (drop start input) ≡ drop start input
+pub part-is : (input : List ℕ) (start : ℕ) → take (length input - start) (drop start input) ≡ drop start input
 part-is input start = take-all (length input - start) (drop start input) (omega (arith, length-drop start input))
 
 -- Of no bytes there is nothing to be written.
@@ -75,7 +75,7 @@ stepped way room s t input k f used j r x a b =
 
 module _ (way : Way) (room room₁ : ℕ) (s t u : State) (input : List ℕ) (start used : ℕ) (d : Draining way room s input start t)
     (x : Step way room₁ t (take (length input - start) (drop start input)) used u) (same : room₁ ≡ room) where
-  here : Step way room t (drop start input) used u
+  pub here : Step way room t (drop start input) used u
   here =
       subst (λ (n : ℕ). Step way n t (drop start input) used u) same
       (subst (λ (l : List ℕ). Step way room₁ t l used u) (part-is input start) x)
@@ -97,7 +97,7 @@ module _ (way : Way) (room room₁ : ℕ) (s t u : State) (input : List ℕ) (st
 
   module _ (none : used ≡ 0) where
     -- the state is that of the first bytes
-    at-start : u ≡ afterAll way room s (linesIn (take start input))
+    pub at-start : u ≡ afterAll way room s (linesIn (take start input))
     at-start = let e : start + used ≡ start = omega arith in rw e at (goes-on .left)
 
     -- so all lines of the part are taken

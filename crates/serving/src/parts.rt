@@ -1,8 +1,11 @@
 // All complete lines of a part of an input.
 ghost use Prim.Native.Nat.{_≤_};
-ghost use lib.ListN.{length};
+ghost use lib.ListN.{length, take};
 ghost use Rattle.layout.specs.WellFormed.{WellFormed};
+ghost use Rattle.dialogue.specs.Split.{linesIn};
+ghost use Rattle.dialogue.specs.Turns.{allJournal};
 ghost use Rattle.dialogue.specs.Answers.{stateOf};
+ghost use Rattle.serving.specs.Delivery.{Grown};
 ghost use Rattle.serving.specs.Parts.{Step, Drained};
 use crate::delivery::Progress;
 use crate::delivery::deliver;
@@ -41,6 +44,9 @@ fn take_some(
     ensures { λ r. ⌜ WellFormed (now (book .exit)) × (r .used ≤ length (now (input .entry))) ⌝ }
     ensures { λ r. ⌜ Step way (length (now (numbers .entry))) (stateOf (now (book .entry)) place) (now (input .entry)) (r .used)
         (stateOf (now (book .exit)) (r .place)) ⌝ }
+    ensures { λ r. ⌜ Grown silent journal
+        (length (allJournal way (length (now (numbers .entry))) (stateOf (now (book .entry)) place) (linesIn (take (r .used) (now (input .entry))))))
+        (r .journal) ⌝ }
 {
     let step = answer_lines(book, place, way, input, numbers, kept, out);
     let written = step.journal;
@@ -70,6 +76,9 @@ pub fn drain(
     ensures { λ r. ⌜ WellFormed (now (book .exit)) × (r .used ≤ length (now (input .entry))) ⌝ }
     ensures { λ r. ⌜ Drained way (length (now (numbers .entry))) (stateOf (now (book .entry)) (progress .place)) (now (input .entry)) (r .used)
         (stateOf (now (book .exit)) (r .progress .place)) (r .progress .journal .ok) ⌝ }
+    ensures { λ r. ⌜ Grown silent (progress .journal)
+        (length (allJournal way (length (now (numbers .entry))) (stateOf (now (book .entry)) (progress .place)) (linesIn (now (input .entry)))))
+        (r .progress .journal) ⌝ }
 {
     let mut place = progress.place;
     let mut journal = progress.journal;

@@ -41,7 +41,7 @@ same-length-5 : tie.Need-same-length-5
 same-length-5 c = search needs
 
 returns : tie.Need-returns
-returns c = ((c .before .before .before .before .before .before .before .before .before .before .before .before .before .before .before .drain .ensures .0 .0, omega (arith, c .staying .ensures .0, c .before .before .before .before .move-down .kept)), part-taken _ _ _ _ _ _ _ _ _ _ _ _ (c .before .before .before .before .before .before .before .before .before .before .before .before .before .before .before .before .before .before .before .before .before .before .before .before .before .before .pre .1) (c .before .before .before .before .before .before .before .before .before .before .before .before .before .before .before .drain .ensures .1) (c .before .before .before .before .move-down .ensures) (c .before .behind-part .ensures) (omega (arith, c .before .before .before .before .move-down .kept)) (c .staying .ensures .1))
+returns c = ((c .before .before .before .before .before .before .before .before .before .before .before .before .before .before .before .drain .ensures .0 .0, omega (arith, c .staying .ensures .0, c .before .before .before .before .move-down .kept)), part-taken _ _ _ _ _ _ _ _ _ _ _ _ (c .before .before .before .before .before .before .before .before .before .before .before .before .before .before .before .before .before .before .before .before .before .before .before .before .before .before .pre .1) (c .before .before .before .before .before .before .before .before .before .before .before .before .before .before .before .drain .ensures .1 .0) (c .before .before .before .before .move-down .ensures) (c .before .behind-part .ensures) (omega (arith, c .before .before .before .before .move-down .kept)) (c .staying .ensures .1))
 
 pub take-part-spec : {M : Type 1} → statement M
 take-part-spec =

@@ -3,9 +3,13 @@
 use Prim.Native.Nat.{_-_}
 use mathlib.Core.Path.{_≡_, sym, _∙_}
 use native.Mathlib.Omega.{arith}
-use lib.ListN.{length}
+use lib.ListN.{length, take}
 use Rattle.layout.specs.WellFormed.{WellFormed}
+use Rattle.dialogue.specs.Split.{linesIn}
+use Rattle.dialogue.specs.Turns.{allJournal}
 use Rattle.dialogue.specs.Answers.{stateOf}
+use Rattle.serving.specs.Delivery.{Grown}
+use Rattle.serving.proofs.GrowthLaws.{grown-none, grown-on, grown-all}
 use Rattle.serving.proofs.PartLaws.{Draining, begins, goes-on, drained, within-input, fewer-left}
 use borrow.Author.Needs.{needs}
 use Rattle.serving.proofs.parts.drain.Statement.{statement}
@@ -15,13 +19,14 @@ abbrev Inv-loop : tie.InvT-loop
 Inv-loop book₀ progress way silent name input numbers₀ kept₀ out₀ place₀ journal₀ start₀ book numbers kept out place journal start =
     (length numbers ≡ length numbers₀) × (length kept ≡ length kept₀) × (length out ≡ length out₀) × WellFormed book
     × Draining way (length numbers₀) (stateOf book₀ place₀) input start (stateOf book place)
+    × Grown silent journal₀ (length (allJournal way (length numbers₀) (stateOf book₀ place₀) (linesIn (take start input)))) journal
 
 abbrev μ-loop : tie.MeasureT-loop
 μ-loop book₀ progress way silent name input numbers₀ kept₀ out₀ place₀ journal₀ start₀ book numbers kept out place journal start =
     length input - start
 
 loop-holds : tie.Need-loop-holds Inv-loop μ-loop
-loop-holds c = (search needs, search needs, search needs, search needs, search (begins, needs))
+loop-holds c = (search needs, search needs, search needs, search needs, search (begins, needs), search (grown-none, needs))
 
 sub-take-some : tie.Need-sub-take-some Inv-loop μ-loop
 sub-take-some c = search needs
@@ -53,23 +58,36 @@ same-length-4 c = search needs
 returns : tie.Need-returns Inv-loop μ-loop
 returns c =
     let inv = c .before .before .before .before .before .before .before .before .before .before .before .before .before .before .before .before .before .loop .inv in
-    ((c .before .before .before .before .before .before .before .before .before .before .before .take-some .ensures .0 .0, inv .4 .within), drained _ _ _ _ _ _ _ _ _ _ (inv .4) (c .before .before .before .before .before .before .before .before .before .before .before .take-some .ensures .1) (inv .0) (c .if1 .taken))
+    let some = c .before .before .before .before .before .before .before .before .before .before .before .take-some .ensures in (
+      (some .0 .0, inv .4 .within),
+      (
+        drained _ _ _ _ _ _ _ _ _ _ (inv .4) (some .1 .0) (inv .0) (c .if1 .taken),
+        grown-all _ _ _ _ _ _ _ _ _ _ _ _ _ (inv .4) (some .1 .0) (inv .0) (inv .5) (some .1 .1) (c .if1 .taken),
+      ),
+    )
 
 add-start : tie.Need-add-start Inv-loop μ-loop
 add-start c =
     let d = c .before .before .before .before .before .before .before .before .before .before .before .before .before .before .before .before .before .loop .inv .4 in
-    let within = within-input _ _ _ _ _ _ _ _ _ d (c .before .before .before .before .before .before .before .before .before .before .before .take-some .ensures .1) in
+    let within = within-input _ _ _ _ _ _ _ _ _ d (c .before .before .before .before .before .before .before .before .before .before .before .take-some .ensures .1 .0) in
     let start = c .before .before .before .before .before .before .before .before .before .before .before .before .before .before .before .before .before .before .before .before .before .before .before .before .before in
     omega (arith, within, start .good)
 
 loop-less : tie.Need-loop-less Inv-loop μ-loop
 loop-less c =
-    fewer-left _ _ _ _ _ _ _ _ _ _ (c .before .before .before .before .before .before .before .before .before .before .before .before .before .before .before .before .before .loop .inv .4) (c .before .before .before .before .before .before .before .before .before .before .before .take-some .ensures .1) (c .if1 .left)
+    fewer-left _ _ _ _ _ _ _ _ _ _ (c .before .before .before .before .before .before .before .before .before .before .before .before .before .before .before .before .before .loop .inv .4) (c .before .before .before .before .before .before .before .before .before .before .before .take-some .ensures .1 .0) (c .if1 .left)
 
 loop-again : tie.Need-loop-again Inv-loop μ-loop
 loop-again c =
     let inv = c .before .before .before .before .before .before .before .before .before .before .before .before .before .before .before .before .before .loop .inv in
-    (search needs, search needs, search needs, c .before .before .before .before .before .before .before .before .before .before .before .take-some .ensures .0 .0, goes-on _ _ _ _ _ _ _ _ _ (inv .4) (c .before .before .before .before .before .before .before .before .before .before .before .take-some .ensures .1) (inv .0))
+    let some = c .before .before .before .before .before .before .before .before .before .before .before .take-some .ensures in (
+      search needs,
+      search needs,
+      search needs,
+      some .0 .0,
+      goes-on _ _ _ _ _ _ _ _ _ (inv .4) (some .1 .0) (inv .0),
+      grown-on _ _ _ _ _ _ _ _ _ _ _ _ _ (inv .4) (some .1 .0) (inv .0) (inv .5) (some .1 .1),
+    )
 
 pub drain-spec : {M : Type 1} → statement M
 drain-spec =

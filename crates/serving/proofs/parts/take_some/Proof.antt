@@ -3,6 +3,7 @@
 use native.Mathlib.Omega.{arith}
 use lib.ListN.{length-take}
 use Rattle.serving.proofs.PartLaws.{stepped}
+use Rattle.serving.proofs.GrowthLaws.{took}
 use borrow.Author.Needs.{needs}
 use Rattle.serving.proofs.parts.take_some.Statement.{statement}
 use Rattle.serving.proofs.parts.take_some.Tie as tie
@@ -42,7 +43,10 @@ returns c =
     let given = c .before .before .before .before .before .before .before .before .before .before .before .answer-lines .ensures in
     let start = c .before .before .before .before .before .before .before .before .before .before .before .before .before .before .before .before .before .before .before .before .before in (
       search needs,
-      stepped _ _ _ _ _ _ _ _ _ _ (given .1) (omega (arith, given .0 .4, start .pre .1)) (omega (arith, given .0 .5, start .pre .2)),
+      (
+        stepped _ _ _ _ _ _ _ _ _ _ (given .1) (omega (arith, given .0 .4, start .pre .1)) (omega (arith, given .0 .5, start .pre .2)),
+        took _ _ _ _ _ _ _ _ _ _ _ _ _ _ (given .1) (c .deliver .ensures),
+      ),
     )
 
 pub take-some-spec : {M : Type 1} → statement M
