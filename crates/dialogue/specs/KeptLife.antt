@@ -15,7 +15,7 @@ pub record Sitting : Type 0 where
   pub way : Way
   pub input : List ℕ
 
--- The state in which the next session begins: the book and the count of kept calls stay, its lines are counted anew.
+-- The state in which a session begins behind another: the book and the count of kept calls stay, its lines are counted anew.
 abbrev pub reopened : State → State
 reopened s = record { book = s .book; place = record { line = 0; refused = 0; kept = s .place .kept; long = false } }
 
