@@ -1302,7 +1302,12 @@ def journal_that_is_a_stream(place):
         with open(place.path, 'rb' if number == 0 else 'ab') as file:
             streams[number] = file
             process = subprocess.Popen([place.command, place.path], stdin=streams[0], stdout=streams[1], stderr=streams[2])
-            out, said = process.communicate(b'statement 0\nadmit 1 0\n' if number else None, timeout=20)
+            try:
+                out, said = process.communicate(b'statement 0\nadmit 1 0\n' if number else None, timeout=5)
+            except subprocess.TimeoutExpired:
+                raise Wrong('no end after 5 seconds')
+            finally:
+                process.kill()
         same('the answers', out or b'', b'')
         same('on standard error', said or b'', f'ledger: {place.path}: is standard input or output too; nothing is kept\n'.encode() if number < 2 else b'')
         same('the journal', place.got(), journal)
