@@ -18,8 +18,9 @@ use lib.Seq.{take-suc, take-set-le, take-all, getD-set-same}
 use Rattle.laws.specs.Cases.{split}
 use Rattle.laws.specs.Clipped.{drop-clipped}
 use Rattle.journal.specs.declared.Lengths.{Lengths}
+use Rattle.laws.specs.Causes.{decide}
 use Rattle.special.specs.declared.Special.{Special}
-use Rattle.special.specs.Causes.{wrongLengths, causes, firstCause}
+use Rattle.special.specs.Causes.{wrongLengths, causes}
 use Rattle.special.specs.Guarantee.{specialGuarantee}
 use Rattle.printing.specs.declared.Answer.{Answer}
 use Rattle.answering.specs.Shown.{guaranteeShown}
@@ -71,7 +72,7 @@ marks-wrong a b c d e f g h =
 
 pub marks-refused : (medium low marked zeroMedium zeroLow excessMedium excessLow : List ℤ) (k : ℕ) → k ≡ length marked → 64 < k
     → Answer.Refused 19 ≡ guaranteeShown (specialGuarantee medium low (map markOf marked) zeroMedium zeroLow excessMedium excessLow)
-unfolding specialGuarantee causes firstCause
+unfolding specialGuarantee causes decide
 marks-refused medium low marked zeroMedium zeroLow excessMedium excessLow k e h =
     let many : 64 < length (map markOf marked) = omega (arith, e, length-map marked markOf) in
     rw (marks-wrong (length medium) (length low) (length (map markOf marked)) (length zeroMedium) (length zeroLow) (length excessMedium)

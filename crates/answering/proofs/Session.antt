@@ -16,6 +16,7 @@ use Rattle.file.specs.declared.File.{File}
 use Rattle.file.specs.Annual.{annualAnswer}
 use Rattle.file.specs.Lodge.{lodgeAnswer}
 use Rattle.file.specs.Release.{releaseAnswer}
+use Rattle.file.specs.CheckLaws.{settled-answer}
 use Rattle.file.specs.Settle.{settlementCalls, checkDue, settledAnswer, settleAnswer}
 use Rattle.layout.specs.Book.{Book}
 use Rattle.book.specs.Call.{Call, Act, on, admit, lodge, release, settle, annualRun, advance, statement, callsMade}
@@ -89,7 +90,7 @@ tells (Said.called e asked last) = false
 tells (Said.covered e) = false
 tells (Said.recorded e) = false
 tells (Said.annual a n) = false
-tells (Said.opened n) = false
+tells (Said.daysOpened n) = false
 tells (Said.stated f c s d a) = true
 tells (Said.counted n) = true
 
@@ -101,20 +102,21 @@ untaken (Said.called e asked last) h k = h
 untaken (Said.covered e) h k = h
 untaken (Said.recorded e) h k = h
 untaken (Said.annual a n) h k = h
-untaken (Said.opened n) h k = h
+untaken (Said.daysOpened n) h k = h
 untaken (Said.stated f c s d a) h k = k
 untaken (Said.counted n) h k = k
 
 -- Only questions are told what they ask for: causes of refusal tell nothing, nor does the answer behind them.
-decided-untold : (causes : List Cause) (x : Said.Answer) → tells x ≡ false → tells (decide causes x) ≡ false
+decided-untold : (causes : List Cause) (x : Said.Answer) → tells x ≡ false → tells (decide Said.refused causes x) ≡ false
 unfolding decide
 decided-untold [] x h = h
 decided-untold (c ∷ causes) x h = split (c .holds) (λ e. rw e refl) (λ e. rw e (decided-untold causes x h))
 
 settled-untold : (f : File) (t m : ℕ) (figures : List ℤ) → tells (settledAnswer f t m figures) ≡ false
-unfolding settledAnswer
 settled-untold f t m figures =
-    split (settlementCalls f t m figures) (λ e. rw e refl) (λ e. rw e (split (checkDue (monthOf t) m) (λ g. rw g refl) (λ g. rw g refl)))
+    split (settlementCalls f t m figures)
+    (λ e. rw (settled-answer f t m figures, e) refl)
+    (λ e. rw (settled-answer f t m figures, e) (split (checkDue (monthOf t) m) (λ g. rw g refl) (λ g. rw g refl)))
 
 file-untold : (f : File) (t : ℕ) (a : Act) → tells (fileAnswer f t a) ≡ false
 unfolding fileAnswer ifAdmitted lodgeAnswer releaseAnswer settleAnswer annualAnswer

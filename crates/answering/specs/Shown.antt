@@ -15,7 +15,7 @@ shown (Said.called e asked last) = Answer.Called e asked (record { 0 = last })
 shown (Said.covered e) = Answer.Covered e
 shown (Said.recorded e) = Answer.Recorded e
 shown (Said.annual a n) = Answer.Annual a n
-shown (Said.opened n) = Answer.Opened n
+shown (Said.daysOpened n) = Answer.Opened n
 shown (Said.stated f c s d a) = Answer.Statement f c s d a
 shown (Said.counted n) = Answer.Calls n
 

@@ -4,5 +4,6 @@ pub mod Made
 pub mod Lift
 pub mod Advances
 pub mod Higher
+pub mod Openings
 pub mod Whole
 pub mod Life

@@ -1,4 +1,5 @@
 -- One participant: each call, each opened day and each figure of a file of the readings.
+pub mod Lawful
 pub mod Decide
 pub mod Positions
 pub mod CoverIs

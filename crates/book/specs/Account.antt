@@ -7,7 +7,7 @@ use lib.Dec.{ltb}
 use lib.ListN.{length, getD, set, replicate}
 use lib.IntN.{ℤ}
 use Rattle.file.specs.declared.File.{File}
-use Rattle.file.specs.Answer.{Answer, done, opened, counted, decide, accepted, statementSays}
+use Rattle.file.specs.Answer.{Answer, refused, done, daysOpened, counted, decide, accepted, statementSays}
 use Rattle.file.specs.Admit.{noFile, admittedFile, callsOfAdmission}
 use Rattle.file.specs.Lodge.{lodgeAnswer, lodgedFile}
 use Rattle.file.specs.Release.{releaseAnswer, releasedFile}
@@ -24,7 +24,7 @@ freshBook d = record { files = replicate 64 noFile; today = record { 0 = d }; ma
 
 -- What asking for a fresh book answers. Its only cause is 17.
 unfoldable pub freshAnswer : ℕ → Answer
-freshAnswer d = decide (record { number = 17; holds = ltb 29219 d } ∷ []) done
+freshAnswer d = decide refused (record { number = 17; holds = ltb 29219 d } ∷ []) done
 
 -- The book beside that answer: "if fresh: a book on day 0 with no participants stands beside the number".
 unfoldable pub freshBookBeside : ℕ → Book
@@ -40,16 +40,16 @@ withFile b p f n = record { files = set (b .files) p f; today = b .today; made =
 
 -- Cause 1, "participant above 63", before the others of a call that names a participant.
 unfoldable pub ifNumbered : ℕ → Answer → Answer
-ifNumbered p answer = decide (record { number = 1; holds = ltb 63 p } ∷ []) answer
+ifNumbered p answer = decide refused (record { number = 1; holds = ltb 63 p } ∷ []) answer
 
 -- Cause 2, "participant not admitted", before those of a call on its file.
 unfoldable pub ifAdmitted : File → Answer → Answer
-ifAdmitted f answer = decide (record { number = 2; holds = not (f .admitted) } ∷ []) answer
+ifAdmitted f answer = decide refused (record { number = 2; holds = not (f .admitted) } ∷ []) answer
 
 -- What a call on a file answers on day t, after cause 1. An admission's causes are 3 and 4.
 unfoldable pub fileAnswer : File → ℕ → Act → Answer
 fileAnswer f t (admit role) =
-    decide (record { number = 3; holds = f .admitted } ∷ record { number = 4; holds = ltb 5 role } ∷ []) done
+    decide refused (record { number = 3; holds = f .admitted } ∷ record { number = 4; holds = ltb 5 role } ∷ []) done
 fileAnswer f t (lodge k h) = ifAdmitted f (lodgeAnswer f t k h)
 fileAnswer f t (release k a) = ifAdmitted f (releaseAnswer f t k a)
 fileAnswer f t (settle m figures) = ifAdmitted f (settleAnswer f t m figures)
@@ -97,9 +97,9 @@ daysToOpen b day budget = min budget (day - b .today .0)
 unfoldable pub answer : Book → Call → Answer
 answer b (on p a) = ifNumbered p (fileAnswer (fileAt b p) (b .today .0) a)
 answer b (advance day budget) =
-    decide
+    decide refused
     (record { number = 17; holds = ltb 29219 day || ltb day (b .today .0) } ∷ [])
-    (opened (daysToOpen b day budget))
+    (daysOpened (daysToOpen b day budget))
 answer b (statement p) =
     ifNumbered p (ifAdmitted (fileAt b p) (statementSays (statementOf (fileAt b p) (b .today .0))))
 answer b callsMade = counted (b .made)

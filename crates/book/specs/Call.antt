@@ -5,7 +5,7 @@ use mathlib.Core.List.{List}
 use lib.IntN.{ℤ}
 use Rattle.file.specs.declared.Position.{Position}
 use mathlib.Core.Bool.{Bool, true, false}
-use Rattle.file.specs.Answer.{Answer, refused, done, called, covered, recorded, annual, opened, stated, counted, statementSays}
+use Rattle.file.specs.Answer.{Answer, refused, done, called, covered, recorded, annual, daysOpened, stated, counted, statementSays}
 use Rattle.book.specs.declared.Advanced.{Advanced}
 use Rattle.book.specs.declared.Advanced.the-variants as Advances
 use Rattle.book.specs.declared.Stated.{Stated}
@@ -37,7 +37,7 @@ pub data Call : Type 0 where
 
 -- The answer that each case of an advance stands for.
 abbrev pub advancedSays : Advanced → Answer
-advancedSays (Advances.Opened n) = opened n
+advancedSays (Advances.Opened n) = daysOpened n
 advancedSays (Advances.Refused n) = refused n
 
 -- The answer that each case of a statement stands for.
@@ -53,6 +53,6 @@ isCalled (called e asked last) = true
 isCalled (covered e) = false
 isCalled (recorded e) = false
 isCalled (annual a n) = false
-isCalled (opened n) = false
+isCalled (daysOpened n) = false
 isCalled (stated f c s d a) = false
 isCalled (counted n) = false

@@ -55,6 +55,24 @@ EachDay [] = Unit {0}
 EachDay (dayOpened d ∷ own) = (admittedIn own ≡ true → ChargedRight d own) × EachDay own
 EachDay (act d a ∷ own) = EachDay own
 
+-- Day d charged a participant's file, f before its opening and g after it: one to the days charged and the day charge of the firm amount less
+-- the cover to the accrued charge exactly when the cover on d is below the firm amount, and neither otherwise.
+pub record ChargedFile (d : ℕ) (f g : File) : Type 0 where
+  pub charged : g .charged ≡ cond (ltb (coverOf g d) (g .firm)) (suc (f .charged)) (f .charged)
+  pub accrued : g .accrued
+      ≡ cond (ltb (coverOf g d) (g .firm)) (f .accrued + dayCharge (g .firm - coverOf g d)) (f .accrued)
+
+-- Book `after` has one more day opened than book `before`: the admitted participants were charged it, each by its own file, and the file of
+-- every other is as it was.
+pub record ChargedBook (before after : Book) : Type 0 where
+  pub next : after .today .0 ≡ suc (before .today .0)
+  pub late : (p : ℕ) → fileAt before p .admitted ≡ true → ChargedFile (after .today .0) (fileAt before p) (fileAt after p)
+  pub others : (p : ℕ) → fileAt before p .admitted ≡ false → fileAt after p ≡ fileAt before p
+
+-- The book after a list of calls and n more opened days.
+abbrev pub daysLater : ℕ → ℕ → List Call → Book
+daysLater n s calls = run s (advance 29219 n ∷ calls)
+
 -- A call after which today is still `before`'s, so one that opened no day, left no admitted participant's shortfall higher, and a newly
 -- admitted one began with none.
 pub record NoneHigher (before after : Book) : Type 0 where
@@ -80,6 +98,9 @@ pub record Life (s : ℕ) (calls : List Call) : Type 0 where
       → ReadsAs (todayOf s (eventsOf s calls)) (fileAt (run s calls) p) (mine p (eventsOf s calls))
   -- "each opened day charged exactly the late participants, once"
   pub days : (p : ℕ) → EachDay (mine p (eventsOf s calls))
+  -- the same of the book's own fields: at every opening after these calls, those inside an advance too
+  pub openings : (n : ℕ) → run s calls .today .0 + suc n ≤ 29219
+      → ChargedBook (daysLater n s calls) (daysLater (suc n) s calls)
   -- "a call that opened no day raised no shortfall"
   pub noneHigher : EachCall s calls
   -- the count of calls made, and today

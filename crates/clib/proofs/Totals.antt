@@ -13,6 +13,7 @@ use Rattle.manual.specs.Figures.{wrongCount, outOfRange}
 use Rattle.manual.specs.Laws.{summed-total}
 use Rattle.file.specs.declared.File.{File}
 use Rattle.file.specs.Answer.{Answer, refused, Cause, decide}
+use Rattle.file.specs.CheckLaws.{settled-answer}
 use Rattle.file.specs.Settle.{checkDue, settlementCalls, settledAnswer, settleAnswer}
 use Rattle.layout.specs.Book.{Book}
 use Rattle.book.specs.Call.{settle, on}
@@ -27,7 +28,7 @@ unfolding SmallTotal
 refused-small n = omega arith
 
 -- An answer behind causes: small if it is so where none of them holds.
-decide-small : (causes : List Cause) (x : Answer) → (All (λ (c : Cause). c .holds ≡ false) causes → SmallTotal x) → SmallTotal (decide causes x)
+decide-small : (causes : List Cause) (x : Answer) → (All (λ (c : Cause). c .holds ≡ false) causes → SmallTotal x) → SmallTotal (decide refused causes x)
 unfolding decide
 decide-small [] x h = h tt
 decide-small (c ∷ causes) x h =
@@ -36,10 +37,10 @@ decide-small (c ∷ causes) x h =
 -- An accepted answer's total is the sum of the figures.
 settled-small : (f : File) (t m : ℕ) (figures : List ℤ) → wrongCount figures ≡ false → outOfRange figures ≡ false
     → SmallTotal (settledAnswer f t m figures)
-unfolding settledAnswer SmallTotal
+unfolding SmallTotal
 settled-small f t m figures w o =
-    split (settlementCalls f t m figures) (λ e. rw e (summed-total figures w o))
-    (λ e. rw e (split (checkDue (monthOf t) m) (λ d. rw d (summed-total figures w o)) (λ d. rw d (summed-total figures w o))))
+    split (settlementCalls f t m figures) (λ e. rw (settled-answer f t m figures, e) (summed-total figures w o))
+    (λ e. rw (settled-answer f t m figures, e) (split (checkDue (monthOf t) m) (λ d. rw d (summed-total figures w o)) (λ d. rw d (summed-total figures w o))))
 
 -- The book's answer.
 answer-small : (b : Book) (p m : ℕ) (figures : List ℤ) → SmallTotal (answer b (on p (settle m figures)))

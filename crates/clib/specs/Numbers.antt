@@ -2,7 +2,7 @@
 -- Assumes nothing.
 use Prim.Native.Nat.{ℕ, _≤_}
 use lib.IntN.{ℤ, pos, natAbs}
-use Rattle.file.specs.Answer.{Answer, refused, done, called, covered, recorded, annual, opened, stated, counted}
+use Rattle.file.specs.Answer.{Answer, refused, done, called, covered, recorded, annual, daysOpened, stated, counted}
 use Rattle.special.specs.declared.Special.{Special}
 use Rattle.special.specs.declared.Special.the-variants as Specials
 use Rattle.clib.specs.declared.GuaranteeSettled.{GuaranteeSettled}
@@ -40,7 +40,7 @@ numbersOf (called e asked last) = settlement 1 (pos e) asked last
 numbersOf (covered e) = settlement 2 e 0 0
 numbersOf (recorded e) = settlement 3 e 0 0
 numbersOf (annual a n) = values a n 0 0 0
-numbersOf (opened n) = values n 0 0 0 0
+numbersOf (daysOpened n) = values n 0 0 0 0
 numbersOf (stated f c s d a) = values f c s d a
 numbersOf (counted n) = values n 0 0 0 0
 

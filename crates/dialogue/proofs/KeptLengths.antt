@@ -107,12 +107,12 @@ printed-short (Request.Error e) zs f = absurd f
 -- ---- an accepted call's numbers
 
 -- An accepted answer is that behind the causes.
-behind-causes : (causes : List Said.Cause) (x : Said.Answer) → accepted (decide causes x) ≡ true → accepted x ≡ true
+behind-causes : (causes : List Said.Cause) (x : Said.Answer) → accepted (decide Said.refused causes x) ≡ true → accepted x ≡ true
 unfolding decide
 behind-causes [] x e = e
 behind-causes (c ∷ causes) x e =
-    split (c .holds) (λ h. clash {t = false} (sym (ap accepted (cond-true _ (Said.refused (c .number)) (decide causes x) h)) ∙ e) refl)
-    (λ h. behind-causes causes x (sym (ap accepted (cond-false _ (Said.refused (c .number)) (decide causes x) h)) ∙ e))
+    split (c .holds) (λ h. clash {t = false} (sym (ap accepted (cond-true _ (Said.refused (c .number)) (decide Said.refused causes x) h)) ∙ e) refl)
+    (λ h. behind-causes causes x (sym (ap accepted (cond-false _ (Said.refused (c .number)) (decide Said.refused causes x) h)) ∙ e))
 
 settle-few : (b : Book) (p m : ℕ) (figures : List ℤ) → accepted (answer b (on p (settle m figures))) ≡ true → length figures ≤ 16
 unfolding answer ifNumbered fileAnswer ifAdmitted settleAnswer wrongCount
@@ -137,7 +137,7 @@ taken-accepted (Said.called e asked last) h = refl
 taken-accepted (Said.covered e) h = refl
 taken-accepted (Said.recorded e) h = refl
 taken-accepted (Said.annual a n) h = refl
-taken-accepted (Said.opened n) h = refl
+taken-accepted (Said.daysOpened n) h = refl
 taken-accepted (Said.stated f c s d a) h = refl
 taken-accepted (Said.counted n) h = refl
 

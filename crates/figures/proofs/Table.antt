@@ -7,17 +7,18 @@ use Rattle.laws.specs.Signed.{floorDiv, nearest}
 use Rattle.laws.specs.Largest.{insert, falling, threeLargest, meanOfThree}
 use Rattle.manual.specs.Minimum.{minimumOf}
 use Rattle.manual.specs.Annual.{largestTotal, annualAmount}
-use Rattle.manual.specs.Check.{exceedsTolerance, exceedsEach, calls, checked}
+use Rattle.manual.specs.Check.{exceedsTolerance, exceedsEach, callIsMade, checked}
 use Rattle.manual.specs.Charge.{dayCharge}
+use Rattle.laws.specs.Causes.{decide}
 use Rattle.special.specs.Ranges.{every}
 use Rattle.special.specs.Ratio.{usable, ratio}
-use Rattle.special.specs.Causes.{wrongLengths, outOfRange, tooFew, causes, firstCause}
+use Rattle.special.specs.Causes.{wrongLengths, outOfRange, tooFew, causes}
 use Rattle.special.specs.Guarantee.{atLeast, amount, specialGuarantee}
 use Rattle.figures.specs.Figures.{Figures, charges, sumShort, chargesComparedOnce, guaranteeUnrounded}
 
 pub figures : Figures
 unfolding larger sumOf floorDiv nearest insert falling threeLargest meanOfThree minimumOf largestTotal annualAmount exceedsTolerance
-    exceedsEach calls checked dayCharge every usable ratio wrongLengths outOfRange tooFew causes firstCause atLeast amount
+    exceedsEach callIsMade checked dayCharge every usable ratio wrongLengths outOfRange tooFew causes decide atLeast amount
     specialGuarantee charges sumShort chargesComparedOnce guaranteeUnrounded
 figures =
     record {

@@ -18,7 +18,7 @@ use Rattle.manual.specs.declared.Check.{Check}
 use Rattle.manual.specs.declared.Check.the-variants.{Call, Covered}
 use Rattle.manual.specs.declared.Sum.{Sum}
 use Rattle.manual.specs.declared.Sum.the-variants as Sums
-use Rattle.manual.specs.Check.{calls, checked}
+use Rattle.manual.specs.Check.{callIsMade, checked}
 use Rattle.manual.specs.Figures.{sumOf, wrongCount, outOfRange, summed}
 use Rattle.manual.specs.Laws.{checked-zeros}
 use Rattle.file.specs.declared.File.{File}
@@ -30,6 +30,7 @@ use Rattle.file.specs.CallLaws.{amounts-places, inPlaces-next}
 use Rattle.file.specs.Totals.{withTotal}
 use Rattle.file.specs.Position.{coverOn}
 use Rattle.file.specs.Fields.{openCalls, openAmounts, coverOf, withTotals}
+use Rattle.file.specs.CheckLaws.{settled-answer}
 use Rattle.file.specs.Settle.{outsideMonths, checkDue, deposited, settlementCalls, settledAnswer, settleAnswer, callsSettled, settledFile}
 use Rattle.file.specs.Sound.{Sound}
 use Rattle.file.specs.KeepsCalls.{open-count}
@@ -168,8 +169,7 @@ module _ (f : File) (t m : ℕ) (s : Sound t f) (figures : List ℤ) (number : w
 
   -- a settlement that doesn't call
   uncalled-answer : settlementCalls f t m figures ≡ false → settleAnswer f t m figures ≡ cond (checkDue (monthOf t) m) (covered (sumOf figures)) (recorded (sumOf figures))
-  unfolding settledAnswer
-  uncalled-answer e = last-cause ∙ cond-false _ (refused 13) _ (and-refused (settlementCalls f t m figures) (leb 4 (length (openCalls f))) e) ∙ cond-false _ _ _ e
+  uncalled-answer e = last-cause ∙ cond-false _ (refused 13) _ (and-refused (settlementCalls f t m figures) (leb 4 (length (openCalls f))) e) ∙ settled-answer f t m figures ∙ cond-false _ _ _ e
 
   uncalled-file : settlementCalls f t m figures ≡ false → accepted (settleAnswer f t m figures) ≡ true → totalled f (withTotal (f .totals) m (sumOf figures)) ≡ settledFile f t m figures
   unfolding settledFile callsSettled
@@ -203,8 +203,8 @@ module _ (f : File) (t m : ℕ) (s : Sound t f) (figures : List ℤ) (number : w
     covered-uncalled : r ≡ Covered → settlementCalls f t m figures ≡ false
     unfolding settlementCalls checked
     covered-uncalled h =
-        ap (λ (b : Bool). b && calls (sumOf figures) (deposited f t) (f .firm) (openAmounts f)) yes-due
-        ∙ split (calls (sumOf figures) (deposited f t) (f .firm) (openAmounts f)) (λ p. clear (sym h ∙ found ∙ cond-true _ _ _ p)) (λ p. p)
+        ap (λ (b : Bool). b && callIsMade (sumOf figures) (deposited f t) (f .firm) (openAmounts f)) yes-due
+        ∙ split (callIsMade (sumOf figures) (deposited f t) (f .firm) (openAmounts f)) (λ p. clear (sym h ∙ found ∙ cond-true _ _ _ p)) (λ p. p)
       where
         clear : {a b : ℕ} {A : Type 0} → Covered ≡ Call a b → A
         clear q = let z : _≡_ {A = ℕ} 0 1 = cc in absurd (omega arith)
@@ -220,8 +220,8 @@ module _ (f : File) (t m : ℕ) (s : Sound t f) (figures : List ℤ) (number : w
       call-called : settlementCalls f t m figures ≡ true
       unfolding settlementCalls checked
       call-called =
-          ap (λ (b : Bool). b && calls (sumOf figures) (deposited f t) (f .firm) (openAmounts f)) yes-due
-          ∙ split (calls (sumOf figures) (deposited f t) (f .firm) (openAmounts f)) (λ p. p) (λ p. clear (sym h ∙ found ∙ cond-false _ _ _ p))
+          ap (λ (b : Bool). b && callIsMade (sumOf figures) (deposited f t) (f .firm) (openAmounts f)) yes-due
+          ∙ split (callIsMade (sumOf figures) (deposited f t) (f .firm) (openAmounts f)) (λ p. p) (λ p. clear (sym h ∙ found ∙ cond-false _ _ _ p))
         where
           clear : {a b : ℕ} {A : Type 0} → Call a b ≡ Covered → A
           clear q = let z : _≡_ {A = ℕ} 0 1 = cc in absurd (omega arith)
@@ -249,10 +249,10 @@ module _ (f : File) (t m : ℕ) (s : Sound t f) (figures : List ℤ) (number : w
 
       -- a new call
       new-answer : f .count < 4 → settleAnswer f t m figures ≡ called (natAbs (sumOf figures)) (natAbs (sumOf figures) - deposited f t) (t + 10)
-      unfolding settledAnswer
       new-answer n =
           last-cause
           ∙ cond-false _ (refused 13) _ (ap (λ (b : Bool). settlementCalls f t m figures && b) (lt-leb 4 (length (openCalls f)) (omega (arith, open-count f t s))) ∙ and-false (settlementCalls f t m figures))
+          ∙ settled-answer f t m figures
           ∙ cond-true _ _ _ call-called
 
       new-file : f .count < 4 → settledFile f t m figures ≡ withTotals f (withTotal (f .totals) m (sumOf figures)) (openCalls f ++ callOf (natAbs (sumOf figures)) (t + 10) ∷ [])

@@ -5,6 +5,9 @@ use Prim.Native.Nat.{ℕ}
 use mathlib.Core.Bool.{Bool, true, false, cond}
 use mathlib.Core.List.{List, [], _∷_}
 use lib.IntN.{ℤ}
+-- a cause of refusal, and the answer that causes in an order leave
+pub use Rattle.laws.specs.Causes.{Cause}
+unfoldable pub use Rattle.laws.specs.Causes.{decide}
 use Rattle.file.specs.declared.Outcome.{Outcome}
 use Rattle.file.specs.declared.Outcome.the-variants as Outcomes
 use Rattle.file.specs.declared.Settled.{Settled}
@@ -28,21 +31,11 @@ pub data Answer : Type 0 where
   -- an annual run's amount "and how many months were recorded"
   annual : ℕ → ℕ → Answer
   -- an advance "answers how many days it opened"
-  opened : ℕ → Answer
+  daysOpened : ℕ → Answer
   -- "firm amount, cover, shortfall, days charged, accrued charge"
   stated : ℕ → ℕ → ℕ → ℕ → ℕ → Answer
   -- "one count of calls made .. a question of its own shows it"
   counted : ℕ → Answer
-
--- A cause of refusal: its number, and whether it holds.
-pub record Cause : Type 0 where
-  pub number : ℕ
-  pub holds : Bool
-
--- "A call is accepted when none of its causes of refusal holds, and is otherwise refused with the first that does."
-unfoldable pub decide : List Cause → Answer → Answer
-decide [] answer = answer
-decide (c ∷ causes) answer = cond (c .holds) (refused (c .number)) (decide causes answer)
 
 -- Whether an answer is no refusal.
 abbrev pub accepted : Answer → Bool
@@ -52,7 +45,7 @@ accepted (called e asked last) = true
 accepted (covered e) = true
 accepted (recorded e) = true
 accepted (annual a n) = true
-accepted (opened n) = true
+accepted (daysOpened n) = true
 accepted (stated f c s d a) = true
 accepted (counted n) = true
 

@@ -30,7 +30,7 @@ use Rattle.file.specs.Fields.{openCalls, setTo, withTotals, withNext}
 use Rattle.file.specs.Settle.{settlementCalls, settleAnswer, callsSettled, settledFile}
 use Rattle.file.specs.Annual.{annualTotals, annualAmountOf, annualAnswer, annualFile}
 use Rattle.file.specs.Opening.{slotsOpened, callsOpened, firmRaised, takesEffect, firmOpened, nextOpened, shortfallOpened, openedFile}
-use Rattle.file.specs.Sound.{Sound, SoundPosition, SoundCall, largestTotal}
+use Rattle.file.specs.Sound.{Sound, SoundPosition, SoundCall, totalBound}
 use Rattle.file.specs.DecideLaws.{none-holds}
 use Rattle.file.specs.KeepsPositions.{either-sound, no-call-sound}
 
@@ -80,26 +80,26 @@ module _ (f : File) (t d : ℕ) (s : Sound t f) where
   opened-calls = keep-all (staysAt d) SoundCall (openCalls f) (open-sound f (s .calls))
 
   -- the firm amount
-  raised-bound : firmRaised f d ≤ largestTotal
+  raised-bound : firmRaised f d ≤ totalBound
   unfolding firmRaised
   raised-bound =
-      largest-bound largestTotal (f .firm) (amountsOf (keep (endsAt d) (openCalls f))) (s .firm)
-      (amounts-all largestTotal SoundCall (λ (c : OpenCall) (h : SoundCall c). h .amount) (keep (endsAt d) (openCalls f)) (keep-all (endsAt d) SoundCall (openCalls f) (open-sound f (s .calls))))
+      largest-bound totalBound (f .firm) (amountsOf (keep (endsAt d) (openCalls f))) (s .firm)
+      (amounts-all totalBound SoundCall (λ (c : OpenCall) (h : SoundCall c). h .amount) (keep (endsAt d) (openCalls f)) (keep-all (endsAt d) SoundCall (openCalls f) (open-sound f (s .calls))))
 
-  pub firm-bound : firmOpened f d ≤ largestTotal
+  pub firm-bound : firmOpened f d ≤ totalBound
   unfolding firmOpened
   firm-bound = split (takesEffect f d) (λ e. rw e (s .next)) (λ e. rw e raised-bound)
 
-  next-bound : nextOpened f d .amount ≤ largestTotal
+  next-bound : nextOpened f d .amount ≤ totalBound
   unfolding nextOpened
   next-bound = split (takesEffect f d) (λ e. rw e (omega arith)) (λ e. rw e (s .next))
 
   -- the shortfall and the charge
-  pub charge-bound : dayCharge (shortfallOpened f d) ≤ largestTotal
+  pub charge-bound : dayCharge (shortfallOpened f d) ≤ totalBound
   unfolding shortfallOpened
-  charge-bound = dayCharge-bound (firmOpened f d - coverOn d (slotsOpened f d)) largestTotal (omega (arith, firm-bound)) (omega arith)
+  charge-bound = dayCharge-bound (firmOpened f d - coverOn d (slotsOpened f d)) totalBound (omega (arith, firm-bound)) (omega arith)
 
-  accrued-bound : f .accrued + dayCharge (shortfallOpened f d) ≤ (f .charged + cond (eqb (shortfallOpened f d) 0) 0 1) * largestTotal
+  accrued-bound : f .accrued + dayCharge (shortfallOpened f d) ≤ (f .charged + cond (eqb (shortfallOpened f d) 0) 0 1) * totalBound
   accrued-bound =
       split (eqb (shortfallOpened f d) 0)
       (λ e. rw e (omega (arith, s .accrued, ap dayCharge (eqb-true (shortfallOpened f d) 0 e), dayCharge-zero)))
@@ -133,12 +133,12 @@ module _ (f : File) (t m : ℕ) (figures : List ℤ) (s : Sound t f) (a : accept
       (none .1 .0, none .1 .1 .0, none .1 .1 .1 .0)
 
   -- the total's bound
-  total-bound : natAbs (sumOf figures) ≤ largestTotal
+  total-bound : natAbs (sumOf figures) ≤ totalBound
   total-bound = summed-total figures (free .0) (free .1)
 
-  settled-totals : All (λ (r : MonthTotal). natAbs (r .total) ≤ largestTotal) (withTotal (f .totals) m (sumOf figures))
+  settled-totals : All (λ (r : MonthTotal). natAbs (r .total) ≤ totalBound) (withTotal (f .totals) m (sumOf figures))
   unfolding withTotal
-  settled-totals = all-set (λ (r : MonthTotal). natAbs (r .total) ≤ largestTotal) (f .totals) (m % 16) (totalOf m (sumOf figures)) total-bound (s .totals)
+  settled-totals = all-set (λ (r : MonthTotal). natAbs (r .total) ≤ totalBound) (f .totals) (m % 16) (totalOf m (sumOf figures)) total-bound (s .totals)
 
   settled-count : length (callsSettled f t m figures) ≤ 4
   unfolding callsSettled
@@ -175,11 +175,11 @@ settled-sound f t m figures s =
 
 -- ---- an annual run
 
-pub annual-bound : (f : File) (t : ℕ) → Sound t f → annualAmountOf f t ≤ largestTotal
+pub annual-bound : (f : File) (t : ℕ) → Sound t f → annualAmountOf f t ≤ totalBound
 unfolding annualAmountOf annualTotals
 annual-bound f t s =
-    annualAmount-bound (f .role) largestTotal (totalsFrom (totalAt (f .totals)) (monthOf t - 14) (monthOf t - 2 - (monthOf t - 14)))
-    (totals-within largestTotal (f .totals) (s .totals) (monthOf t - 14) (monthOf t - 2 - (monthOf t - 14))) (omega arith)
+    annualAmount-bound (f .role) totalBound (totalsFrom (totalAt (f .totals)) (monthOf t - 14) (monthOf t - 2 - (monthOf t - 14)))
+    (totals-within totalBound (f .totals) (s .totals) (monthOf t - 14) (monthOf t - 2 - (monthOf t - 14))) (omega arith)
 
 -- the file after an annual run
 pub annual-sound : (f : File) (t : ℕ) → Sound t f → Sound t (annualFile f t)

@@ -29,7 +29,7 @@ use Rattle.file.specs.Fields.{coverOf, unset, withSlots, openCalls}
 use Rattle.file.specs.Admit.{noFile, callsOfAdmission, admittedFile}
 use Rattle.file.specs.Lodge.{lodgeAnswer, lodgedFile}
 use Rattle.file.specs.Release.{slotsLeft, releaseAnswer, releasedFile}
-use Rattle.file.specs.Sound.{Sound, SoundCall, SoundPosition, largestTotal}
+use Rattle.file.specs.Sound.{Sound, SoundCall, SoundPosition, totalBound}
 
 -- ---- the cover
 
@@ -173,7 +173,7 @@ blank-sound t role admitted calls count day sound few placed =
       places = placed;
       firm = omega arith;
       next = omega arith;
-      totals = all-replicate (λ (r : MonthTotal). natAbs (r .total) ≤ largestTotal) 16 noTotal (omega arith);
+      totals = all-replicate (λ (r : MonthTotal). natAbs (r .total) ≤ totalBound) 16 noTotal (omega arith);
       charged = omega arith;
       accrued = omega arith;
     }

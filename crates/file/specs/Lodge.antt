@@ -7,14 +7,14 @@ use lib.Dec.{ltb}
 use lib.ListN.{set}
 use Rattle.file.specs.declared.File.{File}
 use Rattle.file.specs.declared.Position.{Position}
-use Rattle.file.specs.Answer.{Answer, done, decide, accepted}
+use Rattle.file.specs.Answer.{Answer, refused, done, decide, accepted}
 use Rattle.file.specs.Position.{amountOf, filled, outsideAmounts, againstDays, slotOf, positionAt}
 use Rattle.file.specs.Fields.{withSlots}
 
 -- What a lodging on day t at place k answers.
 unfoldable pub lodgeAnswer : File → ℕ → ℕ → Position → Answer
 lodgeAnswer f t k p =
-    decide
+    decide refused
     (record { number = 5; holds = ltb 7 k }
     ∷ record { number = 6; holds = filled (positionAt (f .slots) k) }
     ∷ record { number = 8; holds = outsideAmounts (amountOf p) }

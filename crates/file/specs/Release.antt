@@ -7,7 +7,7 @@ use lib.Dec.{ltb}
 use lib.ListN.{set}
 use Rattle.file.specs.declared.File.{File}
 use Rattle.file.specs.declared.Slot.{Slot}
-use Rattle.file.specs.Answer.{Answer, done, decide, accepted}
+use Rattle.file.specs.Answer.{Answer, refused, done, decide, accepted}
 use Rattle.file.specs.Position.{coverOn, filled, lessReleased, notReleasable, outsideAmounts, slotOf, positionAt}
 use Rattle.file.specs.Calls.{largest}
 use Rattle.file.specs.Fields.{openAmounts, withSlots}
@@ -23,7 +23,7 @@ slotsLeft f k a = set (f .slots) k (slotOf (lessReleased a (positionAt (f .slots
 -- What a release of amount a on day t at place k answers: "the cover left today must be at least" the floor.
 unfoldable pub releaseAnswer : File → ℕ → ℕ → ℕ → Answer
 releaseAnswer f t k a =
-    decide
+    decide refused
     (record { number = 5; holds = ltb 7 k }
     ∷ record { number = 7; holds = not (filled (positionAt (f .slots) k)) }
     ∷ record { number = 8; holds = outsideAmounts a }

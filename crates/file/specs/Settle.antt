@@ -7,11 +7,13 @@ use lib.Dec.{leb, eqb}
 use lib.ListN.{length}
 use lib.IntN.{ℤ, natAbs}
 use Rattle.calendar.specs.Civil.{monthOf, isSeptember}
-use Rattle.manual.specs.Check.{calls}
+use Rattle.manual.specs.declared.Check.{Check}
+use Rattle.manual.specs.declared.Check.the-variants.{Call, Covered}
+use Rattle.manual.specs.Check.{callIsMade, checked}
 use Rattle.manual.specs.Figures.{sumOf, wrongCount, outOfRange}
 use Rattle.file.specs.declared.File.{File}
 use Rattle.file.specs.declared.OpenCall.{OpenCall}
-use Rattle.file.specs.Answer.{Answer, called, covered, recorded, decide, accepted}
+use Rattle.file.specs.Answer.{Answer, refused, called, covered, recorded, decide, accepted}
 use Rattle.file.specs.Calls.{callOf}
 use Rattle.file.specs.Totals.{withTotal}
 use Rattle.file.specs.Fields.{openCalls, openAmounts, coverOf, withTotals}
@@ -31,19 +33,24 @@ deposited f t = coverOf f t
 -- Whether month m's figures call on day t: a check is due, and the manual's check calls.
 unfoldable pub settlementCalls : File → ℕ → ℕ → List ℤ → Bool
 settlementCalls f t m figures =
-    checkDue (monthOf t) m && calls (sumOf figures) (deposited f t) (f .firm) (openAmounts f)
+    checkDue (monthOf t) m && callIsMade (sumOf figures) (deposited f t) (f .firm) (openAmounts f)
 
--- The answer where no cause holds: "called (E, asked, last free day), covered (E), or recorded only (E) where no check was due".
+-- What a check of the total e answers: "called (E, asked, last free day), covered (E)".
+abbrev pub checkSays : ℤ → ℕ → Check → Answer
+checkSays e last (Call amount asked) = called amount asked last
+checkSays e last Covered = covered e
+
+-- The answer where no cause holds: the check's, ".. or recorded only (E) where no check was due".
 unfoldable pub settledAnswer : File → ℕ → ℕ → List ℤ → Answer
 settledAnswer f t m figures =
-    cond (settlementCalls f t m figures)
-    (called (natAbs (sumOf figures)) (natAbs (sumOf figures) - deposited f t) (t + 10))
-    (cond (checkDue (monthOf t) m) (covered (sumOf figures)) (recorded (sumOf figures)))
+    cond (checkDue (monthOf t) m)
+    (checkSays (sumOf figures) (t + 10) (checked (sumOf figures) (deposited f t) (f .firm) (openAmounts f)))
+    (recorded (sumOf figures))
 
 -- What a settlement of month m on day t answers. Cause 13: "the call would be a fifth open one".
 unfoldable pub settleAnswer : File → ℕ → ℕ → List ℤ → Answer
 settleAnswer f t m figures =
-    decide
+    decide refused
     (record { number = 12; holds = outsideMonths (monthOf t) m }
     ∷ record { number = 10; holds = wrongCount figures }
     ∷ record { number = 11; holds = outOfRange figures }

@@ -1,7 +1,7 @@
 -- Month totals (paper 01, 'One participant's file'): a ring of sixteen, the month beside each total. Only the months P − 14 to P − 2 are ever
 -- read or written.
 -- Assumes nothing.
-use Prim.Native.Nat.{ℕ, zero, suc, _%_}
+use Prim.Native.Nat.{ℕ, zero, suc, _-_, _%_}
 use mathlib.Core.Bool.{Bool, true, false, cond, _&&_}
 use mathlib.Core.List.{List, [], _∷_}
 use lib.Dec.{eqb}
@@ -42,3 +42,7 @@ added (total e) rest = e ∷ rest
 unfoldable pub totalsFrom : (ℕ → Total) → ℕ → ℕ → List ℤ
 totalsFrom look m zero = []
 totalsFrom look m (suc n) = added (look m) (totalsFrom look (suc m) n)
+
+-- The recorded totals "of months P − 14 to P − 3 (July to June)", P being a September; there is no month before month 0.
+abbrev pub yearTotals : (ℕ → Total) → ℕ → List ℤ
+yearTotals look p = totalsFrom look (p - 14) (p - 2 - (p - 14))

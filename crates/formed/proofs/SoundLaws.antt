@@ -18,7 +18,7 @@ use Rattle.file.specs.declared.OpenCall.{OpenCall}
 use Rattle.file.specs.declared.MonthTotal.{MonthTotal}
 use Rattle.file.specs.Calls.{callOf, inPlaces}
 use Rattle.file.specs.Fields.{openCalls}
-use Rattle.file.specs.Sound.{SoundCall, SoundPosition, largestTotal}
+use Rattle.file.specs.Sound.{SoundCall, SoundPosition, totalBound}
 use Rattle.layout.specs.Parts.{numberOf, signedOf, slotOfWords, callOfWords, totalOfWords}
 use Rattle.layout.specs.Files.{slotsOfWords, callsOfWords, totalsOfWords, fileOfWords, wordsAt}
 use Rattle.formed.specs.Decides.{Decides, Below}
@@ -64,16 +64,16 @@ call-none a d e = (ap (λ (c : OpenCall). c .amount) e, ap (λ (c : OpenCall). c
 -- ---- a signed number's word
 
 -- A small word is a small number.
-signed-small : (w : ℕ) → w ≤ 32000000000000 → natAbs (signedOf w) ≤ largestTotal
+signed-small : (w : ℕ) → w ≤ 32000000000000 → natAbs (signedOf w) ≤ totalBound
 unfolding signedOf
 signed-small w h = split (eqb (w % 2) 0) (λ e. rw e (omega arith)) (λ e. rw e (omega (arith, eqb-false (w % 2) 0 e)))
 
 -- And the other way round.
-small-signed : (w : ℕ) → natAbs (signedOf w) ≤ largestTotal → w ≤ 32000000000000
+small-signed : (w : ℕ) → natAbs (signedOf w) ≤ totalBound → w ≤ 32000000000000
 unfolding signedOf
 small-signed w h =
-    split (eqb (w % 2) 0) (λ e. let g : w / 2 ≤ largestTotal = rw e at h in omega (arith, eqb-true (w % 2) 0 e))
-    (λ e. let g : suc (w / 2) ≤ largestTotal = rw e at h in omega arith)
+    split (eqb (w % 2) 0) (λ e. let g : w / 2 ≤ totalBound = rw e at h in omega (arith, eqb-true (w % 2) 0 e))
+    (λ e. let g : suc (w / 2) ≤ totalBound = rw e at h in omega arith)
 
 -- ---- the file
 
@@ -144,18 +144,18 @@ module _ (l : List ℕ) (at : ℕ) where
   sound-calls a e k h = place-sound k (call-here a k h) (placed-here e k h)
 
   -- The totals, from their words.
-  totals-sound : Below 16 (TotalAt l at) → All (λ (r : MonthTotal). natAbs (r .total) ≤ largestTotal) (totalsOfWords w)
+  totals-sound : Below 16 (TotalAt l at) → All (λ (r : MonthTotal). natAbs (r .total) ≤ totalBound) (totalsOfWords w)
   unfolding Below totalsOfWords totalOfWords
   totals-sound b =
-      all-table (λ (r : MonthTotal). natAbs (r .total) ≤ largestTotal) 16
+      all-table (λ (r : MonthTotal). natAbs (r .total) ≤ totalBound) 16
       (λ k. totalOfWords (w (49 + 3 * k)) (w (50 + 3 * k)) (w (51 + 3 * k))) (λ k h. signed-small (w (51 + 3 * k)) (b k h))
 
   -- And the other way round.
-  sound-totals : All (λ (r : MonthTotal). natAbs (r .total) ≤ largestTotal) (totalsOfWords w) → Below 16 (TotalAt l at)
+  sound-totals : All (λ (r : MonthTotal). natAbs (r .total) ≤ totalBound) (totalsOfWords w) → Below 16 (TotalAt l at)
   unfolding Below totalsOfWords totalOfWords
   sound-totals a k h =
       small-signed (w (51 + 3 * k))
-      (table-all (λ (r : MonthTotal). natAbs (r .total) ≤ largestTotal) 16
+      (table-all (λ (r : MonthTotal). natAbs (r .total) ≤ totalBound) 16
       (λ k. totalOfWords (w (49 + 3 * k)) (w (50 + 3 * k)) (w (51 + 3 * k))) a k h)
 
   -- The file's own words are sound.

@@ -5,7 +5,7 @@ use mathlib.Core.Path.{_≡_}
 use mathlib.Core.List.{List}
 use lib.ListN.{getD}
 use Rattle.laws.specs.Lists.{table}
-use Rattle.file.specs.Sound.{Sound, SoundPosition, largestTotal}
+use Rattle.file.specs.Sound.{Sound, SoundPosition, totalBound}
 use Rattle.layout.specs.Parts.{numberOf, positionOf}
 use Rattle.layout.specs.Files.{fileOfWords, wordsAt, fileWords}
 use Rattle.layout.specs.Words.{fileIn}
@@ -18,17 +18,17 @@ SoundSlot kind amount first last = SoundPosition (positionOf kind amount first l
 
 -- The words a and d at place k of the calls, of which n are open: a sound call, and zeros behind the open ones.
 pub record SoundPlace (n k a d : ℕ) : Type 0 where
-  pub amount : a ≤ largestTotal
+  pub amount : a ≤ totalBound
   pub last : numberOf d ≤ 29229
   pub behind : n ≤ k → (a ≡ 0) × (numberOf d ≡ 0)
 
 -- A file's own words on day t: the count of open calls, firm amount, next amount, days charged and accrued charge.
 pub record SoundAmounts (t n a b c d : ℕ) : Type 0 where
   pub count : n ≤ 4
-  pub firm : a ≤ largestTotal
-  pub next : b ≤ largestTotal
+  pub firm : a ≤ totalBound
+  pub next : b ≤ totalBound
   pub charged : c ≤ t
-  pub accrued : d ≤ c * largestTotal
+  pub accrued : d ≤ c * totalBound
 
 -- Slot k of the file behind a place is sound.
 abbrev pub SlotAt : List ℕ → ℕ → ℕ → Type 0

@@ -14,7 +14,7 @@ use Rattle.words.specs.Bytes.{control, some, uncommented}
 use Rattle.words.specs.Words.{words, placeIn}
 use Rattle.journal.specs.Names.{callNames}
 use Rattle.journal.specs.Fields.{Left, more, fault, fieldOf, closed, figuresOf, listOf, onLists, listsOf}
-use Rattle.journal.specs.Grammar.{Parsed, plain, areMarks, lengthsOf, lengthList, total, dayNumbered, monthNumbered, freshOf, admitOf, cashOf, letterOf, lodgeOf, releaseOf, settleOf, annualOf, advanceOf, statementOf, specialOf, callsOf, callOf, wordsOf, parsed}
+use Rattle.journal.specs.Grammar.{Parsed, plain, areMarks, lengthsOf, lengthList, total, dayNumbered, monthNumbered, freshOf, admitOf, cashOf, letterOf, lodgeOf, releaseOf, settleOf, annualOf, advanceOf, statementOf, specialOf, callsOf, namedCall, wordsOf, parsed}
 use Rattle.journal.specs.declared.Reason.{Reason}
 use Rattle.journal.specs.declared.Request.{Request}
 use Rattle.journal.specs.declared.fields.Kind.{Kind}
@@ -159,8 +159,8 @@ special-counted room l =
     closed-counted (t .left) (Request.Special (lengthsOf (t .lengths))) (t .numbers)
     (seven (t .lengths) (lists-many areMarks room l) ∙ lists-total areMarks room l)
 
-call-counted : (room k : ℕ) (l : Left) → Counted (callOf room k l)
-unfolding callOf callsOf Counted
+call-counted : (room k : ℕ) (l : Left) → Counted (namedCall room k l)
+unfolding namedCall callsOf Counted
 call-counted room k l =
     at-place Counted (callsOf room l) k (plain (Request.Error Reason.NoCall))
     (fresh-counted l, (admit-counted l, (lodge-counted l, (release-counted l, (settle-counted room l, (annual-counted l, (advance-counted l, (statement-counted l, (plain-counted l Request.Calls refl, (special-counted room l, (plain-counted l Request.Report refl, tt)))))))))))

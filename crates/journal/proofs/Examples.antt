@@ -12,7 +12,7 @@ use Rattle.words.specs.Numerals.{natural, valueFrom, naturalOf, unsignedOf, neg
 use Rattle.words.specs.Dates.{isDated, isMonthed, numbered, datedDay, numberedMonth, datedMonth, dayIn, monthIn}
 use Rattle.journal.specs.Names.{callNames, roleNames, lodgedNames, roleIn, lodgedIn, readNumber}
 use Rattle.journal.specs.Fields.{nextOf, faulted, taken, fieldOf, closed, withNumber, numbersOf, wordsLeft, figuresOf, listOf, onLists, listsOf}
-use Rattle.journal.specs.Grammar.{plain, freshOf, admitOf, cashOf, letterOf, lodgeOf, releaseOf, annualOf, advanceOf, statementOf, settleOf, specialOf, callsOf, callOf, wordsOf, parsed}
+use Rattle.journal.specs.Grammar.{plain, freshOf, admitOf, cashOf, letterOf, lodgeOf, releaseOf, annualOf, advanceOf, statementOf, settleOf, specialOf, callsOf, namedCall, wordsOf, parsed}
 use Rattle.journal.specs.declared.Reason.{Reason}
 use Rattle.journal.specs.declared.Request.{Request}
 
@@ -45,5 +45,5 @@ pub examples :
     × (parsed 9 (text "special 0 0 1 -1 0 0 0 0") ≡ plain (Request.Error Reason.NotNumber))
     × (parsed 9 (text "special 3 1") ≡ record { request = Request.Error Reason.TooFewWords; numbers = pos 1 ∷ [] })
     × (parsed 0 (text "settlement 1") ≡ plain (Request.Error Reason.NoCall))
-unfolding parsed wordsOf callOf callsOf uncommented some control blank words apart onto placeIn same callNames roleNames lodgedNames roleIn lodgedIn natural each digit valueFrom naturalOf unsignedOf negativeOf signedOf readNumber isDated isMonthed numbered datedDay numberedMonth datedMonth dayIn monthIn isDate monthNumber dayOfDate firstDay lengthOf lengthIn leap nextOf faulted taken fieldOf closed withNumber numbersOf wordsLeft figuresOf listOf onLists listsOf freshOf admitOf cashOf letterOf lodgeOf releaseOf annualOf advanceOf statementOf settleOf specialOf
+unfolding parsed wordsOf namedCall callsOf uncommented some control blank words apart onto placeIn same callNames roleNames lodgedNames roleIn lodgedIn natural each digit valueFrom naturalOf unsignedOf negativeOf signedOf readNumber isDated isMonthed numbered datedDay numberedMonth datedMonth dayIn monthIn isDate monthNumber dayOfDate firstDay lengthOf lengthIn leap nextOf faulted taken fieldOf closed withNumber numbersOf wordsLeft figuresOf listOf onLists listsOf freshOf admitOf cashOf letterOf lodgeOf releaseOf annualOf advanceOf statementOf settleOf specialOf
 examples = (refl, refl, refl, refl, refl, refl, refl, refl, refl, refl, refl, refl, refl, refl, refl, refl, refl, refl, refl, refl, refl, refl, refl, refl)

@@ -14,7 +14,7 @@ use Rattle.words.specs.Words.{apart, onto, words, placeIn}
 use Rattle.words.specs.Found.{NextWord}
 use Rattle.journal.specs.Names.{callNames}
 use Rattle.journal.specs.Fields.{Left, closed, leftAt}
-use Rattle.journal.specs.Grammar.{plain, freshOf, admitOf, lodgeOf, releaseOf, settleOf, annualOf, advanceOf, statementOf, specialOf, callsOf, callOf, wordsOf, parsed}
+use Rattle.journal.specs.Grammar.{plain, freshOf, admitOf, lodgeOf, releaseOf, settleOf, annualOf, advanceOf, statementOf, specialOf, callsOf, namedCall, wordsOf, parsed}
 use Rattle.journal.specs.Steps.{ParsedIs}
 use Rattle.journal.specs.declared.Reason.{Reason}
 use Rattle.journal.specs.declared.Request.{Request}
@@ -22,56 +22,56 @@ use Rattle.journal.specs.declared.fields.Place.{Place}
 use Rattle.words.proofs.WordLaws.{a-word, no-words}
 
 module _ (k : ℕ) (l : Left) (e : List ℤ) (r : Request) where
-  pub call-fresh : k ≡ 0 → r ≡ freshOf l → ParsedIs (callOf (length e) k l) e r e
-  unfolding callOf callsOf
+  pub call-fresh : k ≡ 0 → r ≡ freshOf l → ParsedIs (namedCall (length e) k l) e r e
+  unfolding namedCall callsOf
   call-fresh q h = rw q (record { request = h; numbers = refl })
 
-  pub call-admit : k ≡ 1 → r ≡ admitOf l → ParsedIs (callOf (length e) k l) e r e
-  unfolding callOf callsOf
+  pub call-admit : k ≡ 1 → r ≡ admitOf l → ParsedIs (namedCall (length e) k l) e r e
+  unfolding namedCall callsOf
   call-admit q h = rw q (record { request = h; numbers = refl })
 
-  pub call-lodge : k ≡ 2 → r ≡ lodgeOf l → ParsedIs (callOf (length e) k l) e r e
-  unfolding callOf callsOf
+  pub call-lodge : k ≡ 2 → r ≡ lodgeOf l → ParsedIs (namedCall (length e) k l) e r e
+  unfolding namedCall callsOf
   call-lodge q h = rw q (record { request = h; numbers = refl })
 
-  pub call-release : k ≡ 3 → r ≡ releaseOf l → ParsedIs (callOf (length e) k l) e r e
-  unfolding callOf callsOf
+  pub call-release : k ≡ 3 → r ≡ releaseOf l → ParsedIs (namedCall (length e) k l) e r e
+  unfolding namedCall callsOf
   call-release q h = rw q (record { request = h; numbers = refl })
 
-  pub call-settle : (g : List ℤ) → k ≡ 4 → ParsedIs (settleOf (length e) l) e r g → ParsedIs (callOf (length e) k l) e r g
-  unfolding callOf callsOf
+  pub call-settle : (g : List ℤ) → k ≡ 4 → ParsedIs (settleOf (length e) l) e r g → ParsedIs (namedCall (length e) k l) e r g
+  unfolding namedCall callsOf
   call-settle g q h = rw q h
 
-  pub call-annual : k ≡ 5 → r ≡ annualOf l → ParsedIs (callOf (length e) k l) e r e
-  unfolding callOf callsOf
+  pub call-annual : k ≡ 5 → r ≡ annualOf l → ParsedIs (namedCall (length e) k l) e r e
+  unfolding namedCall callsOf
   call-annual q h = rw q (record { request = h; numbers = refl })
 
-  pub call-advance : k ≡ 6 → r ≡ advanceOf l → ParsedIs (callOf (length e) k l) e r e
-  unfolding callOf callsOf
+  pub call-advance : k ≡ 6 → r ≡ advanceOf l → ParsedIs (namedCall (length e) k l) e r e
+  unfolding namedCall callsOf
   call-advance q h = rw q (record { request = h; numbers = refl })
 
-  pub call-statement : k ≡ 7 → r ≡ statementOf l → ParsedIs (callOf (length e) k l) e r e
-  unfolding callOf callsOf
+  pub call-statement : k ≡ 7 → r ≡ statementOf l → ParsedIs (namedCall (length e) k l) e r e
+  unfolding namedCall callsOf
   call-statement q h = rw q (record { request = h; numbers = refl })
 
-  pub call-calls : k ≡ 8 → r ≡ closed l Request.Calls → ParsedIs (callOf (length e) k l) e r e
-  unfolding callOf callsOf
+  pub call-calls : k ≡ 8 → r ≡ closed l Request.Calls → ParsedIs (namedCall (length e) k l) e r e
+  unfolding namedCall callsOf
   call-calls q h = rw q (record { request = h; numbers = refl })
 
-  pub call-special : (g : List ℤ) → k ≡ 9 → ParsedIs (specialOf (length e) l) e r g → ParsedIs (callOf (length e) k l) e r g
-  unfolding callOf callsOf
+  pub call-special : (g : List ℤ) → k ≡ 9 → ParsedIs (specialOf (length e) l) e r g → ParsedIs (namedCall (length e) k l) e r g
+  unfolding namedCall callsOf
   call-special g q h = rw q h
 
-  pub call-report : k ≡ 10 → r ≡ closed l Request.Report → ParsedIs (callOf (length e) k l) e r e
-  unfolding callOf callsOf
+  pub call-report : k ≡ 10 → r ≡ closed l Request.Report → ParsedIs (namedCall (length e) k l) e r e
+  unfolding namedCall callsOf
   call-report q h = rw q (record { request = h; numbers = refl })
 
   many-calls : length (callsOf (length e) l) ≡ 11
   unfolding callsOf
   many-calls = refl
 
-no-call : (k : ℕ) (l : Left) (e : List ℤ) → 11 ≤ k → ParsedIs (callOf (length e) k l) e (Request.Error Reason.NoCall) e
-unfolding callOf
+no-call : (k : ℕ) (l : Left) (e : List ℤ) → 11 ≤ k → ParsedIs (namedCall (length e) k l) e (Request.Error Reason.NoCall) e
+unfolding namedCall
 no-call k l e h =
     let b : length (callsOf (length e) l) ≤ k = omega (arith, many-calls k l e Request.Nothing) in
     rw (List·getD-eq-default (callsOf (length e) l) (plain (Request.Error Reason.NoCall)) b) (record { request = refl; numbers = refl })
@@ -80,7 +80,7 @@ past : (n k : ℕ) → n ≤ k → (k ≡ n → ⊥) → suc n ≤ k
 past n k h d = omega arith
 
 pub none-of-them : (k : ℕ) (l : Left) (e : List ℤ) → (k ≡ 0 → ⊥) → (k ≡ 1 → ⊥) → (k ≡ 2 → ⊥) → (k ≡ 3 → ⊥) → (k ≡ 4 → ⊥) → (k ≡ 5 → ⊥) → (k ≡ 6 → ⊥) → (k ≡ 7 → ⊥) → (k ≡ 8 → ⊥) → (k ≡ 9 → ⊥) → (k ≡ 10 → ⊥)
-    → ParsedIs (callOf (length e) k l) e (Request.Error Reason.NoCall) e
+    → ParsedIs (namedCall (length e) k l) e (Request.Error Reason.NoCall) e
 none-of-them k l e n0 n1 n2 n3 n4 n5 n6 n7 n8 n9 n10 =
     no-call k l e (past 10 k (past 9 k (past 8 k (past 7 k (past 6 k (past 5 k (past 4 k (past 3 k (past 2 k (past 1 k (past 0 k (zero-le) n0) n1) n2) n3) n4) n5) n6) n7) n8) n9) n10)
 
@@ -97,7 +97,7 @@ module _ (s : List ℕ) (start end : ℕ) (x : NextWord s 0 start end) (e : List
 
   pub line-is : (start ≡ end → ⊥) → (k : ℕ) (g : List ℤ) (r : Request)
       → k ≡ placeIn (take (end - start) (drop start s)) (words (text "fresh admit lodge release settle annual advance statement calls special report"))
-      → ParsedIs (callOf (length e) k (leftAt s (Place.At end))) e r g → ParsedIs (wordsOf (length e) (words s)) e r g
+      → ParsedIs (namedCall (length e) k (leftAt s (Place.At end))) e r g → ParsedIs (wordsOf (length e) (words s)) e r g
   unfolding wordsOf leftAt
   line-is n k g r q h =
       let f : k ≡ placeIn (take (end - start) (drop start s)) callNames = q ∙ ap (placeIn (take (end - start) (drop start s))) call-words in

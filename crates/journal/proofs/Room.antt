@@ -19,7 +19,7 @@ use Rattle.words.specs.Words.{words, placeIn}
 use Rattle.words.specs.declared.numbers.Signed.{Signed}
 use Rattle.journal.specs.Names.{readNumber, callNames}
 use Rattle.journal.specs.Fields.{Left, more, nextOf, fieldOf, closed, Numbers, withNumber, numbersOf, figuresOf, wordsLeft, listOf, Lists, onLists, listsOf}
-use Rattle.journal.specs.Grammar.{Parsed, plain, areMarks, freshOf, admitOf, lodgeOf, releaseOf, settleOf, annualOf, advanceOf, statementOf, specialOf, callsOf, callOf, wordsOf, parsed}
+use Rattle.journal.specs.Grammar.{Parsed, plain, areMarks, freshOf, admitOf, lodgeOf, releaseOf, settleOf, annualOf, advanceOf, statementOf, specialOf, callsOf, namedCall, wordsOf, parsed}
 use Rattle.journal.specs.Steps.{ParsedIs}
 use Rattle.journal.specs.declared.Reason.{Reason}
 use Rattle.journal.specs.declared.Request.{Request}
@@ -81,8 +81,8 @@ special-fits : (room : ℕ) (l : Left) → Fits room (specialOf room l)
 unfolding Fits specialOf
 special-fits room l = lists-fit areMarks room l
 
-call-fits : (room k : ℕ) (l : Left) → Fits room (callOf room k l)
-unfolding callOf callsOf
+call-fits : (room k : ℕ) (l : Left) → Fits room (namedCall room k l)
+unfolding namedCall callsOf
 call-fits room k l =
     at-place (Fits room) (callsOf room l) k (plain (Request.Error Reason.NoCall))
     (plain-fits room (freshOf l), (plain-fits room (admitOf l), (plain-fits room (lodgeOf l), (plain-fits room (releaseOf l), (settle-fits room l, (plain-fits room (annualOf l), (plain-fits room (advanceOf l), (plain-fits room (statementOf l), (plain-fits room (closed l Request.Calls), (special-fits room l, (plain-fits room (closed l Request.Report), tt)))))))))))

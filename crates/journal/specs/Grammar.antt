@@ -143,13 +143,13 @@ callsOf room l =
     ∷ plain (closed l Request.Report)
     ∷ []
 
-unfoldable pub callOf : ℕ → ℕ → Left → Parsed
-callOf room k l = getD (callsOf room l) k (plain (Request.Error Reason.NoCall))
+unfoldable pub namedCall : ℕ → ℕ → Left → Parsed
+namedCall room k l = getD (callsOf room l) k (plain (Request.Error Reason.NoCall))
 
 -- A line by its words: "empty lines are skipped".
 unfoldable pub wordsOf : ℕ → List (List ℕ) → Parsed
 wordsOf room [] = plain Request.Nothing
-wordsOf room (w ∷ ws) = callOf room (placeIn w callNames) (more ws)
+wordsOf room (w ∷ ws) = namedCall room (placeIn w callNames) (more ws)
 
 -- A line, with room for so many numbers: its comment is cut off, and a control byte before that makes it an error.
 unfoldable pub parsed : ℕ → List ℕ → Parsed

@@ -9,3 +9,4 @@ pub mod Magnitudes
 pub mod Largest
 pub mod Places
 pub mod Clipped
+pub mod Causes

@@ -13,31 +13,31 @@ use mir.Val.{SFits, toZ, ofZ}
 use mir.Facts.{toZ-ofZ}
 use Rattle.laws.specs.Integers.{cast-natural, above-not-negative}
 use Rattle.laws.specs.Cases.{and-left}
-use Rattle.manual.specs.Check.{exceedsTolerance, exceedsEach, calls, checked}
-use Rattle.manual.specs.Laws.{calls-above, calls-tolerance}
+use Rattle.manual.specs.Check.{exceedsTolerance, exceedsEach, callIsMade, checked}
+use Rattle.manual.specs.Laws.{callIsMade-above, callIsMade-tolerance}
 use Rattle.manual.specs.declared.Check.the-variants.{Call, Covered}
 
 -- ---- the tests: t₁ of the tolerance, t₂ against the firm amount, t₃ against the open calls
 
 module _ (t₁ : Bool) (e : ℤ) (d firm : ℕ) (opens : List ℕ) (f : SFits w64 e) (said₁ : t₁ ≡ exceedsTolerance (toZ w64 (ofZ w64 e)) d) where
-  pub within-tolerance : t₁ ≡ false → false ≡ calls e d firm opens
-  unfolding calls
+  pub within-tolerance : t₁ ≡ false → false ≡ callIsMade e d firm opens
+  unfolding callIsMade
   within-tolerance p = rw (sym (rw (toZ-ofZ f) at said₁) ∙ p)
 
   module _ (t₂ : Bool) (held₁ : t₁ ≡ true) (said₂ : t₂ ≡ ltZ (pos firm) (toZ w64 (ofZ w64 e))) where
-    pub within-firm : t₂ ≡ false → false ≡ calls e d firm opens
-    unfolding calls exceedsEach
+    pub within-firm : t₂ ≡ false → false ≡ callIsMade e d firm opens
+    unfolding callIsMade exceedsEach
     within-firm p = rw (sym (rw (toZ-ofZ f) at said₁) ∙ held₁, sym (rw (toZ-ofZ f) at said₂) ∙ p)
 
-    pub against-open : (t₃ : Bool) → t₂ ≡ true → t₃ ≡ exceedsEach (toZ w64 (ofZ w64 e)) opens → t₃ ≡ calls e d firm opens
-    unfolding calls exceedsEach
+    pub against-open : (t₃ : Bool) → t₂ ≡ true → t₃ ≡ exceedsEach (toZ w64 (ofZ w64 e)) opens → t₃ ≡ callIsMade e d firm opens
+    unfolding callIsMade exceedsEach
     against-open t₃ held₂ said₃ =
         rw (sym (rw (toZ-ofZ f) at said₁) ∙ held₁, sym (rw (toZ-ofZ f) at said₂) ∙ held₂) (rw (toZ-ofZ f) at said₃)
 
 -- ---- the outcome, by what the test t of a call said
 
-module _ (t : Bool) (e : ℤ) (d firm : ℕ) (opens : List ℕ) (f : SFits w64 e) (said : t ≡ calls (toZ w64 (ofZ w64 e)) d firm opens) where
-  decided : t ≡ calls e d firm opens
+module _ (t : Bool) (e : ℤ) (d firm : ℕ) (opens : List ℕ) (f : SFits w64 e) (said : t ≡ callIsMade (toZ w64 (ofZ w64 e)) d firm opens) where
+  decided : t ≡ callIsMade e d firm opens
   decided = rw (toZ-ofZ f) at said
 
   pub covered : t ≡ false → Covered ≡ checked e d firm opens
@@ -51,7 +51,7 @@ module _ (t : Bool) (e : ℤ) (d firm : ℕ) (opens : List ℕ) (f : SFits w64 e
   pub called-natural : t ≡ true → T (nonNeg (toZ w64 (ofZ w64 e)))
   unfolding exceedsTolerance
   called-natural p =
-      cast-natural e f (above-not-negative d e (and-left (ltZ (pos d) e) _ (calls-tolerance e d firm opens (sym decided ∙ p))))
+      cast-natural e f (above-not-negative d e (and-left (ltZ (pos d) e) _ (callIsMade-tolerance e d firm opens (sym decided ∙ p))))
 
   pub called-above : t ≡ true → d ≤ natAbs (toZ w64 (ofZ w64 e))
-  called-above p = rw (toZ-ofZ f) (le-of-lt (calls-above e d firm opens (sym decided ∙ p)))
+  called-above p = rw (toZ-ofZ f) (le-of-lt (callIsMade-above e d firm opens (sym decided ∙ p)))

@@ -18,9 +18,9 @@ exceedsEach e [] = true
 exceedsEach e (a ∷ rest) = ltZ (pos a) e && exceedsEach e rest
 
 -- ".. E exceeds the firm amount and E exceeds every open call": whether a call is made.
-unfoldable pub calls : ℤ → ℕ → ℕ → List ℕ → Bool
-calls e d firm opens = exceedsTolerance e d && exceedsEach e (firm ∷ opens)
+unfoldable pub callIsMade : ℤ → ℕ → ℕ → List ℕ → Bool
+callIsMade e d firm opens = exceedsTolerance e d && exceedsEach e (firm ∷ opens)
 
 -- The check's outcome: ".. amount E, .. asked E − D", or covered.
 unfoldable pub checked : ℤ → ℕ → ℕ → List ℕ → Check
-checked e d firm opens = cond (calls e d firm opens) (Call (natAbs e) (natAbs e - d)) Covered
+checked e d firm opens = cond (callIsMade e d firm opens) (Call (natAbs e) (natAbs e - d)) Covered

@@ -14,7 +14,7 @@ use Rattle.laws.specs.Cases.{split, and-left, and-right, and-both, or-second}
 use Rattle.laws.specs.Integers.{above-natural, above-less, above-positive, larger-within, Within, sumOf, sumOf-bound}
 use Rattle.manual.specs.Minimum.{minimums, minimumOf}
 use Rattle.manual.specs.Charge.{dayCharge}
-use Rattle.manual.specs.Check.{exceedsTolerance, exceedsEach, calls, checked}
+use Rattle.manual.specs.Check.{exceedsTolerance, exceedsEach, callIsMade, checked}
 use Rattle.manual.specs.Annual.{largestTotal, annualAmount}
 use Rattle.manual.specs.Figures.{bound, wrongCount, allWithin, outOfRange}
 
@@ -45,34 +45,34 @@ dayCharge-bound s b p q = split (eqb s 0) (λ t. rw t (omega arith)) (λ t. rw t
 
 -- ---- a call
 
-module _ (e : ℤ) (d firm : ℕ) (opens : List ℕ) (called : calls e d firm opens ≡ true) where
-  pub calls-tolerance : exceedsTolerance e d ≡ true
-  unfolding calls
-  calls-tolerance = and-left (exceedsTolerance e d) (exceedsEach e (firm ∷ opens)) called
+module _ (e : ℤ) (d firm : ℕ) (opens : List ℕ) (called : callIsMade e d firm opens ≡ true) where
+  pub callIsMade-tolerance : exceedsTolerance e d ≡ true
+  unfolding callIsMade
+  callIsMade-tolerance = and-left (exceedsTolerance e d) (exceedsEach e (firm ∷ opens)) called
 
-  pub calls-each : exceedsEach e (firm ∷ opens) ≡ true
-  unfolding calls
-  calls-each = and-right (exceedsTolerance e d) (exceedsEach e (firm ∷ opens)) called
+  pub callIsMade-each : exceedsEach e (firm ∷ opens) ≡ true
+  unfolding callIsMade
+  callIsMade-each = and-right (exceedsTolerance e d) (exceedsEach e (firm ∷ opens)) called
 
   -- the total exceeds the deposited guarantee
-  pub calls-above : d < natAbs e
+  pub callIsMade-above : d < natAbs e
   unfolding exceedsTolerance
-  calls-above = above-less d e (and-left (ltZ (pos d) e) _ calls-tolerance)
+  callIsMade-above = above-less d e (and-left (ltZ (pos d) e) _ callIsMade-tolerance)
 
   -- the total is a natural number
-  pub calls-natural : e ≡ pos (natAbs e)
+  pub callIsMade-natural : e ≡ pos (natAbs e)
   unfolding exceedsTolerance
-  calls-natural = above-natural d e (and-left (ltZ (pos d) e) _ calls-tolerance)
+  callIsMade-natural = above-natural d e (and-left (ltZ (pos d) e) _ callIsMade-tolerance)
 
   -- the total exceeds the firm amount
-  pub calls-firm : firm < natAbs e
+  pub callIsMade-firm : firm < natAbs e
   unfolding exceedsEach
-  calls-firm = above-less firm e (and-left (ltZ (pos firm) e) (exceedsEach e opens) calls-each)
+  callIsMade-firm = above-less firm e (and-left (ltZ (pos firm) e) (exceedsEach e opens) callIsMade-each)
 
   -- the total exceeds each open call
-  pub calls-opens : exceedsEach e opens ≡ true
+  pub callIsMade-opens : exceedsEach e opens ≡ true
   unfolding exceedsEach
-  calls-opens = and-right (ltZ (pos firm) e) (exceedsEach e opens) calls-each
+  callIsMade-opens = and-right (ltZ (pos firm) e) (exceedsEach e opens) callIsMade-each
 
 -- a total that exceeds each amount of a list exceeds the one at an index
 pub exceedsEach-at : (e : ℤ) (l : List ℕ) → exceedsEach e l ≡ true → (i : ℕ) → i < length l → getD l i 0 < natAbs e
@@ -98,14 +98,14 @@ exceedsEach-zeros e l k p =
     exceedsEach-append e l (replicate k 0) ∙ ap (λ (t : Bool). exceedsEach e l && t) (exceedsEach-only-zeros e k p) ∙ and-true (exceedsEach e l)
 
 -- zeros behind the open calls' amounts change no check
-pub calls-zeros : (e : ℤ) (d firm : ℕ) (l : List ℕ) (k : ℕ) → calls e d firm (l ++ replicate k 0) ≡ calls e d firm l
-unfolding calls exceedsTolerance exceedsEach
-calls-zeros e d firm l k =
+pub callIsMade-zeros : (e : ℤ) (d firm : ℕ) (l : List ℕ) (k : ℕ) → callIsMade e d firm (l ++ replicate k 0) ≡ callIsMade e d firm l
+unfolding callIsMade exceedsTolerance exceedsEach
+callIsMade-zeros e d firm l k =
     split (ltZ (pos d) e) (λ p. rw (exceedsEach-zeros e l k (above-positive d e p))) (λ p. simp p)
 
 pub checked-zeros : (e : ℤ) (d firm : ℕ) (l : List ℕ) (k : ℕ) → checked e d firm (l ++ replicate k 0) ≡ checked e d firm l
 unfolding checked
-checked-zeros e d firm l k = rw (calls-zeros e d firm l k)
+checked-zeros e d firm l k = rw (callIsMade-zeros e d firm l k)
 
 -- ---- the sum of a month's figures
 

@@ -2,7 +2,7 @@ use crate::Check;
 ghost use mathlib.Core.Path.{_≡_};
 ghost use lib.IntN.{pos};
 ghost use lib.Signed.{ltZ};
-ghost use Rattle.manual.specs.Check.{exceedsTolerance, exceedsEach, calls, checked};
+ghost use Rattle.manual.specs.Check.{exceedsTolerance, exceedsEach, callIsMade, checked};
 
 // Whether a total exceeds an amount.
 pub fn exceeds(total: i64, amount: u64) -> bool
@@ -40,7 +40,7 @@ fn exceeds_each(total: i64, amounts: &[u64]) -> bool
 
 // Whether a total calls, given the deposited guarantee, the firm amount and the open calls' amounts.
 fn calls_for(total: i64, deposited: u64, firm: u64, amounts: &[u64]) -> bool
-    ensures { λ r. ⌜ r ≡ calls total deposited firm (now (amounts .entry)) ⌝ }
+    ensures { λ r. ⌜ r ≡ callIsMade total deposited firm (now (amounts .entry)) ⌝ }
 {
     if !exceeds_tolerance(total, deposited) {
         return false;

@@ -20,7 +20,7 @@ use Rattle.words.specs.declared.numbers.Number.{Number}
 use Rattle.words.specs.declared.numbers.Signed.{Signed}
 use Rattle.journal.specs.Names.{callNames, roleNames, roleIn, readNumber, whyNot}
 use Rattle.journal.specs.Fields.{Left, more, fault, nextOf, taken, fieldOf, closed, Numbers, withNumber, numbersOf, wordsLeft, figuresOf, listOf, onLists, listsOf}
-use Rattle.journal.specs.Grammar.{Parsed, plain, areMarks, lengthsOf, lengthList, total, dayNumbered, monthNumbered, freshOf, admitOf, cashOf, letterOf, lodgeOf, releaseOf, settleOf, annualOf, advanceOf, statementOf, specialOf, callsOf, callOf, wordsOf, parsed}
+use Rattle.journal.specs.Grammar.{Parsed, plain, areMarks, lengthsOf, lengthList, total, dayNumbered, monthNumbered, freshOf, admitOf, cashOf, letterOf, lodgeOf, releaseOf, settleOf, annualOf, advanceOf, statementOf, specialOf, callsOf, namedCall, wordsOf, parsed}
 use Rattle.journal.specs.declared.Reason.{Reason}
 use Rattle.journal.specs.declared.Request.{Request}
 use Rattle.journal.specs.declared.fields.Kind.{Kind}
@@ -238,8 +238,8 @@ no-call-fits : Fits (plain (Request.Error Reason.NoCall))
 unfolding Fits
 no-call-fits n k c = absurd c
 
-call-fits : (room k : ℕ) (l : Left) → Fits (callOf room k l)
-unfolding callOf callsOf
+call-fits : (room k : ℕ) (l : Left) → Fits (namedCall room k l)
+unfolding namedCall callsOf
 call-fits room k l =
     at-place Fits (callsOf room l) k (plain (Request.Error Reason.NoCall))
     (fresh-fits l, (admit-fits l, (lodge-fits l, (release-fits l, (settle-fits room l, (annual-fits l, (advance-fits l, (statement-fits l, (plain-fits l Request.Calls refl, (special-fits room l, (plain-fits l Request.Report refl, tt)))))))))))

@@ -16,7 +16,7 @@ use Rattle.words.specs.Bytes.{blank, control, each, same}
 use Rattle.words.specs.Words.{placeIn}
 use Rattle.journal.specs.Names.{callNames, lodgedNames, lodgedIn}
 use Rattle.journal.specs.Fields.{more, closed}
-use Rattle.journal.specs.Grammar.{plain, areMarks, freshOf, admitOf, cashOf, letterOf, lodgeOf, releaseOf, settleOf, annualOf, advanceOf, statementOf, specialOf, callsOf, callOf, wordsOf, parsed}
+use Rattle.journal.specs.Grammar.{plain, areMarks, freshOf, admitOf, cashOf, letterOf, lodgeOf, releaseOf, settleOf, annualOf, advanceOf, statementOf, specialOf, callsOf, namedCall, wordsOf, parsed}
 use Rattle.words.specs.declared.numbers.Number.{Number}
 use Rattle.journal.specs.declared.Request.{Request}
 use Rattle.journal.specs.declared.Lengths.{Lengths}
@@ -126,47 +126,47 @@ call-words (Request.Error e) zs = tt
 
 module _ (room : ℕ) (ws : List (List ℕ)) where
   at-fresh : wordsOf room (text "fresh" ∷ ws) ≡ plain (freshOf (more ws))
-  unfolding wordsOf callOf callsOf placeIn same callNames
+  unfolding wordsOf namedCall callsOf placeIn same callNames
   at-fresh = refl
 
   at-admit : wordsOf room (text "admit" ∷ ws) ≡ plain (admitOf (more ws))
-  unfolding wordsOf callOf callsOf placeIn same callNames
+  unfolding wordsOf namedCall callsOf placeIn same callNames
   at-admit = refl
 
   at-lodge : wordsOf room (text "lodge" ∷ ws) ≡ plain (lodgeOf (more ws))
-  unfolding wordsOf callOf callsOf placeIn same callNames
+  unfolding wordsOf namedCall callsOf placeIn same callNames
   at-lodge = refl
 
   at-release : wordsOf room (text "release" ∷ ws) ≡ plain (releaseOf (more ws))
-  unfolding wordsOf callOf callsOf placeIn same callNames
+  unfolding wordsOf namedCall callsOf placeIn same callNames
   at-release = refl
 
   at-settle : wordsOf room (text "settle" ∷ ws) ≡ settleOf room (more ws)
-  unfolding wordsOf callOf callsOf placeIn same callNames
+  unfolding wordsOf namedCall callsOf placeIn same callNames
   at-settle = refl
 
   at-annual : wordsOf room (text "annual" ∷ ws) ≡ plain (annualOf (more ws))
-  unfolding wordsOf callOf callsOf placeIn same callNames
+  unfolding wordsOf namedCall callsOf placeIn same callNames
   at-annual = refl
 
   at-advance : wordsOf room (text "advance" ∷ ws) ≡ plain (advanceOf (more ws))
-  unfolding wordsOf callOf callsOf placeIn same callNames
+  unfolding wordsOf namedCall callsOf placeIn same callNames
   at-advance = refl
 
   at-statement : wordsOf room (text "statement" ∷ ws) ≡ plain (statementOf (more ws))
-  unfolding wordsOf callOf callsOf placeIn same callNames
+  unfolding wordsOf namedCall callsOf placeIn same callNames
   at-statement = refl
 
   at-calls : wordsOf room (text "calls" ∷ ws) ≡ plain (closed (more ws) Request.Calls)
-  unfolding wordsOf callOf callsOf placeIn same callNames
+  unfolding wordsOf namedCall callsOf placeIn same callNames
   at-calls = refl
 
   at-special : wordsOf room (text "special" ∷ ws) ≡ specialOf room (more ws)
-  unfolding wordsOf callOf callsOf placeIn same callNames
+  unfolding wordsOf namedCall callsOf placeIn same callNames
   at-special = refl
 
   at-report : wordsOf room (text "report" ∷ ws) ≡ plain (closed (more ws) Request.Report)
-  unfolding wordsOf callOf callsOf placeIn same callNames
+  unfolding wordsOf namedCall callsOf placeIn same callNames
   at-report = refl
 
 -- The arguments of each call.

@@ -17,12 +17,13 @@ use Rattle.calendar.specs.Civil.{monthOf}
 use Rattle.manual.specs.Figures.{sumOf}
 use Rattle.manual.specs.Laws.{summed-total}
 use Rattle.file.specs.declared.File.{File}
-use Rattle.file.specs.Answer.{Answer, done, annual, opened, Cause, decide, statementSays}
+use Rattle.file.specs.Answer.{Answer, refused, done, annual, daysOpened, Cause, decide, statementSays}
 use Rattle.file.specs.Fields.{shortfallOf}
 use Rattle.file.specs.Totals.{totalAt}
 use Rattle.file.specs.TotalLaws.{totals-length}
 use Rattle.file.specs.Lodge.{lodgeAnswer}
 use Rattle.file.specs.Release.{releaseAnswer}
+use Rattle.file.specs.CheckLaws.{settled-answer}
 use Rattle.file.specs.Settle.{settlementCalls, checkDue, settledAnswer, settleAnswer}
 use Rattle.file.specs.Annual.{annualTotals, annualAmountOf, annualAnswer}
 use Rattle.file.specs.Statement.{statementOf}
@@ -35,7 +36,7 @@ use Rattle.layout.specs.Words.{place, bookOfWords}
 use Rattle.layout.specs.WellFormed.{WellFormed}
 use Rattle.book.specs.Call.{Act, admit, lodge, release, settle, annualRun, Call, on, advance, statement, callsMade}
 use Rattle.book.specs.Account.{fileAt, ifNumbered, ifAdmitted, fileAnswer, daysToOpen, answer}
-use Rattle.book.specs.Lawful.{NoneHolds}
+use Rattle.book.proofs.Participant.Lawful.{NoneHolds}
 use Rattle.book.specs.Reached.{Given}
 use Rattle.book.specs.InWords.{GivenWords}
 use Rattle.replay.specs.Encoding.{largestSigned, six, WithinSigned}
@@ -67,7 +68,7 @@ five-read a b c d e v w x y z h p q r s t =
 -- ---- the bounds of an answer's numbers
 
 -- A decision's numbers are within where those of the answer with no cause are.
-decide-within : (causes : List Cause) (x : Answer) → (NoneHolds causes → WithinSigned x) → WithinSigned (decide causes x)
+decide-within : (causes : List Cause) (x : Answer) → (NoneHolds causes → WithinSigned x) → WithinSigned (decide refused causes x)
 unfolding decide
 decide-within [] x h = h tt
 decide-within (c ∷ causes) x h =
@@ -77,11 +78,10 @@ decide-within (c ∷ causes) x h =
 
 -- A settlement's.
 settlement-within : (f : File) (t m : ℕ) (figures : List ℤ) → natAbs (sumOf figures) ≤ 16000000000000 → WithinSigned (settledAnswer f t m figures)
-unfolding settledAnswer
 settlement-within f t m figures h =
     split (settlementCalls f t m figures)
-    (λ e. rw e (omega arith, omega arith))
-    (λ e. rw e (split (checkDue (monthOf t) m) (λ g. rw g tt) (λ g. rw g tt)))
+    (λ e. rw (settled-answer f t m figures, e) (omega arith, omega arith))
+    (λ e. rw (settled-answer f t m figures, e) (split (checkDue (monthOf t) m) (λ g. rw g tt) (λ g. rw g tt)))
 
 settle-within : (f : File) (t m : ℕ) (figures : List ℤ) → WithinSigned (settleAnswer f t m figures)
 unfolding settleAnswer
@@ -126,7 +126,7 @@ unfolding answer ifNumbered ifAdmitted
 answer-within l (on p a) w =
     let b = bookOfWords l in
     decide-within _ (fileAnswer (fileAt b p) (b .today .0) a) (λ n. file-within (fileAt b p) (b .today .0) a (sound-file b p (w .sound)))
-answer-within l (advance day budget) w = decide-within _ (opened (daysToOpen (bookOfWords l) day budget)) (λ n. tt)
+answer-within l (advance day budget) w = decide-within _ (daysOpened (daysToOpen (bookOfWords l) day budget)) (λ n. tt)
 answer-within l (statement p) w =
     let b = bookOfWords l in
     decide-within _ (ifAdmitted (fileAt b p) (statementSays (statementOf (fileAt b p) (b .today .0))))

@@ -17,7 +17,7 @@ use mir.Facts.{toZ-ofZ}
 use Rattle.laws.specs.Clipped.{take-clipped, drop-clipped}
 use Rattle.file.specs.declared.Position.{Position}
 use Rattle.file.specs.declared.Position.the-variants.{Cash, Letter}
-use Rattle.file.specs.Answer.{Answer, refused, done, called, covered, recorded, annual, opened, stated, counted, decide}
+use Rattle.file.specs.Answer.{Answer, refused, done, called, covered, recorded, annual, daysOpened, stated, counted, decide}
 use Rattle.layout.specs.Book.{Book}
 use Rattle.layout.specs.Words.{bookLength, bookOfWords}
 use Rattle.layout.specs.WellFormed.{WellFormed}
@@ -26,7 +26,7 @@ use Rattle.book.specs.Account.{freshBook, freshAnswer, freshBookBeside, answer,
 use Rattle.book.specs.Reading.Decisions.{decision, eventsOf}
 use Rattle.book.specs.Reached.{Given, Begun}
 use Rattle.book.specs.InWords.{GivenWords, BegunWords}
-use Rattle.replay.specs.Encoding.{number, letterOf, callOf, callAt, callsUpTo, numbersOf, decided}
+use Rattle.replay.specs.Encoding.{number, letterOf, callOfWords, callAt, callsUpTo, numbersOf, decided}
 use Rattle.replay.specs.Replayed.{GivenNumbers, callCount, Replayed, ReplayedFrom}
 use Rattle.book.proofs.History.Life.{life, given}
 
@@ -58,60 +58,60 @@ part-is l from count start n p q =
 
 module _ (figures : List ℤ) (k a b c d e : ℕ) (l : List ℕ) (z : List ℤ) where
   -- The call is this one.
-  is-call : (m : List ℕ) (call : Call) → callOf figures k a b c d e ≡ call → GivenNumbers l call z m
-      → GivenNumbers l (callOf figures k a b c d e) z m
+  is-call : (m : List ℕ) (call : Call) → callOfWords figures k a b c d e ≡ call → GivenNumbers l call z m
+      → GivenNumbers l (callOfWords figures k a b c d e) z m
   is-call m call p g = subst (λ (y : Call). GivenNumbers l y z m) (sym p) g
 
   -- A kind below 8 is the named one.
-  of-kind : (m : List ℕ) (n : ℕ) (call : Call) → k ≡ n → callOf figures n a b c d e ≡ call → GivenNumbers l call z m
-      → GivenNumbers l (callOf figures k a b c d e) z m
-  of-kind m n call p q g = is-call m call (ap (λ (y : ℕ). callOf figures y a b c d e) p ∙ q) g
+  of-kind : (m : List ℕ) (n : ℕ) (call : Call) → k ≡ n → callOfWords figures n a b c d e ≡ call → GivenNumbers l call z m
+      → GivenNumbers l (callOfWords figures k a b c d e) z m
+  of-kind m n call p q g = is-call m call (ap (λ (y : ℕ). callOfWords figures y a b c d e) p ∙ q) g
 
   module _ (x : Answer) (m : List ℕ) (h : z ≡ numbersOf x) where
-    pub as-admit : k ≡ 0 → GivenWords l (on a (admit b)) x m → GivenNumbers l (callOf figures k a b c d e) z m
-    unfolding callOf
+    pub as-admit : k ≡ 0 → GivenWords l (on a (admit b)) x m → GivenNumbers l (callOfWords figures k a b c d e) z m
+    unfolding callOfWords
     as-admit p g = of-kind m 0 (on a (admit b)) p refl (gave l m (on a (admit b)) x z g h)
 
-    pub as-cash : k ≡ 1 → GivenWords l (on a (lodge b (Cash c))) x m → GivenNumbers l (callOf figures k a b c d e) z m
-    unfolding callOf
+    pub as-cash : k ≡ 1 → GivenWords l (on a (lodge b (Cash c))) x m → GivenNumbers l (callOfWords figures k a b c d e) z m
+    unfolding callOfWords
     as-cash p g = of-kind m 1 (on a (lodge b (Cash c))) p refl (gave l m (on a (lodge b (Cash c))) x z g h)
 
     pub as-letter : (held : Position) → k ≡ 2 → held ≡ letterOf c d e → GivenWords l (on a (lodge b held)) x m
-        → GivenNumbers l (callOf figures k a b c d e) z m
-    unfolding callOf
+        → GivenNumbers l (callOfWords figures k a b c d e) z m
+    unfolding callOfWords
     as-letter held p q g =
         of-kind m 2 (on a (lodge b held)) p (ap (λ (y : Position). on a (lodge b y)) (sym q)) (gave l m (on a (lodge b held)) x z g h)
 
-    pub as-release : k ≡ 3 → GivenWords l (on a (release b c)) x m → GivenNumbers l (callOf figures k a b c d e) z m
-    unfolding callOf
+    pub as-release : k ≡ 3 → GivenWords l (on a (release b c)) x m → GivenNumbers l (callOfWords figures k a b c d e) z m
+    unfolding callOfWords
     as-release p g = of-kind m 3 (on a (release b c)) p refl (gave l m (on a (release b c)) x z g h)
 
     pub as-settle : (mo : ℕ) (lent : List ℤ) → k ≡ 4 → mo ≡ number b → lent ≡ take d (drop c figures)
-        → GivenWords l (on a (settle mo lent)) x m → GivenNumbers l (callOf figures k a b c d e) z m
-    unfolding callOf
+        → GivenWords l (on a (settle mo lent)) x m → GivenNumbers l (callOfWords figures k a b c d e) z m
+    unfolding callOfWords
     as-settle mo lent p q r g =
         of-kind m 4 (on a (settle mo lent)) p (ap₂ (λ (y : ℕ) (f : List ℤ). on a (settle y f)) (sym q) (sym r))
         (gave l m (on a (settle mo lent)) x z g h)
 
-    pub as-annual : k ≡ 5 → GivenWords l (on a annualRun) x m → GivenNumbers l (callOf figures k a b c d e) z m
-    unfolding callOf
+    pub as-annual : k ≡ 5 → GivenWords l (on a annualRun) x m → GivenNumbers l (callOfWords figures k a b c d e) z m
+    unfolding callOfWords
     as-annual p g = of-kind m 5 (on a annualRun) p refl (gave l m (on a annualRun) x z g h)
 
     pub as-advance : (day : ℕ) → k ≡ 6 → day ≡ number a → GivenWords l (advance day b) x m
-        → GivenNumbers l (callOf figures k a b c d e) z m
-    unfolding callOf
+        → GivenNumbers l (callOfWords figures k a b c d e) z m
+    unfolding callOfWords
     as-advance day p q g =
         of-kind m 6 (advance day b) p (ap (λ (y : ℕ). advance y b) (sym q)) (gave l m (advance day b) x z g h)
 
   module _ (x : Answer) (w : WellFormed l) (h : z ≡ numbersOf x) where
-    pub as-statement : k ≡ 7 → Given (bookOfWords l) (statement a) x (bookOfWords l) → GivenNumbers l (callOf figures k a b c d e) z l
-    unfolding callOf
+    pub as-statement : k ≡ 7 → Given (bookOfWords l) (statement a) x (bookOfWords l) → GivenNumbers l (callOfWords figures k a b c d e) z l
+    unfolding callOfWords
     as-statement p g = of-kind l 7 (statement a) p refl (asked l (statement a) x z w g h)
 
     -- A kind above 7.
     pub as-count : (k ≡ 0 → ⊥) → (k ≡ 1 → ⊥) → (k ≡ 2 → ⊥) → (k ≡ 3 → ⊥) → (k ≡ 4 → ⊥) → (k ≡ 5 → ⊥) → (k ≡ 6 → ⊥) → (k ≡ 7 → ⊥)
-        → Given (bookOfWords l) callsMade x (bookOfWords l) → GivenNumbers l (callOf figures k a b c d e) z l
-    unfolding callOf
+        → Given (bookOfWords l) callsMade x (bookOfWords l) → GivenNumbers l (callOfWords figures k a b c d e) z l
+    unfolding callOfWords
     as-count n₀ n₁ n₂ n₃ n₄ n₅ n₆ n₇ g =
         is-call l callsMade
         (simp (ne-eqb k 0 n₀, ne-eqb k 1 n₁, ne-eqb k 2 n₂, ne-eqb k 3 n₃, ne-eqb k 4 n₄, ne-eqb k 5 n₅, ne-eqb k 6 n₆, ne-eqb k 7 n₇))
@@ -145,7 +145,7 @@ numbers-long (called e asked last) = refl
 numbers-long (covered e) = refl
 numbers-long (recorded e) = refl
 numbers-long (annual a n) = refl
-numbers-long (opened n) = refl
+numbers-long (daysOpened n) = refl
 numbers-long (stated f c s d a) = refl
 numbers-long (counted n) = refl
 

@@ -9,7 +9,7 @@ use lib.ListN.{getD, take, drop}
 use lib.IntN.{ℤ, pos}
 use Rattle.file.specs.declared.Position.{Position}
 use Rattle.file.specs.declared.Position.the-variants.{Cash, Letter}
-use Rattle.file.specs.Answer.{Answer, refused, done, called, covered, recorded, annual, opened, stated, counted}
+use Rattle.file.specs.Answer.{Answer, refused, done, called, covered, recorded, annual, daysOpened, stated, counted}
 use Rattle.book.specs.Call.{admit, lodge, release, settle, annualRun, Call, on, advance, statement, callsMade}
 use Rattle.book.specs.Reading.Decisions.{decision, eventsOf}
 
@@ -23,8 +23,8 @@ letterOf amount first last = Letter amount (record { 0 = number first }) (record
 
 -- The call in six words: its kind and its arguments. A settlement's figures are the d from place c on of the lent figures, or as many of
 -- these as there are. A kind above 7 is the question for the count.
-unfoldable pub callOf : List ℤ → ℕ → ℕ → ℕ → ℕ → ℕ → ℕ → Call
-callOf figures kind a b c d e =
+unfoldable pub callOfWords : List ℤ → ℕ → ℕ → ℕ → ℕ → ℕ → ℕ → Call
+callOfWords figures kind a b c d e =
     cond (eqb kind 0) (on a (admit b))
     (cond (eqb kind 1) (on a (lodge b (Cash c)))
     (cond (eqb kind 2) (on a (lodge b (letterOf c d e)))
@@ -37,7 +37,7 @@ callOf figures kind a b c d e =
 -- The call at place n of a list of calls.
 unfoldable pub callAt : List ℕ → List ℤ → ℕ → Call
 callAt calls figures n =
-    callOf figures
+    callOfWords figures
     (getD calls (6 * n) 0)
     (getD calls (6 * n + 1) 0)
     (getD calls (6 * n + 2) 0)
@@ -62,7 +62,7 @@ numbersOf (called e asked last) = six 2 (pos e) (pos asked) (pos last) (pos 0) (
 numbersOf (covered e) = six 3 e (pos 0) (pos 0) (pos 0) (pos 0)
 numbersOf (recorded e) = six 4 e (pos 0) (pos 0) (pos 0) (pos 0)
 numbersOf (annual a n) = six 5 (pos a) (pos n) (pos 0) (pos 0) (pos 0)
-numbersOf (opened n) = six 6 (pos n) (pos 0) (pos 0) (pos 0) (pos 0)
+numbersOf (daysOpened n) = six 6 (pos n) (pos 0) (pos 0) (pos 0) (pos 0)
 numbersOf (stated f c s d a) = six 7 (pos f) (pos c) (pos s) (pos d) (pos a)
 numbersOf (counted n) = six 8 (pos n) (pos 0) (pos 0) (pos 0) (pos 0)
 
@@ -78,7 +78,7 @@ WithinSigned (called e asked last) = (e ≤ largestSigned) × (asked ≤ largest
 WithinSigned (covered e) = Unit {0}
 WithinSigned (recorded e) = Unit {0}
 WithinSigned (annual a n) = (a ≤ largestSigned) × (n ≤ largestSigned)
-WithinSigned (opened n) = Unit {0}
+WithinSigned (daysOpened n) = Unit {0}
 WithinSigned (stated f c s d a) =
     (f ≤ largestSigned)
     × (c ≤ largestSigned)

@@ -7,7 +7,7 @@ ghost use mathlib.Core.Path.{_≡_};
 ghost use Prim.Native.Nat.{_+_, _*_, _≤_, min};
 ghost use lib.ListN.{length, take, drop};
 ghost use Rattle.layout.specs.WellFormed.{WellFormed};
-ghost use Rattle.replay.specs.Encoding.{number, letterOf, callOf, callAt};
+ghost use Rattle.replay.specs.Encoding.{number, letterOf, callOfWords, callAt};
 ghost use Rattle.replay.specs.Replayed.{GivenNumbers};
 
 // A word as a day or month number.
@@ -60,7 +60,7 @@ fn apply(
     e: u64,
 ) -> [i64; 6]
     requires { ⌜ WellFormed (now book) ⌝ }
-    ensures { λ r. ⌜ GivenNumbers (now (book .entry)) (callOf (now (figures .entry)) kind a b c d e) r (now (book .exit)) ⌝ }
+    ensures { λ r. ⌜ GivenNumbers (now (book .entry)) (callOfWords (now (figures .entry)) kind a b c d e) r (now (book .exit)) ⌝ }
 {
     match kind {
         0 => encoded::outcome_numbers(book::admit(book, a, b)),

@@ -5,7 +5,7 @@ use mathlib.Core.Bool.{cond}
 use mathlib.Core.List.{List, [], _∷_, _++_}
 use lib.ListN.{getD}
 use Rattle.words.specs.Text.{text}
-use Rattle.file.specs.Answer.{Answer, refused, done, called, covered, recorded, annual, opened, stated, counted}
+use Rattle.file.specs.Answer.{Answer, refused, done, called, covered, recorded, annual, daysOpened, stated, counted}
 use Rattle.layout.specs.Book.{Book}
 use Rattle.book.specs.Account.{answer, fileAt}
 use Rattle.book.specs.Call.{statement}
@@ -56,7 +56,7 @@ lineOf p r (called e asked last) = []
 lineOf p r (covered e) = []
 lineOf p r (recorded e) = []
 lineOf p r (annual a n) = []
-lineOf p r (opened n) = []
+lineOf p r (daysOpened n) = []
 lineOf p r (counted n) = []
 
 unfoldable pub row : Book → ℕ → List ℕ

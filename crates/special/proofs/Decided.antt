@@ -13,11 +13,12 @@ use lib.IntN.{ℤ}
 use Rattle.laws.specs.Cases.{and-left, and-right}
 use Rattle.laws.specs.Integers.{sumOf}
 use Rattle.laws.specs.Largest.{falling, threeLargest, meanOfThree, falling-length}
+use Rattle.laws.specs.Causes.{decide}
 use Rattle.special.specs.declared.rates.Best.{Best}
 use Rattle.special.specs.declared.Special.the-variants.{Guarantee, Refused}
 use Rattle.special.specs.Ranges.{ratesInRange, marksInRange, zerosInRange, excessesInRange, Amounts}
 use Rattle.special.specs.Ratio.{usable, ratio}
-use Rattle.special.specs.Causes.{wrongLengths, outOfRange, tooFew, causes, firstCause}
+use Rattle.special.specs.Causes.{wrongLengths, outOfRange, tooFew, causes}
 use Rattle.special.specs.Guarantee.{amount, specialGuarantee}
 use Rattle.special.specs.Best.{kept, empty, BestOf}
 use Rattle.special.proofs.Usable.{usable-all}
@@ -89,11 +90,11 @@ pub record Passed (medium low : List ℤ) (marks : List ℕ) (zm zl em el : List
 
 module _ (medium low : List ℤ) (marks : List ℕ) (zm zl em el : List ℤ) where
   pub refused-19 : wrongLengths (length medium) (length low) (length marks) (length zm) (length zl) (length em) (length el) ≡ true → Refused 19 ≡ specialGuarantee medium low marks zm zl em el
-  unfolding specialGuarantee causes firstCause
+  unfolding specialGuarantee causes decide
   refused-19 t = rw t
 
   pub refused-11 : wrongLengths (length medium) (length low) (length marks) (length zm) (length zl) (length em) (length el) ≡ false → outOfRange medium low marks zm zl em el ≡ true → Refused 11 ≡ specialGuarantee medium low marks zm zl em el
-  unfolding specialGuarantee causes firstCause
+  unfolding specialGuarantee causes decide
   refused-11 t u = rw (t, u)
 
 module _ {medium low : List ℤ} {marks : List ℕ} {zm zl em el : List ℤ} (p : Passed medium low marks zm zl em el) where
@@ -129,7 +130,7 @@ module _ {medium low : List ℤ} {marks : List ℕ} {zm zl em el : List ℤ} (p 
     too-few = rw (all-medium .number, hl .number)
 
     pub refused-18 : ltb (bm .n) 3 || ltb (bl .n) 3 ≡ true → Refused 18 ≡ specialGuarantee medium low marks zm zl em el
-    unfolding specialGuarantee causes firstCause
+    unfolding specialGuarantee causes decide
     refused-18 v = rw (p .lengths, p .ranges, too-few ∙ v)
 
     module _ (enough : ltb (bm .n) 3 || ltb (bl .n) 3 ≡ false) where
@@ -146,7 +147,7 @@ module _ {medium low : List ℤ} {marks : List ℕ} {zm zl em el : List ℤ} (p 
       kept-low = kept-in-range (usable low marks) bl hl enough-low (usable-in-range low marks low-in-range)
 
       pub accepted : (g : ℕ) → g ≡ amount (meanOfThree (kept bm)) (sumOf zm) (meanOfThree (kept bl)) (sumOf zl) (sumOf em) (sumOf el) → Guarantee g ≡ specialGuarantee medium low marks zm zl em el
-      unfolding specialGuarantee causes firstCause
+      unfolding specialGuarantee causes decide
       accepted g e =
           rw (p .lengths, p .ranges, too-few ∙ enough)
           (ap Guarantee (e ∙ rw (kept-ratio medium bm all-medium enough-medium, kept-ratio (usable low marks) bl hl enough-low)))

@@ -1,15 +1,14 @@
 -- The causes of refusal of paper 01 for the special guarantee: "special 19, 11, 18".
 -- Assumes nothing.
 use Prim.Native.Nat.{ℕ}
-use mathlib.Core.Bool.{Bool, cond, not, _&&_, _||_}
+use mathlib.Core.Bool.{Bool, not, _&&_, _||_}
 use mathlib.Core.List.{List, [], _∷_}
 use lib.Dec.{ltb, eqb}
 use lib.ListN.{length}
 use lib.IntN.{ℤ}
+use Rattle.laws.specs.Causes.{Cause}
 use Rattle.special.specs.Ranges.{ratesInRange, marksInRange, zerosInRange, excessesInRange}
 use Rattle.special.specs.Ratio.{usable}
-use Rattle.special.specs.declared.Special.{Special}
-use Rattle.special.specs.declared.Special.the-variants.{Refused}
 
 -- Cause 19, of the lists' lengths: "more than 64 rates, marks not as many as low rates, or the four lists unequal or above 16".
 unfoldable pub wrongLengths : ℕ → ℕ → ℕ → ℕ → ℕ → ℕ → ℕ → Bool
@@ -27,11 +26,6 @@ outOfRange medium low marks zeroMedium zeroLow excessMedium excessLow =
 unfoldable pub tooFew : List ℤ → List ℤ → Bool
 tooFew medium low = ltb (length medium) 3 || ltb (length low) 3
 
--- A cause of refusal: its number, and whether it holds.
-pub record Cause : Type 0 where
-  pub number : ℕ
-  pub holds : Bool
-
 -- The causes in the paper's order: 19, 11, 18.
 unfoldable pub causes : List ℤ → List ℤ → List ℕ → List ℤ → List ℤ → List ℤ → List ℤ → List Cause
 causes medium low marks zeroMedium zeroLow excessMedium excessLow =
@@ -44,8 +38,3 @@ causes medium low marks zeroMedium zeroLow excessMedium excessLow =
     ∷ record { number = 11; holds = outOfRange medium low marks zeroMedium zeroLow excessMedium excessLow }
     ∷ record { number = 18; holds = tooFew medium (usable low marks) }
     ∷ []
-
--- "refused with the first that does": the number of the first cause that holds, or the answer where none does.
-unfoldable pub firstCause : List Cause → Special → Special
-firstCause [] answer = answer
-firstCause (cause ∷ rest) answer = cond (cause .holds) (Refused (cause .number)) (firstCause rest answer)

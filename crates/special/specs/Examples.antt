@@ -6,9 +6,10 @@ use lib.IntN.{pos, negsuc}
 use Rattle.laws.specs.Integers.{sumOf}
 use Rattle.laws.specs.Signed.{floorDiv, nearest}
 use Rattle.laws.specs.Largest.{insert, falling, threeLargest, meanOfThree}
+use Rattle.laws.specs.Causes.{decide}
 use Rattle.special.specs.Ranges.{every}
 use Rattle.special.specs.Ratio.{usable, ratio}
-use Rattle.special.specs.Causes.{wrongLengths, outOfRange, tooFew, causes, firstCause}
+use Rattle.special.specs.Causes.{wrongLengths, outOfRange, tooFew, causes}
 use Rattle.special.specs.Guarantee.{atLeast, amount, specialGuarantee}
 use Rattle.special.specs.declared.Special.the-variants.{Guarantee}
 
@@ -33,7 +34,7 @@ pub section-8 :
     (pos 0 ∷ pos 0 ∷ pos 2826388 ∷ pos 0 ∷ [])
     ≡ Guarantee 7933114
 unfolding sumOf floorDiv nearest insert falling threeLargest meanOfThree every usable ratio wrongLengths outOfRange tooFew
-    causes firstCause atLeast amount specialGuarantee
+    causes decide atLeast amount specialGuarantee
 section-8 = refl
 
 -- "Halves upward means toward the larger number, below zero too"

@@ -4,11 +4,12 @@ use Prim.Native.Nat.{ℕ, _≤_, max}
 use mathlib.Core.List.{List}
 use lib.IntN.{ℤ, pos, negsuc, natAbs, _+ℤ_, _-ℤ_, _*ℤ_}
 use Rattle.laws.specs.Integers.{sumOf}
+use Rattle.laws.specs.Causes.{decide}
 use Rattle.laws.specs.Signed.{nearest}
 use Rattle.special.specs.Ratio.{usable, ratio}
-use Rattle.special.specs.Causes.{causes, firstCause}
+use Rattle.special.specs.Causes.{causes}
 use Rattle.special.specs.declared.Special.{Special}
-use Rattle.special.specs.declared.Special.the-variants.{Guarantee}
+use Rattle.special.specs.declared.Special.the-variants.{Guarantee, Refused}
 
 -- ".. and at least €5,000": an amount in cents, raised to the minimum if below it.
 unfoldable pub atLeast : ℕ → ℤ → ℕ
@@ -30,9 +31,9 @@ pub record Bounded (mediumRatio mediumSum lowRatio lowSum mediumExcess lowExcess
   pub medium-excess : natAbs mediumExcess ≤ 16000000000000
   pub low-excess : natAbs lowExcess ≤ 16000000000000
 
--- The guarantee of the seven lists, or the number of the first cause that refuses them.
+-- The guarantee of the seven lists, or the number of the first cause that refuses them: "special 19, 11, 18".
 unfoldable pub specialGuarantee : List ℤ → List ℤ → List ℕ → List ℤ → List ℤ → List ℤ → List ℤ → Special
 specialGuarantee medium low marks zeroMedium zeroLow excessMedium excessLow =
-    firstCause (causes medium low marks zeroMedium zeroLow excessMedium excessLow)
+    decide Refused (causes medium low marks zeroMedium zeroLow excessMedium excessLow)
     (Guarantee
     (amount (ratio medium) (sumOf zeroMedium) (ratio (usable low marks)) (sumOf zeroLow) (sumOf excessMedium) (sumOf excessLow)))

@@ -14,7 +14,7 @@ use Rattle.laws.specs.Lists.{All, all-at, all-map}
 use Rattle.laws.specs.Cases.{or-first, or-second}
 use Rattle.laws.specs.Places.{upTo, upTo-none, upTo-next, upTo-all, upTo-long, upTo-turn}
 use Rattle.file.specs.declared.File.{File}
-use Rattle.file.specs.Answer.{Answer, refused, opened, decide, accepted}
+use Rattle.file.specs.Answer.{Answer, refused, daysOpened, decide, accepted}
 use Rattle.file.specs.Sound.{Sound}
 use Rattle.file.specs.Opening.{openedFile}
 use Rattle.layout.specs.Book.{Book}
@@ -154,7 +154,7 @@ days-opened (suc n) b =
 late-answer : (b : Book) (day budget : ℕ) → (ltb 29219 day || ltb day (b .today .0)) ≡ true → refused 17 ≡ answer b (advance day budget)
 unfolding answer
 late-answer b day budget e =
-    sym (decide-true (record { number = 17; holds = ltb 29219 day || ltb day (b .today .0) }) [] (opened (min budget (day - b .today .0))) e)
+    sym (decide-true (record { number = 17; holds = ltb 29219 day || ltb day (b .today .0) }) [] (daysOpened (min budget (day - b .today .0))) e)
 
 pub refused-outside : (b : Book) (day budget : ℕ) (outside : Bool) → outside ≡ (ltb 29219 day || ltb day (b .today .0))
     → outside ≡ true → Given b (advance day budget) (refused 17) b
@@ -170,10 +170,10 @@ outside-not day t outside e h = (
 )
 
 -- An accepted one.
-opened-answer : (b : Book) (day budget : ℕ) → day ≤ 29219 → b .today .0 ≤ day → opened (min budget (day - b .today .0)) ≡ answer b (advance day budget)
+opened-answer : (b : Book) (day budget : ℕ) → day ≤ 29219 → b .today .0 ≤ day → daysOpened (min budget (day - b .today .0)) ≡ answer b (advance day budget)
 unfolding answer decide
 opened-answer b day budget h k =
-    sym (decide-false (record { number = 17; holds = ltb 29219 day || ltb day (b .today .0) }) [] (opened (min budget (day - b .today .0))) neither)
+    sym (decide-false (record { number = 17; holds = ltb 29219 day || ltb day (b .today .0) }) [] (daysOpened (min budget (day - b .today .0))) neither)
   where
     neither : (ltb 29219 day || ltb day (b .today .0)) ≡ false
     neither = ap (λ (t : Bool). t || ltb day (b .today .0)) (le-ltb 29219 day h) ∙ le-ltb day (b .today .0) k
@@ -181,13 +181,13 @@ opened-answer b day budget h k =
 pub gave-days : (b : Book) (day budget n : ℕ) (outside : Bool) (files : List File)
     → outside ≡ (ltb 29219 day || ltb day (b .today .0)) → outside ≡ false
     → n ≡ min budget (day - b .today .0) → files ≡ filesOpened n (b .today .0) (b .files)
-    → Given b (advance day budget) (opened n) (record { files = files; today = record { 0 = b .today .0 + n }; made = b .made })
+    → Given b (advance day budget) (daysOpened n) (record { files = files; today = record { 0 = b .today .0 + n }; made = b .made })
 unfolding step applied
 gave-days b day budget n outside files test h number all =
     let within = outside-not day (b .today .0) outside test h in
     let e = opened-answer b day budget (within .0) (within .1) in
-    given b (advance day budget) (opened n) (record { files = files; today = record { 0 = b .today .0 + n }; made = b .made })
-    (ap opened number ∙ e)
+    given b (advance day budget) (daysOpened n) (record { files = files; today = record { 0 = b .today .0 + n }; made = b .made })
+    (ap daysOpened number ∙ e)
     ((λ i. record { files = all i; today = record { 0 = b .today .0 + n }; made = b .made })
     ∙ sym (days-opened n b)
     ∙ ap (λ (m : ℕ). openDays m b) number

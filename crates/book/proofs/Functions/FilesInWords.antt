@@ -12,7 +12,7 @@ use lib.ListN.{length, getD, set, length-set}
 use Rattle.laws.specs.Lists.{All}
 use Rattle.laws.specs.Places.{over, over-none, over-more, over-all, Filling, filling-first, filling-next}
 use Rattle.file.specs.declared.File.{File}
-use Rattle.file.specs.Answer.{refused, opened}
+use Rattle.file.specs.Answer.{refused, daysOpened}
 use Rattle.file.specs.Admit.{noFile}
 use Rattle.file.specs.Sound.{Sound}
 use Rattle.layout.specs.Book.{Book}
@@ -112,23 +112,23 @@ module _ (l : List ℕ) (day budget t : ℕ) (outside : Bool) (w : WellFormed l)
       (refused-outside (bookOfWords l) day budget outside (rw today-is at test) h)
 
   -- no day
-  pub none-given : (n : ℕ) → outside ≡ false → n ≡ min budget (day - t) → n ≡ 0 → GivenWords l (advance day budget) (opened n) l
+  pub none-given : (n : ℕ) → outside ≡ false → n ≡ min budget (day - t) → n ≡ 0 → GivenWords l (advance day budget) (daysOpened n) l
   unfolding filesOpened
   none-given n h number none =
       let b = bookOfWords l in
-      nothing-written l (advance day budget) (opened n) w
-      (subst (Given b (advance day budget) (opened n))
+      nothing-written l (advance day budget) (daysOpened n) w
+      (subst (Given b (advance day budget) (daysOpened n))
       (λ i. record { files = b .files; today = record { 0 = (ap (λ (k : ℕ). b .today .0 + k) none ∙ add-zero (b .today .0)) i }; made = b .made })
       (gave-days b day budget n outside (b .files) (rw today-is at test) h (number ∙ ap (λ (k : ℕ). min budget (day - k)) today-is)
       (ap (λ (k : ℕ). filesOpened k (b .today .0) (b .files)) (sym none))))
 
   pub days-given : (m : List ℕ) (n : ℕ) → outside ≡ false → n ≡ min budget (day - t)
-      → FilesStored l (filesOpened n t (bookOfWords l .files)) m → GivenWords l (advance day budget) (opened n) (set m 1 (t + n))
+      → FilesStored l (filesOpened n t (bookOfWords l .files)) m → GivenWords l (advance day budget) (daysOpened n) (set m 1 (t + n))
   days-given m n h number stored =
       let within = days-within day t outside test h budget n number in
       let long : 3 ≤ length m = omega (arith, stored .long, w .long) in
-      in-words l (set m 1 (t + n)) (advance day budget) (opened n) w
-      (subst (Given (bookOfWords l) (advance day budget) (opened n))
+      in-words l (set m 1 (t + n)) (advance day budget) (daysOpened n) w
+      (subst (Given (bookOfWords l) (advance day budget) (daysOpened n))
       (sym (today-book m (t + n) long (omega arith)
       ∙ (λ i. record { files = stored .stand i .files; today = record { 0 = today-is i + n }; made = stored .stand i .made })))
       (gave-days (bookOfWords l) day budget n outside (filesOpened n t (bookOfWords l .files)) (rw today-is at test) h

@@ -13,8 +13,9 @@ use lib.Seq.{set-getD}
 use Rattle.laws.specs.Cases.{split, cond-true, cond-false}
 use Rattle.file.specs.declared.File.{File}
 use Rattle.file.specs.declared.Position.{Position}
-use Rattle.file.specs.Answer.{Answer, refused, done, called, covered, recorded, annual, opened, stated, counted, decide, accepted}
+use Rattle.file.specs.Answer.{Answer, refused, done, called, covered, recorded, annual, daysOpened, stated, counted, decide, accepted}
 use Rattle.file.specs.Admit.{noFile, admittedFile, callsOfAdmission}
+use Rattle.file.specs.CheckLaws.{settled-answer}
 use Rattle.file.specs.Settle.{settleAnswer, settledFile, settledAnswer, settlementCalls, checkDue}
 use Rattle.calendar.specs.Civil.{monthOf}
 use Rattle.manual.specs.Figures.{sumOf}
@@ -85,15 +86,15 @@ refused-not-called (called a b c) e = e
 refused-not-called (covered a) e = refl
 refused-not-called (recorded a) e = refl
 refused-not-called (annual a n) e = refl
-refused-not-called (opened n) e = refl
+refused-not-called (daysOpened n) e = refl
 refused-not-called (stated f c s d a) e = refl
 refused-not-called (counted n) e = refl
 
 -- A settlement's answer where no cause holds is a call where the manual's check calls.
 settled-called : (f : File) (t m : ℕ) (figures : List ℤ) → isCalled (settledAnswer f t m figures) ≡ settlementCalls f t m figures
-unfolding settledAnswer
 settled-called f t m figures =
-    split (settlementCalls f t m figures)
+    ap isCalled (settled-answer f t m figures)
+    ∙ split (settlementCalls f t m figures)
     (λ e. ap isCalled (cond-true (settlementCalls f t m figures) _ _ e) ∙ sym e)
     (λ e. ap isCalled (cond-false (settlementCalls f t m figures) _ _ e) ∙ either (checkDue (monthOf t) m) (sumOf figures) ∙ sym e)
   where

@@ -20,7 +20,7 @@ use Rattle.file.specs.declared.MonthTotal.{MonthTotal}
 use Rattle.file.specs.declared.AnnualRun.{AnnualRun}
 use Rattle.file.specs.declared.Slot.{Slot}
 use Rattle.file.specs.declared.Statement.{Statement}
-use Rattle.file.specs.Answer.{Answer, refused, done, called, covered, recorded, annual, opened, stated, counted, accepted, annualSays, statementSays}
+use Rattle.file.specs.Answer.{Answer, refused, done, called, covered, recorded, annual, daysOpened, stated, counted, accepted, annualSays, statementSays}
 use Rattle.file.specs.Admit.{noFile, admittedFile}
 use Rattle.file.specs.Annual.{annualAmountOf, annualAnswer, annualFile}
 use Rattle.file.specs.Calls.{callOf}
@@ -138,7 +138,7 @@ amountIn (called e asked last) = 0
 amountIn (covered e) = 0
 amountIn (recorded e) = 0
 amountIn (annual a n) = a
-amountIn (opened n) = 0
+amountIn (daysOpened n) = 0
 amountIn (stated f c s d a) = 0
 amountIn (counted n) = 0
 

@@ -13,7 +13,7 @@ use lib.ListN.{length, getD, set, replicate, length-append, length-set, length-m
 use Rattle.laws.specs.Lists.{All, all-default, all-set, all-replicate, all-map}
 use Rattle.laws.specs.Cases.{split, clash, cond-true, cond-false, or-first, or-second}
 use Rattle.file.specs.declared.File.{File}
-use Rattle.file.specs.Answer.{Answer, done, opened, Cause, decide, accepted}
+use Rattle.file.specs.Answer.{Answer, refused, done, daysOpened, Cause, decide, accepted}
 use Rattle.file.specs.Admit.{noFile, admittedFile}
 use Rattle.file.specs.Fields.{openCalls, withSlots, withTotals, withNext, setTo}
 use Rattle.file.specs.Position.{slotOf}
@@ -105,7 +105,7 @@ fresh-sound d h =
 -- ---- a call on a file
 
 -- An accepted call's answer is the one that stands behind its causes.
-through : (causes : List Cause) (x : Answer) → accepted (decide causes x) ≡ true → accepted x ≡ true
+through : (causes : List Cause) (x : Answer) → accepted (decide refused causes x) ≡ true → accepted x ≡ true
 through causes x e = ap accepted (sym (decide-accepted causes x e)) ∙ e
 
 -- .. so its participant is numbered, and admitted where it asks that.
@@ -208,7 +208,7 @@ within : (b : Book) (day budget : ℕ) → accepted (answer b (advance day budge
     → b .today .0 + min budget (day - b .today .0) ≤ 29219
 unfolding answer
 within b day budget e le =
-    let none = none-holds (cause 17 (ltb 29219 day || ltb day (b .today .0)) ∷ []) (opened (min budget (day - b .today .0))) e in
+    let none = none-holds (cause 17 (ltb 29219 day || ltb day (b .today .0)) ∷ []) (daysOpened (min budget (day - b .today .0))) e in
     let low = ltb-false 29219 day (or-first (ltb 29219 day) (ltb day (b .today .0)) (none .0)) in
     let high = ltb-false day (b .today .0) (or-second (ltb 29219 day) (ltb day (b .today .0)) (none .0)) in
     omega arith

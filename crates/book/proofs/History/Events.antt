@@ -8,12 +8,12 @@ use mathlib.Core.List.{List, [], _∷_}
 use borrow.Author.Tests.{eqb-true, ltb-false}
 use lib.Dec.{eqb, ltb}
 use Rattle.laws.specs.Cases.{split, cond-true, cond-false}
-use Rattle.file.specs.Answer.{Answer, opened, decide, accepted}
+use Rattle.file.specs.Answer.{Answer, daysOpened, decide, accepted}
 use Rattle.book.specs.Call.{Act, Call, on, advance, statement, callsMade}
 use Rattle.book.specs.Reading.Events as E
 use Rattle.book.specs.Reading.Events.{Event, did, Own, dayOpened, act, mine, todayOf, todayIn, withDays}
 use Rattle.book.specs.Reading.Decisions.{cause, ownCauses, ownAnswer, ownStatement, decision, withCall, eventsOf}
-use Rattle.book.specs.Lawful.{NoneHolds, Lawful}
+use Rattle.book.proofs.Participant.Lawful.{NoneHolds, Lawful}
 use Rattle.file.specs.DecideLaws.{none-holds}
 
 -- Today, by the events and by each participant's part.
@@ -73,7 +73,7 @@ pub days-within : (s day budget : ℕ) (events : List Event) → accepted (decis
     → todayOf s events ≤ 29219 → todayOf s events + min budget (day - todayOf s events) ≤ 29219
 unfolding decision
 days-within s day budget events e le =
-    let none = none-holds (cause 17 (ltb 29219 day || ltb day (todayOf s events)) ∷ []) (opened (min budget (day - todayOf s events))) e in
+    let none = none-holds (cause 17 (ltb 29219 day || ltb day (todayOf s events)) ∷ []) (daysOpened (min budget (day - todayOf s events))) e in
     let both = or-false (ltb 29219 day) (ltb day (todayOf s events)) (none .0) in
     let low = ltb-false 29219 day (both .0) in
     let high = ltb-false day (todayOf s events) (both .1) in

@@ -21,7 +21,7 @@ use Rattle.book.specs.Reading.Holdings.{coverIn}
 use Rattle.book.specs.Reading.Calls.{firmIn}
 use Rattle.book.specs.Reading.Decisions.{cause, ownCauses, ownAnswer, decision, withCall}
 use Rattle.book.specs.Kept.{fileIn, bookIn}
-use Rattle.book.specs.Lawful.{NoneHolds, Lawful}
+use Rattle.book.proofs.Participant.Lawful.{NoneHolds, Lawful}
 use Rattle.book.specs.Life.{NoneHigher}
 use Rattle.file.specs.DecideLaws.{none-holds}
 use Rattle.book.proofs.History.Events.{today-mine, today-days, LawfulAll, lawful-call}

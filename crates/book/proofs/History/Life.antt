@@ -5,7 +5,7 @@ use Prim.Native.Nat.{ℕ, suc, _+_, _≤_}
 use mathlib.Core.Path.{_≡_, refl}
 use mathlib.Core.List.{List, [], _∷_}
 use lib.ListN.{length}
-use Rattle.file.specs.Answer.{Answer, decide}
+use Rattle.file.specs.Answer.{Answer, refused, decide}
 use Rattle.layout.specs.Book.{Book}
 use Rattle.book.specs.Call.{Act, admit, lodge, release, settle, annualRun, Call}
 use Rattle.book.specs.Account.{fileAnswer, fileAfter, callsAdded, answer, step}
@@ -13,7 +13,7 @@ use Rattle.book.specs.Reading.Events.{Own, act, todayIn}
 use Rattle.book.specs.Reading.Calls.{callsIn}
 use Rattle.book.specs.Reading.Decisions.{ownCauses, ownAnswer}
 use Rattle.book.specs.Kept.{fileIn}
-use Rattle.book.specs.Lawful.{NoneHolds, Lawful}
+use Rattle.book.proofs.Participant.Lawful.{NoneHolds, Lawful}
 use Rattle.book.specs.Life.{Life}
 use Rattle.book.specs.Reached.{Reached, Given}
 use Rattle.book.proofs.Participant.Cover.{cover-is}
@@ -32,7 +32,7 @@ use Rattle.book.proofs.History.Whole as Whole
 -- Each call's answer.
 answer-act : (s : ℕ) (own : List Own) → Lawful s own → (a : Act)
     → fileAnswer (fileIn (todayIn s own) own) (todayIn s own) a
-    ≡ decide (ownCauses (todayIn s own) own a) (ownAnswer (todayIn s own) own a)
+    ≡ decide refused (ownCauses (todayIn s own) own a) (ownAnswer (todayIn s own) own a)
 answer-act s own lw (admit role) = admit-answer (todayIn s own) own role
 answer-act s own lw (lodge k h) = lodging-answers (todayIn s own) k h own
 answer-act s own lw (release k a) = releasing-answers s k a own lw

@@ -14,7 +14,7 @@ use Rattle.laws.specs.Lists.{table}
 use Rattle.laws.specs.Tabulated.{table-ext, getD-table, set-table, replicate-table, map-table}
 use Rattle.laws.specs.Cases.{split, cond-true, cond-false}
 use Rattle.file.specs.declared.File.{File}
-use Rattle.file.specs.Answer.{Answer, refused, opened, counted, Cause, decide, accepted, statementSays}
+use Rattle.file.specs.Answer.{Answer, refused, daysOpened, counted, Cause, decide, accepted, statementSays}
 use Rattle.file.specs.Admit.{noFile}
 use Rattle.file.specs.Statement.{statementOf}
 use Rattle.layout.specs.Book.{Book}
@@ -25,7 +25,7 @@ use Rattle.book.specs.Reading.Events.{Event, did, Own, dayOpened, act, m
 use Rattle.book.specs.Reading.Calls.{callsIn}
 use Rattle.book.specs.Reading.Decisions.{cause, ownCauses, ownAnswer, ownStatement, callsBelow, decision, withCall, eventsOf}
 use Rattle.book.specs.Kept.{fileIn, bookIn}
-use Rattle.book.specs.Lawful.{NoneHolds, Lawful}
+use Rattle.book.proofs.Participant.Lawful.{NoneHolds, Lawful}
 use Rattle.file.specs.DecideLaws.{none-holds}
 use Rattle.book.proofs.Participant.Decide.{decide-first}
 use Rattle.book.proofs.History.Events.{today-mine, today-days, LawfulAll, lawful-opened, lawful-days, lawful-events, days-within, today-ends}
@@ -33,7 +33,7 @@ use Rattle.book.proofs.History.Events.{today-mine, today-days, LawfulAl
 -- What is shown of one participant: each call's answer and the file that it leaves, the calls that it adds, an opened day, the statement.
 pub record OnePart : Type 0 where
   pub answer-act : (s : ℕ) (own : List Own) → Lawful s own → (a : Act)
-      → fileAnswer (fileIn (todayIn s own) own) (todayIn s own) a ≡ decide (ownCauses (todayIn s own) own a) (ownAnswer (todayIn s own) own a)
+      → fileAnswer (fileIn (todayIn s own) own) (todayIn s own) a ≡ decide refused (ownCauses (todayIn s own) own a) (ownAnswer (todayIn s own) own a)
   pub after-act : (s : ℕ) (own : List Own) → Lawful s own → (a : Act) → NoneHolds (ownCauses (todayIn s own) own a)
       → fileAfter (fileIn (todayIn s own) own) (todayIn s own) a ≡ fileIn (todayIn s own) (act (todayIn s own) a ∷ own)
   pub calls-act : (s : ℕ) (own : List Own) → Lawful s own → (a : Act) → NoneHolds (ownCauses (todayIn s own) own a)
@@ -114,10 +114,10 @@ module _ (one : OnePart) where
   -- One participant's answer, by the events.
   answer-one : (s p : ℕ) (events : List Event) → LawfulAll s events → (a : Act)
       → fileAnswer (fileIn (todayOf s events) (mine p events)) (todayOf s events) a
-      ≡ decide (ownCauses (todayOf s events) (mine p events) a) (ownAnswer (todayOf s events) (mine p events) a)
+      ≡ decide refused (ownCauses (todayOf s events) (mine p events) a) (ownAnswer (todayOf s events) (mine p events) a)
   answer-one s p events lw a =
       subst
-      (λ (t : ℕ). fileAnswer (fileIn t (mine p events)) t a ≡ decide (ownCauses t (mine p events) a) (ownAnswer t (mine p events) a))
+      (λ (t : ℕ). fileAnswer (fileIn t (mine p events)) t a ≡ decide refused (ownCauses t (mine p events) a) (ownAnswer t (mine p events) a))
       (today-mine s p events)
       (one .answer-act s (mine p events) (lw p) a)
 
@@ -132,11 +132,11 @@ module _ (one : OnePart) where
   -- The statement of a participant, cause 2 before it.
   known-statement : (s p : ℕ) (events : List Event) → LawfulAll s events → p < 64
       → ifAdmitted (fileAt (bookIn s events) p) (statementSays (statementOf (fileAt (bookIn s events) p) (todayOf s events)))
-      ≡ decide (cause 2 (not (admittedIn (mine p events))) ∷ []) (ownStatement (todayOf s events) (mine p events))
+      ≡ decide refused (cause 2 (not (admittedIn (mine p events))) ∷ []) (ownStatement (todayOf s events) (mine p events))
   unfolding ifAdmitted fileIn
   known-statement s p events lw h =
       ap (λ (f : File). ifAdmitted f (statementSays (statementOf f (todayOf s events)))) (file-at s p events h)
-      ∙ ap (decide (cause 2 (not (admittedIn (mine p events))) ∷ [])) (statement-one s p events lw)
+      ∙ ap (decide refused (cause 2 (not (admittedIn (mine p events))) ∷ [])) (statement-one s p events lw)
 
   -- Each answer is the reading's decision.
   pub answer-is : (s : ℕ) (events : List Event) → LawfulAll s events → (c : Call) → answer (bookIn s events) c ≡ decision s events c

@@ -19,7 +19,7 @@ use Rattle.book.specs.Call.{Act, admit, lodge, release, settle, annualRu
 use Rattle.book.specs.Reading.Events.{Event, Own, dayOpened, act, mine, todayOf, todayIn, admittedIn}
 use Rattle.book.specs.Reading.Calls.{openOn, callsIn, calledIn, openIn}
 use Rattle.book.specs.Reading.Decisions.{ownCauses, callsBelow}
-use Rattle.book.specs.Lawful.{NoneHolds, Lawful}
+use Rattle.book.proofs.Participant.Lawful.{NoneHolds, Lawful}
 use Rattle.file.specs.CallLaws.{keep-append}
 use Rattle.book.proofs.Participant.Blank.{blank-calls}
 use Rattle.book.proofs.History.Events.{LawfulAll, today-within}

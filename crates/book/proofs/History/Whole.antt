@@ -16,12 +16,13 @@ use Rattle.book.specs.Reading.Events.{Event, Own, dayOpened, act, mine, 
 use Rattle.book.specs.Reading.Holdings.{coverIn}
 use Rattle.book.specs.Reading.Decisions.{decision, withCall, eventsOf}
 use Rattle.book.specs.Kept.{fileIn, bookIn}
-use Rattle.book.specs.Lawful.{Lawful}
+use Rattle.book.proofs.Participant.Lawful.{Lawful}
 use Rattle.book.specs.Life.{answersOf, decisionsOf, ReadsAs, ChargedRight, EachDay, NoneHigher, EachCall, Life}
 use Rattle.book.specs.Reached.{Reached, Given}
 use Rattle.book.proofs.History.Events.{today-mine, LawfulAll, lawful-events}
 use Rattle.book.proofs.Participant.CoverIs.{CoverIs}
 use Rattle.book.proofs.History.Lift.{OnePart, file-at, answer-is, step-is, run-is, decided}
+use Rattle.book.proofs.History.Openings.{one-more-day}
 use Rattle.book.proofs.History.Higher.{NoRise, call-higher, same-events}
 
 -- What is shown of one participant, in all.
@@ -117,6 +118,7 @@ module _ (parts : Parts) where
         kept = run-is (parts .one) s calls h;
         figures = figures-are s calls h;
         days = λ p. each-day s (mine p (eventsOf s calls)) (lawful-events s calls h p);
+        openings = one-more-day s calls;
         noneHigher = each-call s calls h;
         made = made-is s calls h;
         today = today-is s calls h;

@@ -11,7 +11,7 @@ use lib.ListN.{length, replicate}
 use Rattle.laws.specs.Lists.{table}
 use Rattle.manual.specs.Minimum.{minimumOf}
 use Rattle.file.specs.declared.Position.the-variants.{Empty}
-use Rattle.file.specs.Answer.{decide}
+use Rattle.file.specs.Answer.{refused, decide}
 use Rattle.file.specs.Position.{slotOf}
 use Rattle.file.specs.Calls.{largest, callOf, keep, inPlaces}
 use Rattle.file.specs.Totals.{noTotal}
@@ -26,13 +26,13 @@ use Rattle.book.specs.Reading.Calls.{baseIn, firmFrom, callsIn, firmIn, 
 use Rattle.book.specs.Reading.Charges.{chargedIn, accruedIn}
 use Rattle.book.specs.Reading.Decisions.{ownCauses, ownAnswer}
 use Rattle.book.specs.Kept.{ringIn, fileIn}
-use Rattle.book.specs.Lawful.{NoneHolds, Lawful}
+use Rattle.book.proofs.Participant.Lawful.{NoneHolds, Lawful}
 use Rattle.book.proofs.Participant.Charges.{firm-behind, charged-act, accrued-act}
 use Rattle.book.proofs.Participant.Blank.{blank-calls, blank-next, blank-slots, blank-totals, blank-charged, blank-accrued}
 
 -- (1) Its answer, from any history.
 pub admit-answer : (t : ℕ) (own : List Own) (role : ℕ)
-    → fileAnswer (fileIn t own) t (admit role) ≡ decide (ownCauses t own (admit role)) (ownAnswer t own (admit role))
+    → fileAnswer (fileIn t own) t (admit role) ≡ decide refused (ownCauses t own (admit role)) (ownAnswer t own (admit role))
 unfolding fileAnswer fileIn ownCauses ownAnswer
 admit-answer t own role = refl
 

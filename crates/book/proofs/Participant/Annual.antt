@@ -9,7 +9,7 @@ use lib.ListN.{length}
 use Rattle.laws.specs.Lists.{table}
 use Rattle.laws.specs.Cases.{cond-true}
 use Rattle.manual.specs.Annual.{annualAmount}
-use Rattle.file.specs.Answer.{decide, accepted}
+use Rattle.file.specs.Answer.{refused, decide, accepted}
 use Rattle.file.specs.Position.{slotOf}
 use Rattle.file.specs.Calls.{inPlaces}
 use Rattle.file.specs.Fields.{setTo, withNext}
@@ -22,7 +22,7 @@ use Rattle.book.specs.Reading.Months.{nextIn, annualIn}
 use Rattle.book.specs.Reading.Calls.{baseIn, callsIn, firmIn, openIn}
 use Rattle.book.specs.Reading.Decisions.{ownCauses, ownAnswer}
 use Rattle.book.specs.Kept.{ringIn, fileIn}
-use Rattle.book.specs.Lawful.{NoneHolds, Lawful}
+use Rattle.book.proofs.Participant.Lawful.{NoneHolds, Lawful}
 use Rattle.book.proofs.Participant.Charges.{charged-act, accrued-act}
 use Rattle.book.proofs.Participant.Ring.{annual-totals}
 
@@ -34,7 +34,7 @@ module _ (s : ℕ) (own : List Own) (lw : Lawful s own) where
 
   -- (1) Its answer.
   pub annual-answer : fileAnswer (fileIn (todayIn s own) own) (todayIn s own) annualRun
-      ≡ decide (ownCauses (todayIn s own) own annualRun) (ownAnswer (todayIn s own) own annualRun)
+      ≡ decide refused (ownCauses (todayIn s own) own annualRun) (ownAnswer (todayIn s own) own annualRun)
   unfolding fileAnswer ifAdmitted annualAnswer decide ownCauses ownAnswer
   annual-answer = rw (amount, annual-totals s own lw) (unfold fileIn in refl)
 

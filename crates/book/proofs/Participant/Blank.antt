@@ -26,7 +26,7 @@ use Rattle.book.specs.Reading.Calls.{Base, baseIn, firmFrom, callsIn, fi
 use Rattle.book.specs.Reading.Charges.{countShort, sumCharges, chargedIn, accruedIn}
 use Rattle.book.specs.Reading.Decisions.{ownCauses}
 use Rattle.book.specs.Kept.{ringIn, fileIn}
-use Rattle.book.specs.Lawful.{NoneHolds, Lawful}
+use Rattle.book.proofs.Participant.Lawful.{NoneHolds, Lawful}
 use Rattle.book.proofs.Participant.Charges.{days-none}
 
 -- A list of days opened and nothing else.

@@ -20,7 +20,7 @@ use Rattle.book.specs.Reading.Holdings.{coverIn}
 use Rattle.book.specs.Reading.Calls.{Base, baseIn, countsFrom, firmFrom, callsIn, calledIn, firmIn}
 use Rattle.book.specs.Reading.Charges.{before, openingShortfall, daysSince, countShort, sumCharges, chargedIn, accruedIn}
 use Rattle.book.specs.Reading.Decisions.{ownCauses}
-use Rattle.book.specs.Lawful.{NoneHolds, Lawful}
+use Rattle.book.proofs.Participant.Lawful.{NoneHolds, Lawful}
 
 -- The days opened since the admission are not after today.
 at-most : (b : Bool) (d : ℕ) (days : List ℕ) → All (λ (e : ℕ). e ≤ d) days → All (λ (e : ℕ). e ≤ d) (cond b (d ∷ days) [])

@@ -16,7 +16,7 @@ use Rattle.book.specs.Call.{admit, lodge, release, settle, annualRun}
 use Rattle.book.specs.Reading.Events.{Own, dayOpened, act, todayIn}
 use Rattle.book.specs.Reading.Holdings.{lastLodged, releasedSince, less, leftAt, positionIn, lodgedOn, releasedOn, coverIn}
 use Rattle.book.specs.Reading.Decisions.{ownCauses}
-use Rattle.book.specs.Lawful.{Lawful}
+use Rattle.book.proofs.Participant.Lawful.{Lawful}
 use Rattle.book.proofs.Participant.CoverIs.{CoverIs}
 use Rattle.book.proofs.Participant.Positions.{emptied-counts, unfilled-today, less-nothing-counts, release-takes}
 

@@ -7,7 +7,7 @@ use Rattle.laws.specs.Lists.{table}
 use Rattle.file.specs.Position.{coverOn, slotOf}
 use Rattle.book.specs.Reading.Events.{Own, todayIn}
 use Rattle.book.specs.Reading.Holdings.{positionIn, coverIn}
-use Rattle.book.specs.Lawful.{Lawful}
+use Rattle.book.proofs.Participant.Lawful.{Lawful}
 
 -- From today on, what the eight positions count for is the lodgings less the releases, by the dates.
 abbrev pub CoverIs : Type 0

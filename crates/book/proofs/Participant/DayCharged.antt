@@ -14,19 +14,19 @@ use Rattle.book.specs.Reading.Events.{Own, dayOpened, admittedIn}
 use Rattle.book.specs.Reading.Holdings.{coverIn}
 use Rattle.book.specs.Reading.Calls.{firmIn}
 use Rattle.book.specs.Reading.Charges.{chargedIn, accruedIn}
-use Rattle.book.specs.Lawful.{Lawful}
+use Rattle.book.proofs.Participant.Lawful.{Lawful}
 use Rattle.book.proofs.Participant.Bases.{nextDay, withNextDay}
 use Rattle.book.proofs.Participant.Days.{charged-opened, accrued-opened}
 
 -- One more, or none, by whether a cover is below a firm amount.
-one-if-short : (n firm cover : ℕ) → n + cond (eqb (firm - cover) 0) 0 1 ≡ cond (ltb cover firm) (suc n) n
+pub one-if-short : (n firm cover : ℕ) → n + cond (eqb (firm - cover) 0) 0 1 ≡ cond (ltb cover firm) (suc n) n
 one-if-short n firm cover =
     split (ltb cover firm)
     (λ e. rw (e, ne-eqb (firm - cover) 0 (λ q. omega (arith, ltb-true cover firm e))) (omega arith))
     (λ e. rw (e, eq-eqb (firm - cover) 0 (omega (arith, ltb-false cover firm e))) (omega arith))
 
 -- A day's charge, or none.
-charge-if-short : (n firm cover : ℕ) → n + dayCharge (firm - cover) ≡ cond (ltb cover firm) (n + dayCharge (firm - cover)) n
+pub charge-if-short : (n firm cover : ℕ) → n + dayCharge (firm - cover) ≡ cond (ltb cover firm) (n + dayCharge (firm - cover)) n
 unfolding dayCharge
 charge-if-short n firm cover =
     split (ltb cover firm)

@@ -14,7 +14,7 @@ use Rattle.book.specs.Reading.Events.{Own, dayOpened, todayIn, admittedI
 use Rattle.book.specs.Reading.Holdings.{coverIn}
 use Rattle.book.specs.Reading.Calls.{firmIn}
 use Rattle.book.specs.Reading.Charges.{before, openingShortfall, daysSince, countShort, sumCharges, chargedIn, accruedIn}
-use Rattle.book.specs.Lawful.{Lawful}
+use Rattle.book.proofs.Participant.Lawful.{Lawful}
 use Rattle.book.proofs.Participant.Bases.{nextDay, withNextDay, firm-before}
 use Rattle.book.proofs.Participant.Charges.{Agree, days-past, count-same, sum-same}
 

@@ -7,30 +7,30 @@ use mathlib.Core.List.{List, [], _∷_}
 use Rattle.laws.specs.Cases.{split, cond-true, cond-false}
 use Rattle.file.specs.Answer.{Answer, refused, Cause, decide, accepted}
 use Rattle.file.specs.DecideLaws.{none-holds}
-use Rattle.book.specs.Lawful.{NoneHolds}
+use Rattle.book.proofs.Participant.Lawful.{NoneHolds}
 
 -- The first cause of a list decides, or else the rest.
-pub decide-true : (c : Cause) (causes : List Cause) (x : Answer) → c .holds ≡ true → decide (c ∷ causes) x ≡ refused (c .number)
+pub decide-true : (c : Cause) (causes : List Cause) (x : Answer) → c .holds ≡ true → decide refused (c ∷ causes) x ≡ refused (c .number)
 unfolding decide
-decide-true c causes x e = cond-true (c .holds) (refused (c .number)) (decide causes x) e
+decide-true c causes x e = cond-true (c .holds) (refused (c .number)) (decide refused causes x) e
 
-pub decide-false : (c : Cause) (causes : List Cause) (x : Answer) → c .holds ≡ false → decide (c ∷ causes) x ≡ decide causes x
+pub decide-false : (c : Cause) (causes : List Cause) (x : Answer) → c .holds ≡ false → decide refused (c ∷ causes) x ≡ decide refused causes x
 unfolding decide
-decide-false c causes x e = cond-false (c .holds) (refused (c .number)) (decide causes x) e
+decide-false c causes x e = cond-false (c .holds) (refused (c .number)) (decide refused causes x) e
 
 -- A decision with no cause gives the answer.
-pub decide-none : (causes : List Cause) (x : Answer) → NoneHolds causes → decide causes x ≡ x
+pub decide-none : (causes : List Cause) (x : Answer) → NoneHolds causes → decide refused causes x ≡ x
 unfolding decide
 decide-none [] x n = refl
 decide-none (c ∷ causes) x n = decide-false c causes x (n .0) ∙ decide-none causes x (n .1)
 
 -- An accepted decision gives the answer.
-pub decide-accepted : (causes : List Cause) (x : Answer) → accepted (decide causes x) ≡ true → decide causes x ≡ x
+pub decide-accepted : (causes : List Cause) (x : Answer) → accepted (decide refused causes x) ≡ true → decide refused causes x ≡ x
 decide-accepted causes x e = decide-none causes x (none-holds causes x e)
 
 -- A cause before an answer that goes on by further causes is one list of causes.
-pub decide-first : (c : Cause) (causes : List Cause) (x y : Answer) → (c .holds ≡ false → x ≡ decide causes y)
-    → decide (c ∷ []) x ≡ decide (c ∷ causes) y
+pub decide-first : (c : Cause) (causes : List Cause) (x y : Answer) → (c .holds ≡ false → x ≡ decide refused causes y)
+    → decide refused (c ∷ []) x ≡ decide refused (c ∷ causes) y
 unfolding decide
 decide-first c causes x y rest =
     split (c .holds)
@@ -39,8 +39,8 @@ decide-first c causes x y rest =
 
 -- Two lists of causes with the same first cause decide the same where the rest does.
 pub decide-same : (c : Cause) (causes others : List Cause) (x y : Answer)
-    → (c .holds ≡ false → decide causes x ≡ decide others y)
-    → decide (c ∷ causes) x ≡ decide (c ∷ others) y
+    → (c .holds ≡ false → decide refused causes x ≡ decide refused others y)
+    → decide refused (c ∷ causes) x ≡ decide refused (c ∷ others) y
 decide-same c causes others x y rest =
     split (c .holds)
     (λ e. decide-true c causes x e ∙ sym (decide-true c others y e))

@@ -9,7 +9,7 @@ use lib.ListN.{set}
 use Rattle.laws.specs.Cases.{cond-true}
 use Rattle.laws.specs.Tabulated.{set-table-as}
 use Rattle.file.specs.declared.Position.{Position}
-use Rattle.file.specs.Answer.{Cause, done, decide, accepted}
+use Rattle.file.specs.Answer.{refused, Cause, done, decide, accepted}
 use Rattle.file.specs.Position.{amountOf, filled, emptiedOn, outsideAmounts, againstDays, slotOf, positionAt}
 use Rattle.file.specs.Fields.{withSlots}
 use Rattle.file.specs.Lodge.{lodgeAnswer, lodgedFile}
@@ -21,7 +21,7 @@ use Rattle.book.specs.Reading.Months.{nextIn}
 use Rattle.book.specs.Reading.Calls.{baseIn, callsIn, firmIn, openIn}
 use Rattle.book.specs.Reading.Decisions.{cause, ownCauses, ownAnswer}
 use Rattle.book.specs.Kept.{ringIn, fileIn}
-use Rattle.book.specs.Lawful.{NoneHolds, Lawful}
+use Rattle.book.proofs.Participant.Lawful.{NoneHolds, Lawful}
 use Rattle.book.proofs.Participant.Decide.{decide-none, decide-first, decide-same}
 use Rattle.book.proofs.Participant.Positions.{lodged-stands}
 use Rattle.book.proofs.Participant.Slots.{slotsIn, position-at, with-slots-of}
@@ -39,15 +39,15 @@ lodgeCauses t k h own = cause 5 (ltb 7 k) ∷ causesAt t (positionIn t k own) h
 
 -- The file's answer by the reading's causes: past the eighth place both refuse with 5.
 lodge-answer : (t k : ℕ) (h : Position) (own : List Own)
-    → lodgeAnswer (fileIn t own) t k h ≡ decide (lodgeCauses t k h own) done
+    → lodgeAnswer (fileIn t own) t k h ≡ decide refused (lodgeCauses t k h own) done
 unfolding lodgeAnswer fileIn
 lodge-answer t k h own =
     decide-same (cause 5 (ltb 7 k)) (causesAt t (positionAt (slotsIn t own) k) h) (causesAt t (positionIn t k own) h) done done
-    (λ e. ap (λ (p : Position). decide (causesAt t p h) done) (position-at t k own e))
+    (λ e. ap (λ (p : Position). decide refused (causesAt t p h) done) (position-at t k own e))
 
 -- What the file answers to a lodging is what the reading decides.
 pub lodging-answers : (t k : ℕ) (h : Position) (own : List Own)
-    → fileAnswer (fileIn t own) t (lodge k h) ≡ decide (ownCauses t own (lodge k h)) (ownAnswer t own (lodge k h))
+    → fileAnswer (fileIn t own) t (lodge k h) ≡ decide refused (ownCauses t own (lodge k h)) (ownAnswer t own (lodge k h))
 unfolding fileAnswer ifAdmitted ownCauses ownAnswer fileIn
 lodging-answers t k h own =
     decide-first (cause 2 (not (admittedIn own))) (lodgeCauses t k h own) (lodgeAnswer (fileIn t own) t k h) done

@@ -28,7 +28,7 @@ use Rattle.book.specs.Reading.Months.{nextIn}
 use Rattle.book.specs.Reading.Calls.{firmIn, openIn}
 use Rattle.book.specs.Reading.Charges.{chargedIn, accruedIn}
 use Rattle.book.specs.Kept.{ringIn, fileIn}
-use Rattle.book.specs.Lawful.{Lawful}
+use Rattle.book.proofs.Participant.Lawful.{Lawful}
 use Rattle.book.proofs.Participant.CoverIs.{CoverIs}
 use Rattle.book.proofs.Participant.Blank.{blank-file}
 use Rattle.book.proofs.Participant.OpenCalls.{open-calls}

@@ -12,7 +12,7 @@ use Rattle.laws.specs.Cases.{cond-true}
 use Rattle.laws.specs.Tabulated.{set-table-as}
 use Rattle.file.specs.declared.OpenCall.{OpenCall}
 use Rattle.file.specs.declared.Position.{Position}
-use Rattle.file.specs.Answer.{Cause, done, decide, accepted}
+use Rattle.file.specs.Answer.{refused, Cause, done, decide, accepted}
 use Rattle.file.specs.Position.{coverOn, inForce, filled, emptiedOn, lessReleased, notReleasable, outsideAmounts, slotOf, positionAt}
 use Rattle.file.specs.Calls.{largest, amountsOf}
 use Rattle.file.specs.Fields.{withSlots}
@@ -25,7 +25,7 @@ use Rattle.book.specs.Reading.Months.{nextIn}
 use Rattle.book.specs.Reading.Calls.{baseIn, callsIn, firmIn, openIn}
 use Rattle.book.specs.Reading.Decisions.{cause, coverLeft, mustStay, ownCauses, ownAnswer}
 use Rattle.book.specs.Kept.{ringIn, fileIn}
-use Rattle.book.specs.Lawful.{NoneHolds, Lawful}
+use Rattle.book.proofs.Participant.Lawful.{NoneHolds, Lawful}
 use Rattle.book.proofs.Participant.Decide.{decide-none, decide-first, decide-same}
 use Rattle.book.proofs.Participant.Positions.{less-released}
 use Rattle.book.proofs.Participant.Slots.{slotsIn, position-at, with-slots-of}
@@ -102,7 +102,7 @@ little-left s k a own lw place full allowed =
 
 -- The causes after 5 decide the same with either test for cause 16 where these agree once the others do not hold.
 causes-same : (a : ℕ) (p : Position) (x y : Bool) → (filled p ≡ true → notReleasable a p ≡ false → x ≡ y)
-    → decide (causesAt a p x) done ≡ decide (causesAt a p y) done
+    → decide refused (causesAt a p x) done ≡ decide refused (causesAt a p y) done
 causes-same a p x y same =
     decide-same (cause 7 (not (filled p)))
     (cause 8 (outsideAmounts a) ∷ cause 15 (notReleasable a p) ∷ cause 16 x ∷ [])
@@ -118,11 +118,11 @@ causes-same a p x y same =
     (λ e₈.
     decide-same (cause 15 (notReleasable a p)) (cause 16 x ∷ []) (cause 16 y ∷ []) done done
     (λ e₁₅.
-    ap (λ (b : Bool). decide (cause 16 b ∷ []) done) (same (not-false (filled p) e₇) e₁₅))))
+    ap (λ (b : Bool). decide refused (cause 16 b ∷ []) done) (same (not-false (filled p) e₇) e₁₅))))
 
 -- The file's answer by the reading's causes: past the eighth place both refuse with 5.
 release-answer : (s k a : ℕ) (own : List Own) → Lawful s own
-    → releaseAnswer (fileIn (todayIn s own) own) (todayIn s own) k a ≡ decide (releaseCauses (todayIn s own) k a own) done
+    → releaseAnswer (fileIn (todayIn s own) own) (todayIn s own) k a ≡ decide refused (releaseCauses (todayIn s own) k a own) done
 unfolding releaseAnswer fileIn
 release-answer s k a own lw =
     let t = todayIn s own in
@@ -130,13 +130,13 @@ release-answer s k a own lw =
     let stays = ltb (coverLeft t k a own) (mustStay t own) in
     decide-same (cause 5 (ltb 7 k)) (causesAt a (positionAt (slotsIn t own) k) left) (causesAt a (positionIn t k own) stays) done done
     (λ e.
-    ap (λ (p : Position). decide (causesAt a p left) done) (position-at t k own e)
+    ap (λ (p : Position). decide refused (causesAt a p left) done) (position-at t k own e)
     ∙ causes-same a (positionIn t k own) left stays (little-left s k a own lw e))
 
 -- What the file answers to a release is what the reading decides.
 pub releasing-answers : (s k a : ℕ) (own : List Own) → Lawful s own
     → fileAnswer (fileIn (todayIn s own) own) (todayIn s own) (release k a)
-    ≡ decide (ownCauses (todayIn s own) own (release k a)) (ownAnswer (todayIn s own) own (release k a))
+    ≡ decide refused (ownCauses (todayIn s own) own (release k a)) (ownAnswer (todayIn s own) own (release k a))
 unfolding fileAnswer ifAdmitted ownCauses ownAnswer fileIn
 releasing-answers s k a own lw =
     let t = todayIn s own in

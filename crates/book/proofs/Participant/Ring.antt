@@ -24,7 +24,7 @@ use Rattle.book.specs.Reading.Events.{Own, dayOpened, act, todayIn}
 use Rattle.book.specs.Reading.Months.{totalIn, yearsTotals}
 use Rattle.book.specs.Reading.Decisions.{ownCauses}
 use Rattle.book.specs.Kept.{ringIn, fileIn}
-use Rattle.book.specs.Lawful.{NoneHolds, Lawful}
+use Rattle.book.proofs.Participant.Lawful.{NoneHolds, Lawful}
 
 -- A settled month is at least two and at most fourteen before the day's.
 settled-before : (d n : ℕ) (figures : List ℤ) (own : List Own) → NoneHolds (ownCauses d own (settle n figures)) → n + 2 ≤ monthOf d

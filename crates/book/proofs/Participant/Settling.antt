@@ -13,15 +13,17 @@ use lib.ListN.{length, length-append}
 use Rattle.laws.specs.Lists.{table}
 use Rattle.laws.specs.Tabulated.{set-table}
 use Rattle.calendar.specs.Civil.{monthOf}
-use Rattle.manual.specs.Check.{calls}
+use Rattle.manual.specs.declared.Check.{Check}
+use Rattle.manual.specs.declared.Check.the-variants as Checks
+use Rattle.manual.specs.Check.{callIsMade, checked}
 use Rattle.manual.specs.Figures.{sumOf, wrongCount, outOfRange}
 use Rattle.file.specs.declared.OpenCall.{OpenCall}
-use Rattle.file.specs.Answer.{called, covered, recorded, decide, accepted}
+use Rattle.file.specs.Answer.{refused, called, covered, recorded, decide, accepted}
 use Rattle.file.specs.Position.{slotOf}
-use Rattle.file.specs.Calls.{callOf, keep, inPlaces}
+use Rattle.file.specs.Calls.{amountsOf, callOf, keep, inPlaces}
 use Rattle.file.specs.Totals.{totalOf, withTotal}
 use Rattle.file.specs.Fields.{coverOf, withTotals}
-use Rattle.file.specs.Settle.{outsideMonths, checkDue, deposited, settlementCalls, settledAnswer, settleAnswer, callsSettled, settledFile}
+use Rattle.file.specs.Settle.{outsideMonths, checkDue, deposited, settlementCalls, checkSays, settledAnswer, settleAnswer, callsSettled, settledFile}
 use Rattle.book.specs.Account.{ifAdmitted, fileAnswer, fileAfter, callsAdded}
 use Rattle.book.specs.Call.{settle}
 use Rattle.book.specs.Reading.Events.{Own, act, todayIn, admittedIn, roleIn}
@@ -30,7 +32,7 @@ use Rattle.book.specs.Reading.Months.{nextIn}
 use Rattle.book.specs.Reading.Calls.{callsIn, calledIn, firmIn, openOn, openIn}
 use Rattle.book.specs.Reading.Decisions.{cause, settlementAnswer, ownCauses, ownAnswer}
 use Rattle.book.specs.Kept.{ringIn, fileIn}
-use Rattle.book.specs.Lawful.{NoneHolds, Lawful}
+use Rattle.book.proofs.Participant.Lawful.{NoneHolds, Lawful}
 use Rattle.book.proofs.Participant.CoverIs.{CoverIs}
 use Rattle.book.proofs.Participant.OpenCalls.{open-calls}
 use Rattle.file.specs.CallLaws.{keep-append}
@@ -54,10 +56,10 @@ length-behind made true c = omega (arith, length-append made (c ∷ []))
 length-behind made false c = omega (arith, length-append made [])
 
 -- A settlement's answer is no refusal.
-no-refusal : (b c : Bool) (e f l : ℕ) (x : ℤ) → accepted (cond b (called e f l) (cond c (covered x) (recorded x))) ≡ true
-no-refusal true c e f l x = refl
-no-refusal false true e f l x = refl
-no-refusal false false e f l x = refl
+no-refusal : (due : Bool) (x : ℤ) (last : ℕ) (c : Check) → accepted (cond due (checkSays x last c) (recorded x)) ≡ true
+no-refusal true x last (Checks.Call e asked) = refl
+no-refusal true x last Checks.Covered = refl
+no-refusal false x last c = refl
 
 module _ (coverIs : CoverIs) (s : ℕ) (own : List Own) (m : ℕ) (figures : List ℤ) (lw : Lawful s own) where
   -- D, and whether it calls, are the reading's.
@@ -72,7 +74,7 @@ module _ (coverIs : CoverIs) (s : ℕ) (own : List Own) (m : ℕ) (figures : Lis
 
   -- The causes after cause 2.
   file-answer : settleAnswer (fileIn (todayIn s own) own) (todayIn s own) m figures
-      ≡ decide
+      ≡ decide refused
       (cause 12 (outsideMonths (monthOf (todayIn s own)) m)
       ∷ cause 10 (wrongCount figures)
       ∷ cause 11 (outOfRange figures)
@@ -80,11 +82,11 @@ module _ (coverIs : CoverIs) (s : ℕ) (own : List Own) (m : ℕ) (figures : Lis
       ∷ [])
       (settlementAnswer (todayIn s own) m figures own)
   unfolding settleAnswer settledAnswer settlementAnswer
-  file-answer = rw (calls-same, deposit, open-calls (todayIn s own) own)
+  file-answer = rw (calls-same, deposit, open-calls (todayIn s own) own) (unfold fileIn in refl)
 
   -- (1) Its answer.
   pub settle-answer : fileAnswer (fileIn (todayIn s own) own) (todayIn s own) (settle m figures)
-      ≡ decide (ownCauses (todayIn s own) own (settle m figures)) (ownAnswer (todayIn s own) own (settle m figures))
+      ≡ decide refused (ownCauses (todayIn s own) own (settle m figures)) (ownAnswer (todayIn s own) own (settle m figures))
   unfolding fileAnswer ifAdmitted ownCauses ownAnswer
   settle-answer = rw file-answer (unfold fileIn decide in refl)
 
@@ -116,8 +118,8 @@ module _ (coverIs : CoverIs) (s : ℕ) (own : List Own) (m : ℕ) (figures : Lis
     unfolding ownCauses decide settlementAnswer
     taken =
         rw (file-answer, none .1 .0, none .1 .1 .0, none .1 .1 .1 .0, none .1 .1 .1 .1 .0)
-        (no-refusal (calledIn (todayIn s own) m figures own (callsIn own)) (checkDue (monthOf (todayIn s own)) m)
-        (natAbs (sumOf figures)) (natAbs (sumOf figures) - coverIn (todayIn s own) own) (todayIn s own + 10) (sumOf figures))
+        (no-refusal (checkDue (monthOf (todayIn s own)) m) (sumOf figures) (todayIn s own + 10)
+        (checked (sumOf figures) (coverIn (todayIn s own) own) (firmIn (todayIn s own) own) (amountsOf (openIn (todayIn s own) own))))
 
     -- (2) The file that it leaves.
     settled : withTotals (fileIn (todayIn s own) own)

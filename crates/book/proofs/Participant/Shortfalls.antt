@@ -16,7 +16,7 @@ use Rattle.book.specs.Reading.Events.{Own, act, todayIn, admittedIn}
 use Rattle.book.specs.Reading.Holdings.{lodgedOn, releasedOn, coverIn}
 use Rattle.book.specs.Reading.Calls.{Base, baseIn, firmFrom, callsIn, firmIn}
 use Rattle.book.specs.Reading.Decisions.{coverLeft, mustStay, ownCauses}
-use Rattle.book.specs.Lawful.{NoneHolds, Lawful}
+use Rattle.book.proofs.Participant.Lawful.{NoneHolds, Lawful}
 use Rattle.book.proofs.Participant.Charges.{firm-behind, firm-settled}
 use Rattle.book.proofs.Participant.Blank.{blank-calls}
 

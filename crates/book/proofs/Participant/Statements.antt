@@ -13,7 +13,7 @@ use Rattle.book.specs.Reading.Calls.{firmIn}
 use Rattle.book.specs.Reading.Charges.{chargedIn, accruedIn}
 use Rattle.book.specs.Reading.Decisions.{ownStatement}
 use Rattle.book.specs.Kept.{fileIn}
-use Rattle.book.specs.Lawful.{Lawful}
+use Rattle.book.proofs.Participant.Lawful.{Lawful}
 use Rattle.book.proofs.Participant.Cover.{cover-is}
 
 -- The cover today of the file of the readings.

@@ -7,7 +7,7 @@ use lib.Dec.{leb, ltb}
 use lib.IntN.{ℤ, natAbs}
 use Rattle.calendar.specs.Civil.{monthOf, isFirstOctober}
 use Rattle.manual.specs.Minimum.{minimumOf}
-use Rattle.manual.specs.Check.{calls}
+use Rattle.manual.specs.Check.{callIsMade}
 use Rattle.manual.specs.Figures.{sumOf}
 use Rattle.file.specs.declared.OpenCall.{OpenCall}
 use Rattle.file.specs.Calls.{largest, amountsOf, callOf, keep}
@@ -51,7 +51,7 @@ openOn t made = keep (λ (c : OpenCall). leb t (c .last .0)) made
 unfoldable pub calledIn : ℕ → ℕ → List ℤ → List Own → List OpenCall → Bool
 calledIn d m figures own made =
     checkDue (monthOf d) m
-    && calls (sumOf figures) (coverIn d own) (firmFrom d (baseIn d own) made) (amountsOf (openOn d made))
+    && callIsMade (sumOf figures) (coverIn d own) (firmFrom d (baseIn d own) made) (amountsOf (openOn d made))
 
 -- Every call made, the oldest first: an admission's minimum, and the settlements that called.
 unfoldable pub callsIn : List Own → List OpenCall

@@ -6,14 +6,15 @@ use mathlib.Core.Bool.{Bool, cond, not, _&&_, _||_}
 use mathlib.Core.List.{List, [], _∷_}
 use lib.Dec.{leb, ltb}
 use lib.ListN.{length}
-use lib.IntN.{ℤ, natAbs}
+use lib.IntN.{ℤ}
 use Rattle.calendar.specs.Civil.{monthOf, inAnnualDays}
+use Rattle.manual.specs.Check.{checked}
 use Rattle.manual.specs.Figures.{sumOf, wrongCount, outOfRange}
 use Rattle.file.specs.declared.Position.{Position}
-use Rattle.file.specs.Answer.{Answer, Cause, done, called, covered, recorded, annual, opened, stated, counted, decide, accepted}
+use Rattle.file.specs.Answer.{Answer, refused, Cause, done, called, covered, recorded, annual, daysOpened, stated, counted, decide, accepted}
 use Rattle.file.specs.Position.{amountOf, filled, notReleasable, outsideAmounts, againstDays}
 use Rattle.file.specs.Calls.{largest, amountsOf}
-use Rattle.file.specs.Settle.{outsideMonths, checkDue}
+use Rattle.file.specs.Settle.{outsideMonths, checkDue, checkSays}
 use Rattle.book.specs.Call.{Act, admit, lodge, release, settle, annualRun, Call, on, advance, statement, callsMade}
 use Rattle.book.specs.Reading.Events.{Event, Own, did, act, mine, todayOf, withDays, admittedIn}
 use Rattle.book.specs.Reading.Holdings.{positionIn, coverIn}
@@ -33,12 +34,13 @@ coverLeft t k a own = coverIn t (act t (release k a) ∷ own)
 abbrev pub mustStay : ℕ → List Own → ℕ
 mustStay t own = largest (nextIn own .amount) (firmIn t own ∷ amountsOf (openIn t own))
 
--- A settlement's answer: called, covered, or recorded only.
+-- A settlement's answer: the check's, "called (E, asked, last free day), covered (E)", "or recorded only (E) where no check was due".
 unfoldable pub settlementAnswer : ℕ → ℕ → List ℤ → List Own → Answer
 settlementAnswer t m figures own =
-    cond (calledIn t m figures own (callsIn own))
-    (called (natAbs (sumOf figures)) (natAbs (sumOf figures) - coverIn t own) (t + 10))
-    (cond (checkDue (monthOf t) m) (covered (sumOf figures)) (recorded (sumOf figures)))
+    cond (checkDue (monthOf t) m)
+    (checkSays (sumOf figures) (t + 10)
+    (checked (sumOf figures) (coverIn t own) (firmIn t own) (amountsOf (openIn t own))))
+    (recorded (sumOf figures))
 
 -- The causes of a call today on a participant with this history of its own, in paper 01's order, after cause 1.
 unfoldable pub ownCauses : ℕ → List Own → Act → List Cause
@@ -88,15 +90,15 @@ callsBelow (suc n) events = length (callsIn (mine n events)) + callsBelow n even
 -- What a call is decided to answer, after these events from a fresh book on day s.
 unfoldable pub decision : ℕ → List Event → Call → Answer
 decision s events (on p a) =
-    decide
+    decide refused
     (cause 1 (ltb 63 p) ∷ ownCauses (todayOf s events) (mine p events) a)
     (ownAnswer (todayOf s events) (mine p events) a)
 decision s events (advance day budget) =
-    decide
+    decide refused
     (cause 17 (ltb 29219 day || ltb day (todayOf s events)) ∷ [])
-    (opened (min budget (day - todayOf s events)))
+    (daysOpened (min budget (day - todayOf s events)))
 decision s events (statement p) =
-    decide
+    decide refused
     (cause 1 (ltb 63 p) ∷ cause 2 (not (admittedIn (mine p events))) ∷ [])
     (ownStatement (todayOf s events) (mine p events))
 decision s events callsMade = counted (callsBelow 64 events)

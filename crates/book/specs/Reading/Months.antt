@@ -1,6 +1,6 @@
 -- Month totals and the next amount, read from a participant's settlements and annual runs.
 -- Assumes nothing.
-use Prim.Native.Nat.{ℕ, _-_}
+use Prim.Native.Nat.{ℕ}
 use mathlib.Core.Bool.{Bool, cond}
 use mathlib.Core.List.{List, [], _∷_}
 use lib.Dec.{eqb}
@@ -10,7 +10,7 @@ use Rattle.manual.specs.Annual.{annualAmount}
 use Rattle.manual.specs.Figures.{sumOf}
 use Rattle.file.specs.declared.NextAmount.{NextAmount}
 use Rattle.file.specs.Fields.{unset, setTo}
-use Rattle.file.specs.Totals.{Total, none, total, totalsFrom}
+use Rattle.file.specs.Totals.{Total, none, total, yearTotals}
 use Rattle.book.specs.Call.{Act, admit, lodge, release, settle, annualRun}
 use Rattle.book.specs.Reading.Events.{Own, dayOpened, act, roleIn}
 
@@ -24,9 +24,9 @@ totalIn (act d (release k a) ∷ own) m = totalIn own m
 totalIn (act d (settle n figures) ∷ own) m = cond (eqb n m) (total (sumOf figures)) (totalIn own m)
 totalIn (act d annualRun ∷ own) m = totalIn own m
 
--- The recorded totals "of months P − 14 to P − 3", P being the month of day d.
+-- The totals that the settlements recorded "of months P − 14 to P − 3 (July to June)", P being the month of day d.
 unfoldable pub yearsTotals : ℕ → List Own → List ℤ
-yearsTotals d own = totalsFrom (totalIn own) (monthOf d - 14) (monthOf d - 2 - (monthOf d - 14))
+yearsTotals d own = yearTotals (totalIn own) (monthOf d)
 
 -- The amount of an annual run on day d: the largest of them, raised to the role's minimum.
 unfoldable pub annualIn : ℕ → List Own → ℕ
