@@ -51,7 +51,8 @@ marks-more zs m i y z h k l w e f =
   where
     back : (zs : List ℤ) (i : ℕ) → i < length zs → map markOf (take i zs) ++ (markOf (getD zs i (pos 0)) ∷ []) ≡ map markOf (take (i + 1) zs)
     back zs i h =
-        sym (ap (map markOf) (ap (λ (j : ℕ). take j zs) (add-one i) ∙ take-suc zs i (pos 0) h) ∙ map-append markOf (take i zs) (getD zs i (pos 0) ∷ []))
+        sym (ap (map markOf) (ap (λ (j : ℕ). take j zs) (add-one i) ∙ take-suc zs i (pos 0) h)
+        ∙ map-append markOf (take i zs) (getD zs i (pos 0) ∷ []))
 
 pub marks-done : (zs : List ℤ) (m : List ℕ) (i : ℕ) → i ≤ length zs → length zs ≤ i → take i m ≡ map markOf (take i zs)
     → take (length zs) m ≡ map markOf zs

@@ -23,7 +23,6 @@ use Rattle.book.specs.Call.{Call, Act, on, admit, lodge, release, settle, annua
 use Rattle.book.specs.Account.{freshBook, freshAnswer, fileAt, ifNumbered, ifAdmitted, fileAnswer, answer, applied, step, run}
 use Rattle.book.specs.Reading.Decisions.{decision, eventsOf}
 use Rattle.book.proofs.History.Life.{life, given}
-use Rattle.printing.specs.declared.Answer.{Answer}
 use Rattle.answering.specs.Shown.{shown}
 use Rattle.answering.specs.Asked.{Asked, call, fresh, guarantee, nothing, fault, answerTo, bookAfter}
 use Rattle.answering.specs.Kept.{takes}

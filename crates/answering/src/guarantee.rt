@@ -1,6 +1,6 @@
 // The special guarantee of seven lists whose numbers stand in a row.
 ghost use mathlib.Core.Path.{_≡_};
-ghost use mathlib.Core.List.{_++_, map};
+ghost use mathlib.Core.List.{map};
 ghost use Prim.Native.Nat.{_≤_, min};
 ghost use lib.ListN.{length, take, drop};
 ghost use Rattle.special.specs.Guarantee.{specialGuarantee};
@@ -86,7 +86,8 @@ fn of_lists(
 
 // The answer to three lists, and the four of one length each whose numbers stand in a row.
 fn of_semesters(n: Lengths, medium: &[i64], low: &[i64], marked: &[i64], numbers: &[i64]) -> Answer
-    ensures { λ r. ⌜ r ≡ guaranteeShown (semestersOf n (now (medium .entry)) (now (low .entry)) (map markOf (now (marked .entry))) (now (numbers .entry))) ⌝ }
+    ensures { λ r. ⌜ r ≡ guaranteeShown
+        (semestersOf n (now (medium .entry)) (now (low .entry)) (map markOf (now (marked .entry))) (now (numbers .entry))) ⌝ }
 {
     let zero_medium = front(numbers, n.zero_medium);
     let from_low = behind(numbers, n.zero_medium);

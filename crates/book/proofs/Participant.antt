@@ -2,7 +2,6 @@
 pub mod Lawful
 pub mod Decide
 pub mod Positions
-pub mod CoverIs
 pub mod Cover
 pub mod OpenCalls
 pub mod Charges
@@ -22,3 +21,4 @@ pub mod Bases
 pub mod Days
 pub mod Opening
 pub mod DayCharged
+pub mod OnePart

@@ -1,11 +1,10 @@
 -- The book's account of paper 01, 'The calls': what each call answers, and the book that it leaves, from the book that it finds.
 -- Assumes nothing.
 use Prim.Native.Nat.{ℕ, zero, suc, _+_, _-_, min}
-use mathlib.Core.Bool.{Bool, true, false, cond, not, _||_}
+use mathlib.Core.Bool.{cond, not, _||_}
 use mathlib.Core.List.{List, [], _∷_, map}
 use lib.Dec.{ltb}
 use lib.ListN.{length, getD, set, replicate}
-use lib.IntN.{ℤ}
 use Rattle.file.specs.declared.File.{File}
 use Rattle.file.specs.Answer.{Answer, refused, done, daysOpened, counted, decide, accepted, statementSays}
 use Rattle.file.specs.Admit.{noFile, admittedFile, callsOfAdmission}

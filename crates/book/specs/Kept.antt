@@ -1,7 +1,7 @@
 -- The book that the readings of a history make up: each field of each file is a reading of that participant's own calls and the days opened.
 -- Assumes nothing.
 use Prim.Native.Nat.{ℕ, _%_}
-use mathlib.Core.Bool.{Bool, cond}
+use mathlib.Core.Bool.{cond}
 use mathlib.Core.List.{List, [], _∷_}
 use lib.Dec.{eqb}
 use lib.ListN.{length}
@@ -13,8 +13,8 @@ use Rattle.file.specs.Position.{slotOf}
 use Rattle.file.specs.Calls.{inPlaces}
 use Rattle.file.specs.Totals.{noTotal, totalOf}
 use Rattle.layout.specs.Book.{Book}
-use Rattle.book.specs.Call.{Act, admit, lodge, release, settle, annualRun}
-use Rattle.book.specs.Reading.Events.{Event, Own, dayOpened, act, mine, todayOf, todayIn, admittedIn, roleIn}
+use Rattle.book.specs.Call.{admit, lodge, release, settle, annualRun}
+use Rattle.book.specs.Reading.Events.{Event, Own, dayOpened, act, mine, todayOf, admittedIn, roleIn}
 use Rattle.book.specs.Reading.Holdings.{positionIn}
 use Rattle.book.specs.Reading.Months.{nextIn}
 use Rattle.book.specs.Reading.Calls.{firmIn, openIn}

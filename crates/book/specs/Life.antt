@@ -3,7 +3,7 @@
 -- Assumes nothing.
 use Prim.Native.Nat.{ℕ, suc, _+_, _-_, _≤_, _<_}
 use mathlib.Core.Path.{_≡_}
-use mathlib.Core.Bool.{Bool, true, false, cond}
+use mathlib.Core.Bool.{true, false, cond}
 use mathlib.Core.List.{List, [], _∷_}
 use lib.Dec.{ltb}
 use Rattle.manual.specs.Charge.{dayCharge}
@@ -13,7 +13,7 @@ use Rattle.file.specs.Fields.{coverOf, shortfallOf}
 use Rattle.layout.specs.Book.{Book}
 use Rattle.book.specs.Call.{Call, on, advance, statement, callsMade}
 use Rattle.book.specs.Account.{fileAt, answer, step, run}
-use Rattle.book.specs.Reading.Events.{Event, Own, dayOpened, act, mine, todayOf, admittedIn, roleIn}
+use Rattle.book.specs.Reading.Events.{Own, dayOpened, act, mine, todayOf, admittedIn, roleIn}
 use Rattle.book.specs.Reading.Holdings.{coverIn}
 use Rattle.book.specs.Reading.Calls.{firmIn}
 use Rattle.book.specs.Reading.Charges.{chargedIn, accruedIn}
@@ -25,7 +25,7 @@ unfoldable pub answersOf : ℕ → List Call → List Answer
 answersOf s [] = []
 answersOf s (c ∷ calls) = answer (run s calls) c ∷ answersOf s calls
 
--- What the reading decides of each, "from its arguments, the fresh day and the operations before it".
+-- What the reading decides of each, "from the arguments, the fresh day and the calls before".
 unfoldable pub decisionsOf : ℕ → List Call → List Answer
 decisionsOf s [] = []
 decisionsOf s (c ∷ calls) = decision s (eventsOf s calls) c ∷ decisionsOf s calls
@@ -55,23 +55,30 @@ EachDay [] = Unit {0}
 EachDay (dayOpened d ∷ own) = (admittedIn own ≡ true → ChargedRight d own) × EachDay own
 EachDay (act d a ∷ own) = EachDay own
 
--- Day d charged a participant's file, f before its opening and g after it: one to the days charged and the day charge of the firm amount less
--- the cover to the accrued charge exactly when the cover on d is below the firm amount, and neither otherwise.
+-- Day d charged a participant's file, f before its opening and g after it: one to the days charged, and the day charge of g's firm amount less
+-- its cover on d to the accrued charge, exactly when that cover is below that firm amount, and neither otherwise.
 pub record ChargedFile (d : ℕ) (f g : File) : Type 0 where
   pub charged : g .charged ≡ cond (ltb (coverOf g d) (g .firm)) (suc (f .charged)) (f .charged)
   pub accrued : g .accrued
       ≡ cond (ltb (coverOf g d) (g .firm)) (f .accrued + dayCharge (g .firm - coverOf g d)) (f .accrued)
 
--- Book `after` has one more day opened than book `before`: the admitted participants were charged it, each by its own file, and the file of
--- every other is as it was.
+-- Book `after` has one more day opened than book `before`: each admitted participant's file was charged it, and every other is as it was.
 pub record ChargedBook (before after : Book) : Type 0 where
   pub next : after .today .0 ≡ suc (before .today .0)
-  pub late : (p : ℕ) → fileAt before p .admitted ≡ true → ChargedFile (after .today .0) (fileAt before p) (fileAt after p)
+  pub admitted : (p : ℕ) → fileAt before p .admitted ≡ true
+      → ChargedFile (after .today .0) (fileAt before p) (fileAt after p)
   pub others : (p : ℕ) → fileAt before p .admitted ≡ false → fileAt after p ≡ fileAt before p
 
--- The book after a list of calls and n more opened days.
-abbrev pub daysLater : ℕ → ℕ → List Call → Book
-daysLater n s calls = run s (advance 29219 n ∷ calls)
+-- Every opening after a list of calls: what an advance that opens n days leaves, and one that opens one more, as far as there are days to T.
+abbrev pub Openings : ℕ → List Call → Type 0
+Openings s calls =
+    (day n : ℕ) → day ≤ 29219 → run s calls .today .0 + suc n ≤ day
+    → ChargedBook (run s (advance day n ∷ calls)) (run s (advance day (suc n) ∷ calls))
+
+-- .. after each of the calls of a list, so those inside its own advances too.
+abbrev pub EachOpening : ℕ → List Call → Type 0
+EachOpening s [] = Openings s []
+EachOpening s (c ∷ calls) = Openings s (c ∷ calls) × EachOpening s calls
 
 -- A call after which today is still `before`'s, so one that opened no day, left no admitted participant's shortfall higher, and a newly
 -- admitted one began with none.
@@ -98,9 +105,8 @@ pub record Life (s : ℕ) (calls : List Call) : Type 0 where
       → ReadsAs (todayOf s (eventsOf s calls)) (fileAt (run s calls) p) (mine p (eventsOf s calls))
   -- "each opened day charged exactly the late participants, once"
   pub days : (p : ℕ) → EachDay (mine p (eventsOf s calls))
-  -- the same of the book's own fields: at every opening after these calls, those inside an advance too
-  pub openings : (n : ℕ) → run s calls .today .0 + suc n ≤ 29219
-      → ChargedBook (daysLater n s calls) (daysLater (suc n) s calls)
+  -- the same of the book's own fields, at every opening, those inside an advance too
+  pub openings : EachOpening s calls
   -- "a call that opened no day raised no shortfall"
   pub noneHigher : EachCall s calls
   -- the count of calls made, and today

@@ -2,7 +2,7 @@
 -- Assumes nothing.
 use Prim.Native.Nat.{ℕ, _≤_}
 use mathlib.Core.Path.{_≡_}
-use mathlib.Core.List.{List, [], _∷_}
+use mathlib.Core.List.{List, _∷_}
 use Rattle.file.specs.Answer.{Answer}
 use Rattle.layout.specs.Book.{Book}
 use Rattle.book.specs.Call.{Call}

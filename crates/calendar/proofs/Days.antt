@@ -6,7 +6,8 @@ use mathlib.Core.Bool.{Bool, true, false, cond, _&&_, true≢false, false≢true
 use native.Mathlib.Omega.{arith}
 use borrow.Author.Tests.{eq-eqb, ne-eqb, le-leb, lt-leb}
 use lib.Dec.{eqb, leb}
-use Rattle.calendar.specs.Civil.{monthOf, firstDay, firstDayOf, dayOfMonth, dayOfMonthOf, isSeptember, inSeptember, placeOf, inAnnualDays, isFirstOctober}
+use Rattle.calendar.specs.Civil.{monthOf, firstDay, firstDayOf, dayOfMonth, dayOfMonthOf}
+use Rattle.calendar.specs.Civil.{isSeptember, inSeptember, placeOf, inAnnualDays, isFirstOctober}
 use Rattle.calendar.specs.Laws.{monthOf-last, monthOf-first}
 use Rattle.calendar.proofs.Lengths.{firstDayOf-is}
 

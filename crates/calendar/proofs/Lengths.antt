@@ -5,10 +5,10 @@ use mathlib.Core.Path.{_≡_, refl, sym, ap, _∙_}
 use mathlib.Core.Bool.{Bool, true, false, _&&_, _||_}
 use native.Mathlib.Nat.{min-eq-left, min-eq-right}
 use native.Mathlib.Omega.{arith}
-use borrow.Author.Tests.{eq-eqb, ne-eqb, lt-ltb, le-ltb}
+use borrow.Author.Tests.{eq-eqb, ne-eqb}
 use lib.Dec.{eqb, lit≤}
 use lib.ListN.{getD, List·getD-eq-default}
-use Rattle.calendar.specs.Civil.{leap, commonLengths, lengthIn, lengthOf, monthLength, firstDay, firstDayOf}
+use Rattle.calendar.specs.Civil.{leap, commonLengths, lengthIn, lengthOf, firstDay, firstDayOf}
 use Rattle.calendar.specs.Laws.{firstDay-mono, firstDay-suc}
 use Rattle.calendar.specs.Years.{firstDay-year, firstDay-last}
 
@@ -60,15 +60,6 @@ length-other y p h = sym (other-month y p h)
 -- a leap year's February is a small number of days
 pub february-small : (p : ℕ) → p ≡ 1 → getD commonLengths p 0 + 1 ≤ 29
 february-small p h = rw h (lit≤ tt)
-
--- the length of a month of the calendar, and of a number that is none
-pub monthLength-none : (m : ℕ) → 960 ≤ m → 0 ≡ monthLength m
-unfolding monthLength
-monthLength-none m h = rw (le-ltb m 960 h)
-
-pub monthLength-of : (m r : ℕ) → m < 960 → r ≡ lengthIn (2020 + m / 12) (m % 12) → r ≡ monthLength m
-unfolding monthLength lengthOf
-monthLength-of m r h e = rw (lt-ltb m 960 h) e
 
 -- the first day of a number that is no month
 pub firstDayOf-none : (m : ℕ) → 960 ≤ m → 29220 ≡ firstDayOf m

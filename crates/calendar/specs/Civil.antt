@@ -47,18 +47,20 @@ firstDay (suc m) = firstDay m + lengthOf m
 unfoldable pub firstDayOf : ℕ → ℕ
 firstDayOf m = firstDay (min m months)
 
--- A month's length for every number: 0 where there is no such month.
-unfoldable pub monthLength : ℕ → ℕ
-monthLength m = cond (ltb m months) (lengthOf m) 0
-
 -- The latest of the months 0 to n that has begun by day d.
 unfoldable pub begun : ℕ → ℕ → ℕ
 begun zero d = 0
 begun (suc n) d = cond (leb (firstDay (suc n)) d) (suc n) (begun n d)
 
--- The month that holds a day: the latest that has begun by then. A day above 29,219 is in month 960, which is no month of the calendar.
+-- Of n months from m on, the one that holds the day r days after m's first; the month behind them where none of them does.
+unfoldable pub holding : ℕ → ℕ → ℕ → ℕ
+holding zero m r = m
+holding (suc n) m r = cond (ltb r (lengthOf m)) m (holding n (suc m) (r - lengthOf m))
+
+-- The month that holds a day; it is the latest that has begun by then (`monthOf-begun`). A day above 29,219 is in month 960, which is no
+-- month of the calendar.
 unfoldable pub monthOf : ℕ → ℕ
-monthOf d = begun months d
+monthOf d = holding months 0 d
 
 -- The day of the month, from 1.
 unfoldable pub dayOfMonth : ℕ → ℕ

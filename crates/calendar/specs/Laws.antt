@@ -2,16 +2,16 @@
 -- day 29,220, are in Years, and those of dates in DateLaws.
 -- Assumes nothing.
 use Prim.Native.Nat.{ℕ, zero, suc, _+_, _-_, _/_, _%_, _≤_, _<_, zero-le, suc-le-suc}
-use mathlib.Core.Path.{_≡_, refl, sym, subst, ap}
+use mathlib.Core.Path.{_≡_, refl, sym, subst, ap, _∙_}
 use mathlib.Core.Bool.{Bool, true, false, _&&_}
 use mathlib.Core.Logic.{⊎-elim}
 use native.Mathlib.Nat.{eq-or-lt-of-le, le-of-suc-le-suc, le-trans}
 use native.Mathlib.Omega.{arith}
-use borrow.Author.Tests.{leb-true, leb-false, le-leb, lt-leb}
-use lib.Dec.{T, leb, leb→le, lit≤}
+use borrow.Author.Tests.{leb-true, leb-false, le-leb, lt-leb, ltb-true, ltb-false}
+use lib.Dec.{T, leb, ltb, leb→le, lit≤}
 use Rattle.laws.specs.Cases.{split}
 use Rattle.laws.specs.Tables.{and-left, and-right, every, every-at}
-use Rattle.calendar.specs.Civil.{leap, lengthOf, firstDay, begun, monthOf, lengthIn, dayOfMonth}
+use Rattle.calendar.specs.Civil.{leap, lengthOf, firstDay, begun, holding, monthOf, lengthIn, dayOfMonth}
 use Rattle.calendar.specs.Years.{lengthAt, firstDay-last}
 
 -- a later month begins no earlier
@@ -73,25 +73,39 @@ begun-mono (suc n) d e h =
 
 -- The month of a day.
 
+-- of the months 0 to m + n, month m having begun by day d, the latest that has begun holds the day
+holding-begun : (n m r d : ℕ) → d ≡ firstDay m + r → holding n m r ≡ begun (m + n) d
+unfolding holding
+holding-begun zero m r d e = sym (begun-at (m + 0) m d (omega arith) (omega arith) (λ l. omega arith))
+holding-begun (suc n) m r d e =
+    split (ltb r (lengthOf m))
+    (λ t. rw t
+    (sym (begun-at (m + suc n) m d (omega arith) (omega arith) (λ l. omega (arith, firstDay-suc m, ltb-true r (lengthOf m) t)))))
+    (λ t. rw t
+    (let same : suc m + n ≡ m + suc n = omega arith in
+    holding-begun n (suc m) (r - lengthOf m) d (omega (arith, firstDay-suc m, ltb-false r (lengthOf m) t))
+    ∙ ap (λ (k : ℕ). begun k d) same))
+
+-- the month that holds a day is the latest that has begun by then
+pub monthOf-begun : (d : ℕ) → monthOf d ≡ begun 960 d
+unfolding monthOf firstDay
+monthOf-begun d = holding-begun 960 0 d d (omega arith)
+
 -- no day lies in a month past 960
 pub monthOf-le : (d : ℕ) → monthOf d ≤ 960
-unfolding monthOf
-monthOf-le d = begun-le 960 d
+monthOf-le d = rw (monthOf-begun d) (begun-le 960 d)
 
 -- a later day lies in no earlier month
 pub monthOf-mono : (d e : ℕ) → d ≤ e → monthOf d ≤ monthOf e
-unfolding monthOf
-monthOf-mono d e h = begun-mono 960 d e h
+monthOf-mono d e h = rw (monthOf-begun d, monthOf-begun e) (begun-mono 960 d e h)
 
 -- a day's month has begun by that day
 pub monthOf-first : (d : ℕ) → firstDay (monthOf d) ≤ d
-unfolding monthOf
-monthOf-first d = begun-first 960 d
+monthOf-first d = rw (monthOf-begun d) (begun-first 960 d)
 
 -- and the next has not
 pub monthOf-next : (d : ℕ) → d ≤ 29219 → d < firstDay (suc (monthOf d))
-unfolding monthOf
-monthOf-next d h = begun-next 960 d (omega (arith, firstDay-last, firstDay-mono 960 961 (lit≤ tt)))
+monthOf-next d h = rw (monthOf-begun d) (begun-next 960 d (omega (arith, firstDay-last, firstDay-mono 960 961 (lit≤ tt))))
 
 -- a day of the calendar lies in one of its months
 pub monthOf-last : (d : ℕ) → d ≤ 29219 → monthOf d ≤ 959
@@ -102,13 +116,11 @@ monthOf-last d h =
 
 -- any other day lies in none
 pub monthOf-after : (d : ℕ) → 29219 < d → monthOf d ≡ 960
-unfolding monthOf
-monthOf-after d h = begun-at 960 960 d (lit≤ tt) (omega (arith, firstDay-last)) (λ l. omega arith)
+monthOf-after d h = monthOf-begun d ∙ begun-at 960 960 d (lit≤ tt) (omega (arith, firstDay-last)) (λ l. omega arith)
 
 -- the month that has begun by a day, and whose successor has not, is the day's
 pub monthOf-is : (m d : ℕ) → m < 960 → firstDay m ≤ d → d < firstDay (suc m) → monthOf d ≡ m
-unfolding monthOf
-monthOf-is m d h f g = begun-at 960 m d (omega arith) f (λ l. g)
+monthOf-is m d h f g = monthOf-begun d ∙ begun-at 960 m d (omega arith) f (λ l. g)
 
 -- the days of a month are those from its first, as many as its length
 pub monthOf-in : (m k : ℕ) → m < 960 → k < lengthOf m → monthOf (firstDay m + k) ≡ m

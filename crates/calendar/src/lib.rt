@@ -1,13 +1,17 @@
 // The civil calendar from 1 January 2020 to 31 December 2099, by numbered days and months: day 0 is 1 January 2020 and
 // month 0 is January 2020. A day number and a month number are types of their own, converted only here.
 ghost use mathlib.Core.Path.{_≡_};
-ghost use Rattle.calendar.specs.Civil.{monthOf, firstDayOf, monthLength, dayOfMonthOf, isSeptember, inSeptember};
+ghost use Rattle.calendar.specs.Civil.{monthOf, firstDayOf, dayOfMonthOf, isSeptember, inSeptember};
 ghost use Rattle.calendar.specs.Civil.{placeOf, inAnnualDays, isFirstOctober};
 ghost use lib.Dec.{eqb};
 
 mod year; // year.rt: leap years, the lengths of months, and the months of a year
 mod date; // date.rt: dates by year, month and day of the month
+mod count; // count.rt: months counted from one another
 
+pub use count::months_before;
+pub use count::months_between;
+pub use count::same_month;
 pub use date::Date;
 pub use date::DateDay;
 pub use date::Dated;
@@ -55,17 +59,6 @@ pub fn first_day(month: Month) -> Day
         d += length_in(2020 + year, i);
     }
     Day(d)
-}
-
-// The number of days of a month; 0 for a number that is no month.
-pub fn length_of(month: Month) -> u32
-    ensures { λ r. ⌜ r ≡ monthLength (month .0) ⌝ }
-{
-    let m = month.0;
-    if MONTHS <= m {
-        return 0;
-    }
-    length_in(2020 + m / 12, m % 12)
 }
 
 // The day of the month, from 1; 0 for a day above the last.

@@ -28,7 +28,8 @@ unfolding SmallTotal
 refused-small n = omega arith
 
 -- An answer behind causes: small if it is so where none of them holds.
-decide-small : (causes : List Cause) (x : Answer) → (All (λ (c : Cause). c .holds ≡ false) causes → SmallTotal x) → SmallTotal (decide refused causes x)
+decide-small : (causes : List Cause) (x : Answer) → (All (λ (c : Cause). c .holds ≡ false) causes → SmallTotal x)
+    → SmallTotal (decide refused causes x)
 unfolding decide
 decide-small [] x h = h tt
 decide-small (c ∷ causes) x h =
@@ -40,7 +41,8 @@ settled-small : (f : File) (t m : ℕ) (figures : List ℤ) → wrongCount figur
 unfolding SmallTotal
 settled-small f t m figures w o =
     split (settlementCalls f t m figures) (λ e. rw (settled-answer f t m figures, e) (summed-total figures w o))
-    (λ e. rw (settled-answer f t m figures, e) (split (checkDue (monthOf t) m) (λ d. rw d (summed-total figures w o)) (λ d. rw d (summed-total figures w o))))
+    (λ e. rw (settled-answer f t m figures, e)
+    (split (checkDue (monthOf t) m) (λ d. rw d (summed-total figures w o)) (λ d. rw d (summed-total figures w o))))
 
 -- The book's answer.
 answer-small : (b : Book) (p m : ℕ) (figures : List ℤ) → SmallTotal (answer b (on p (settle m figures)))

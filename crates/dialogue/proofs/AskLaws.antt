@@ -57,7 +57,8 @@ line-asked way p l e f start q r m x h =
     let y : LineIs (p .long) (p .kept) (drop (markLength (p .line) l) l) e q f = subst (λ (z : List ℕ). LineIs (p .long) (p .kept) z e q f) text x in
     let u = drop (markLength (p .line) l) l in
     let g : r ≡ heldBack way (lineRequest (p .long) (p .kept) (length e) u) = h ∙ ap (heldBack way) (y .request) in
-    let z : asked (lineRequest (p .long) (p .kept) (length e) u) f ≡ asked (lineRequest (p .long) (p .kept) (length e) u) (parsed (length e) u .numbers) =
+    let z : asked (lineRequest (p .long) (p .kept) (length e) u) f
+    ≡ asked (lineRequest (p .long) (p .kept) (length e) u) (parsed (length e) u .numbers) =
     ap (λ (k : Request). asked k f) (sym (y .request)) ∙ y .asks in
     record {
       request = g;

@@ -1,6 +1,6 @@
 -- The most bytes of a kept line: it has at most 16 numbers.
 -- Assumes nothing.
-use Prim.Native.Nat.{ℕ, _+_, _*_, _-_, _≤_}
+use Prim.Native.Nat.{ℕ, _+_, _*_, _≤_}
 use mathlib.Core.Path.{_≡_, refl, sym, ap, _∙_}
 use mathlib.Core.Bool.{Bool, true, false}
 use mathlib.Core.List.{List, [], _∷_, _++_, map}
@@ -67,7 +67,8 @@ lists-short (m ∷ ms) (k ∷ ks) zs h n =
     let a = take k zs in
     let rest = listWords (cut ks (drop k zs)) in
     let e : spaced (decimal (length a) ∷ (map integer a ++ rest)) ≡ (32 ∷ decimal (length a)) ++ (spaced (map integer a) ++ spaced rest) =
-    spaced-more (decimal (length a)) (map integer a ++ rest) ∙ ap (λ (t : List ℕ). (32 ∷ decimal (length a)) ++ t) (spaced-append (map integer a) rest) in
+    spaced-more (decimal (length a)) (map integer a ++ rest)
+    ∙ ap (λ (t : List ℕ). (32 ∷ decimal (length a)) ++ t) (spaced-append (map integer a) rest) in
     rw e
     (omega (
       arith,

@@ -137,7 +137,8 @@ line-call true kept l zs ys q c x = long-call kept l zs ys q c x
 line-call false kept l zs ys q c x = short-call kept l zs ys q c x
 
 -- What is printed of it is the line's numeric form.
-kept-printed : (l : List ℕ) (room : ℕ) (q : Request) (ys : List ℤ) → KeptCall l room q ys → keptLine q ys ≡ printed (parsed room l .request) (parsed room l .numbers) ++ (10 ∷ [])
+kept-printed : (l : List ℕ) (room : ℕ) (q : Request) (ys : List ℤ) → KeptCall l room q ys
+    → keptLine q ys ≡ printed (parsed room l .request) (parsed room l .numbers) ++ (10 ∷ [])
 unfolding keptLine
 kept-printed l room q ys k =
     ap (λ (z : Request). printed z (own z ys) ++ (10 ∷ [])) (k .same)
@@ -191,13 +192,15 @@ module _ (way : Way) (p : Place) (l : List ℕ) (zs ys : List ℤ) (request : Re
     unfolding after
     left-state q u r e =
         let f : q ≡ further p (isKept way (length zs) (stateOf words p) l) (refuses (answerOf way (length zs) (stateOf words p) l)) =
-        e ∙ ap (λ (z : Bool). further p z u) (sym kept-line) ∙ ap (further p (isKept way (length zs) (stateOf words p) l)) (r ∙ ap refuses answered-line) in
+        e ∙ ap (λ (z : Bool). further p z u) (sym kept-line)
+        ∙ ap (further p (isKept way (length zs) (stateOf words p) l)) (r ∙ ap refuses answered-line) in
         λ i. record { book = left-book i; place = f i }
 
     taken-call : t ≡ true → KeptCall (textOf (p .line) l) (length zs) request ys
     taken-call h =
         held-kept way p l zs ys request is
-        (is-call (bookOfWords words) number request ys (ap takes (sym (given .given .answered)) ∙ and-right (way .keeps) (takes answer) (sym kept ∙ h)))
+        (is-call (bookOfWords words) number request ys
+        (ap takes (sym (given .given .answered)) ∙ and-right (way .keeps) (takes answer) (sym kept ∙ h)))
 
     journal-line : cond t (keptLine request ys) [] ≡ journalOf way (length zs) (stateOf words p) l
     unfolding journalOf numeric
@@ -230,9 +233,11 @@ added request answer kept ys words j k x y e f g at a b w c d =
       most = omega (arith, length-append (said answer) (tabled request (bookOfWords words)), c .most, d .most);
     }
 
-pub line-taken : (way : Way) (p q : Place) (l : List ℕ) (zs ys : List ℤ) (request : Request) (answer : Answer) (words m : List ℕ) (number : ℕ) (t t₁ u : Bool)
+pub line-taken : (way : Way) (p q : Place) (l : List ℕ) (zs ys : List ℤ) (request : Request) (answer : Answer) (words m : List ℕ)
+    (number : ℕ) (t t₁ u : Bool)
     (j k : List ℕ) (x y : ℕ) (e f : List ℕ) (at r : ℕ) → LineAsked way p l zs request ys → number ≡ next (p .line)
-    → AnsweredWords words number (asked request ys) answer m → t₁ ≡ takes answer → t ≡ (way .keeps && t₁) → Added request answer t ys m j x e at y k r f
+    → AnsweredWords words number (asked request ys) answer m → t₁ ≡ takes answer → t ≡ (way .keeps && t₁)
+    → Added request answer t ys m j x e at y k r f
     → u ≡ refuses answer → q ≡ further p t u → length zs ≤ 18446744073709551615 → LineTaken way (length zs) words p l j x e at m q y k r f
 unfolding bytesOf
 line-taken way p q l zs ys request answer words m number t t₁ u j k x y e f at r is n given h₁ h c v d long =

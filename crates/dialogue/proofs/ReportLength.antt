@@ -51,8 +51,12 @@ digits-length (suc k) n =
 fixed-short : (k n : ℕ) → Small n → length (fixed k n) ≤ 21 + k
 unfolding fixed
 fixed-short k n h =
-    omega
-    (arith, length-append (decimal (n / 10 ^ k)) (46 ∷ digits k n), digits-length k n, number-short (n / 10 ^ k) (omega (arith, div-le-self n (10 ^ k))))
+    omega (
+      arith,
+      length-append (decimal (n / 10 ^ k)) (46 ∷ digits k n),
+      digits-length k n,
+      number-short (n / 10 ^ k) (omega (arith, div-le-self n (10 ^ k))),
+    )
 
 role-short : (r : ℕ) → length (roleText r) ≤ 16
 unfolding roleText roleNames

@@ -46,8 +46,10 @@ module _ (way : Way) (p : Place) (j a r b : ℕ) (g : goesOn way p j a r b ≡ t
   goes-room : (1024 ≤ a - j) × (16384 ≤ b - r)
   unfolding goesOn
   goes-room =
-      let h = and-right (not (ended way p) && (way .batch || eqb j 0)) (leb 1024 (a - j) && leb 16384 (b - r)) g in
-      (leb-true 1024 (a - j) (and-left (leb 1024 (a - j)) (leb 16384 (b - r)) h), leb-true 16384 (b - r) (and-right (leb 1024 (a - j)) (leb 16384 (b - r)) h))
+      let h = and-right (not (ended way p) && (way .batch || eqb j 0)) (leb 1024 (a - j) && leb 16384 (b - r)) g in (
+        leb-true 1024 (a - j) (and-left (leb 1024 (a - j)) (leb 16384 (b - r)) h),
+        leb-true 16384 (b - r) (and-right (leb 1024 (a - j)) (leb 16384 (b - r)) h),
+      )
 
   -- and the lines have not ended
   pub going : ended way p ≡ false
@@ -82,7 +84,8 @@ module _ (way : Way) (room : ℕ) where
   after-append s (l ∷ a) b =
       split (ended way (s .place)) (λ e. rw e (sym (ended-after s b e))) (λ e. rw e (after-append (after way room s l) a b))
 
-  pub bytes-append : (s : State) (a b : List (List ℕ)) → allBytes way room s (a ++ b) ≡ allBytes way room s a ++ allBytes way room (afterAll way room s a) b
+  pub bytes-append : (s : State) (a b : List (List ℕ))
+      → allBytes way room s (a ++ b) ≡ allBytes way room s a ++ allBytes way room (afterAll way room s a) b
   unfolding afterAll allBytes
   bytes-append s [] b = refl
   bytes-append s (l ∷ a) b =
@@ -90,7 +93,8 @@ module _ (way : Way) (room : ℕ) where
       (λ e.
       rw e
       (ap (λ (t : List ℕ). bytesOf way room s l ++ t) (bytes-append (after way room s l) a b)
-      ∙ sym (append-assoc (bytesOf way room s l) (allBytes way room (after way room s l) a) (allBytes way room (afterAll way room (after way room s l) a) b))))
+      ∙ sym (append-assoc (bytesOf way room s l) (allBytes way room (after way room s l) a)
+      (allBytes way room (afterAll way room (after way room s l) a) b))))
 
   pub journal-append : (s : State) (a b : List (List ℕ))
       → allJournal way room s (a ++ b) ≡ allJournal way room s a ++ allJournal way room (afterAll way room s a) b
@@ -119,7 +123,8 @@ module _ (way : Way) (room : ℕ) where
 
   -- One more that is taken, behind lines that were.
   went-more : (journalRoom answerRoom : ℕ) (s : State) (j r : ℕ) (ls : List (List ℕ)) (l : List ℕ) → WentOn way room journalRoom answerRoom s j r ls
-      → goesOn way (afterAll way room s ls .place) (j + length (allJournal way room s ls)) journalRoom (r + length (allBytes way room s ls)) answerRoom ≡ true
+      → goesOn way (afterAll way room s ls .place) (j + length (allJournal way room s ls)) journalRoom
+      (r + length (allBytes way room s ls)) answerRoom ≡ true
       → WentOn way room journalRoom answerRoom s j r (ls ++ (l ∷ []))
   unfolding afterAll allBytes allJournal
   went-more journalRoom answerRoom s j r [] l w g =
@@ -207,7 +212,8 @@ module _ (way : Way) (room : ℕ) (s : State) (input words m : List ℕ) (p q : 
       let jl : x ≡ 0 + length (allJournal way room s lines) = omega (arith, jn) in
       let rl : at ≡ 0 + length (allBytes way room s lines) = omega (arith, rn) in
       let pl : p ≡ afterAll way room s lines .place = ap (λ (z : State). z .place) (before .left) in
-      let g1 : goesOn way (afterAll way room s lines .place) (0 + length (allJournal way room s lines)) (length j) (0 + length (allBytes way room s lines))
+      let g1 : goesOn way (afterAll way room s lines .place) (0 + length (allJournal way room s lines)) (length j)
+      (0 + length (allBytes way room s lines))
       (length f) ≡ true =
       rw (← pl, ← jl, ← rl) goes in
       rw (journal-behind .same, answer-behind .same)
@@ -255,7 +261,8 @@ unfolding goesOn ended
 goes way p j a r b t e = e
 
 -- A turn as the loop has it: the slice for the numbers keeps its length, and a test decided that one more line is taken.
-pub turn-again : (way : Way) (room room₁ : ℕ) (s : State) (input words m : List ℕ) (p q : Place) (j k f g : List ℕ) (start end x y at r : ℕ) (go : Bool)
+pub turn-again : (way : Way) (room room₁ : ℕ) (s : State) (input words m : List ℕ) (p q : Place) (j k f g : List ℕ)
+    (start end x y at r : ℕ) (go : Bool)
     → Taken way room s input start (stateOf words p) x j at f → EndIs input start end → end < length input
     → LineTaken way room₁ words p (take (end - start) (drop start input)) j x f at m q y k r g → room₁ ≡ room
     → go ≡ goesOn way p x (length j) at (length f) → go ≡ true → Taken way room s input (end + 1) (stateOf m q) y k r g

@@ -29,7 +29,8 @@ pub record Replayed (most room : ℕ) (t : State) (j : List ℕ) (end : State) :
   pub refused : streamAfter most replaying room t (linesIn j) .place .refused ≡ 0
   pub again : streamJournal most replaying room t (linesIn j) ≡ j
 
--- An input cut in two at any byte: what is answered, what is kept and the state are those of the first part, and then of what it leaves with the second.
+-- An input cut in two at any byte: what is answered, what is kept and the state are those of the first part, and then of what it leaves with the
+-- second.
 pub record Cut (most : ℕ) (way : Way) (room : ℕ) (s : State) (a b : List ℕ) : Type 0 where
   pub state : streamAfter most way room s (linesIn (a ++ b))
       ≡ streamAfter most way room (streamAfter most way room s (linesIn a)) (linesIn (restIn a ++ b))

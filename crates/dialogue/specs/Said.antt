@@ -89,7 +89,8 @@ pub record Tabled (request : Request) (b : Book) (e : List ℕ) (at r : ℕ) (f 
   pub most : length (tabled request b) ≤ 15000
 
 -- What a line with a request and an answer adds, on the words that it left: its line of the journal, where it is kept, and what is said and shown.
-pub record Added (request : Request) (answer : Answer) (kept : Bool) (numbers : List ℤ) (words j : List ℕ) (x : ℕ) (e : List ℕ) (at y : ℕ) (k : List ℕ) (r : ℕ)
+pub record Added (request : Request) (answer : Answer) (kept : Bool) (numbers : List ℤ) (words j : List ℕ) (x : ℕ) (e : List ℕ)
+    (at y : ℕ) (k : List ℕ) (r : ℕ)
     (f : List ℕ) : Type 0 where
   pub journal : Put (cond kept (keptLine request numbers) []) j x y k
   pub bytes : Put (said answer ++ tabled request (bookOfWords words)) e at r f

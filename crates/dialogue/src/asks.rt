@@ -1,7 +1,5 @@
 // What a line of an input asks.
 ghost use mathlib.Core.Path.{_≡_};
-ghost use Prim.Native.Nat.{_≤_};
-ghost use lib.ListN.{length};
 ghost use Rattle.dialogue.specs.Asks.{heldBack, Mark, LineAsked};
 use crate::Place;
 use crate::Way;

@@ -1,6 +1,5 @@
 // The lines of a slice, answered one after the other.
 ghost use mathlib.Core.Path.{_≡_};
-ghost use mathlib.Core.Bool.{cond};
 ghost use Prim.Native.Nat.{_≤_};
 ghost use lib.ListN.{length};
 ghost use Rattle.layout.specs.WellFormed.{WellFormed};

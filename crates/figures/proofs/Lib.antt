@@ -1,1 +1,7 @@
 pub mod Table
+pub mod Dates
+pub mod Positions
+pub mod Settlements
+pub mod Guarantees
+pub mod Decisions
+pub mod Boundaries

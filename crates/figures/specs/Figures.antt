@@ -1,16 +1,10 @@
 -- Paper 01, 'Figures to reproduce (those with * are proved)': the starred figures as one table of facts about the definitions, which
 -- proofs/Table.antt closes. Amounts are cents, charges are mills, rates are hundredths of a percent.
 -- Assumes nothing.
-use Prim.Native.Nat.{ℕ, _+_, _*_, max}
+use Prim.Native.Nat.{ℕ}
 use mathlib.Core.Path.{_≡_}
-use mathlib.Core.Bool.{false}
-use mathlib.Core.List.{List, [], _∷_}
-use lib.Dec.{ltb}
-use lib.ListN.{length}
-use lib.IntN.{ℤ, pos, negsuc, _+ℤ_, _-ℤ_, _*ℤ_}
-use Rattle.laws.specs.Integers.{sumOf}
-use Rattle.laws.specs.Signed.{nearest}
-use Rattle.laws.specs.Largest.{threeLargest}
+use mathlib.Core.List.{List, [], _∷_, _++_}
+use lib.IntN.{ℤ, pos, negsuc, _-ℤ_}
 use Rattle.manual.specs.Annual.{largestTotal, annualAmount}
 use Rattle.manual.specs.Check.{checked}
 use Rattle.manual.specs.Charge.{dayCharge}
@@ -19,6 +13,8 @@ use Rattle.manual.specs.declared.Check.the-variants.{Call, Covered}
 use Rattle.special.specs.Ratio.{usable, ratio}
 use Rattle.special.specs.Guarantee.{specialGuarantee}
 use Rattle.special.specs.declared.Special.the-variants.{Guarantee}
+use Rattle.book.specs.Call as Calls
+use Rattle.figures.specs.History.{admits, cash, settles, toDay, shortfalls, accruedBy, accruedOf}
 
 -- ---- the givens
 
@@ -66,25 +62,18 @@ lowExcesses = pos 0 ∷ pos 0 ∷ (pos 10588754 -ℤ pos 7762366) ∷ pos 0 ∷ 
 abbrev pub checkAt : ℕ → ℤ → Check
 checkAt d e = checked e d d []
 
--- The sum of the day charges (002, section 4) of days with these shortfalls.
-unfoldable pub charges : List ℕ → ℕ
-charges [] = 0
-charges (s ∷ rest) = dayCharge s + charges rest
+-- 002, example 3, as calls of a Producer from day 60 on: €773,729 in cash, the total of €936,795, €100,000 paid when two days were charged, and
+-- three more days.
+abbrev pub example3 : List Calls.Call
+example3 = admits 3 ∷ cash 0 77372900 ∷ settles 0 93679500 ∷ toDay 72 ∷ cash 1 10000000 ∷ toDay 75 ∷ []
 
--- 1‰ of each shortfall in cents, summed, in mills: as many mills as the shortfalls have cents.
-unfoldable pub sumShort : List ℕ → ℕ
-sumShort [] = 0
-sumShort (s ∷ rest) = s + sumShort rest
+-- .. the rest paid then, and one more day.
+abbrev pub example3Paid : List Calls.Call
+example3Paid = example3 ++ cash 2 6306600 ∷ toDay 76 ∷ []
 
--- 'Readings that 002 tempts one into': "Comparing the sum of charges once with n × €1,000".
-unfoldable pub chargesComparedOnce : List ℕ → ℕ
-chargesComparedOnce shorts = max (sumShort shorts) (length shorts * 100000000)
-
--- 'Readings that 002 tempts one into': "Multiplying by an unrounded ratio", (medium rates' sum / 3 × medium sum + low rates' sum / 3 ×
--- low sum) / 10,000, less the excesses.
-unfoldable pub guaranteeUnrounded : List ℤ → List ℤ → List ℤ → List ℤ → ℤ → ℤ
-guaranteeUnrounded medium low zeroMedium zeroLow excess =
-    nearest (sumOf (threeLargest medium) *ℤ sumOf zeroMedium +ℤ sumOf (threeLargest low) *ℤ sumOf zeroLow) 30000 -ℤ excess
+-- A total of 150,000,000 with nothing lodged, 100,000,000 paid when one day was charged, and one more day.
+abbrev pub twoDays : List Calls.Call
+twoDays = admits 3 ∷ settles 0 150000000 ∷ toDay 71 ∷ cash 0 100000000 ∷ toDay 72 ∷ []
 
 -- ---- the facts
 
@@ -107,23 +96,22 @@ pub record Figures : Type 0 where
   pub charge-at-least : dayCharge 100000000 ≡ 100000000
   pub charge-above-least : dayCharge 100000001 ≡ 100000001
   -- "Example 3: shortfall 16,306,600 for two days, then 6,306,600 for three: 500,000,000 mills."
-  pub example-3 : charges (16306600 ∷ 16306600 ∷ 6306600 ∷ 6306600 ∷ 6306600 ∷ []) ≡ 500000000
-  -- "S = 150,000,000, then 50,000,000: 250,000,000 mills."
-  pub two-days : charges (150000000 ∷ 50000000 ∷ []) ≡ 250000000
+  pub example-3-shortfalls : shortfalls 60 example3 (71 ∷ 72 ∷ 73 ∷ 74 ∷ 75 ∷ [])
+      ≡ 16306600 ∷ 16306600 ∷ 6306600 ∷ 6306600 ∷ 6306600 ∷ []
+  pub example-3 : accruedBy 60 example3 ≡ 500000000
+  pub example-3-book : accruedOf 60 example3 ≡ 500000000
+  -- 'Readings that 002 tempts one into': "Charging the day after payment". The next day costs no more.
+  pub example-3-paid : accruedBy 60 example3Paid ≡ 500000000
+  pub example-3-paid-book : accruedOf 60 example3Paid ≡ 500000000
+  -- "S = 150,000,000, then 50,000,000: 250,000,000 mills." and not, "comparing the sum of charges once with n × €1,000", 200,000,000.
+  pub two-days-shortfalls : shortfalls 60 twoDays (71 ∷ 72 ∷ []) ≡ 150000000 ∷ 50000000 ∷ []
+  pub two-days : accruedBy 60 twoDays ≡ 250000000
+  pub two-days-book : accruedOf 60 twoDays ≡ 250000000
   -- "Rates 126, 4, 0 give 43; 3,253, 4,048, 4,723 give 4,008."
   pub medium-ratio-of-three : ratio (pos 126 ∷ pos 4 ∷ pos 0 ∷ []) ≡ pos 43
   pub low-ratio-of-three : ratio (pos 3253 ∷ pos 4048 ∷ pos 4723 ∷ []) ≡ pos 4008
   -- The same ratios from the whole rate tables of 002, section 8.
   pub medium-ratio : ratio mediumRates ≡ pos 43
   pub low-ratio : ratio (usable lowRates marks) ≡ pos 4008
-  -- "002, section 8: 7,933,114 cents."
+  -- "002, section 8: 7,933,114 cents." and not, "multiplying by an unrounded ratio", 7,940,680.
   pub section-8 : specialGuarantee mediumRates lowRates marks mediumZeros lowZeros mediumExcesses lowExcesses ≡ Guarantee 7933114
-  -- 'Readings that 002 tempts one into', and what they would give.
-  -- "Comparing the sum of charges once with n × €1,000 (200,000,000 where S was 150,000,000, then 50,000,000)": `two-days` differs.
-  pub compared-once : chargesComparedOnce (150000000 ∷ 50000000 ∷ []) ≡ 200000000
-  -- "Calling only above 20%": 5 × E > 6 × D fails at `at-20-percent`, which calls.
-  pub only-above-20-percent : ltb (6 * 1000000) (5 * 1200000) ≡ false
-  -- "Multiplying by an unrounded ratio": `section-8` differs.
-  pub unrounded-ratio : guaranteeUnrounded mediumRates (usable lowRates marks) mediumZeros lowZeros (sumOf lowExcesses) ≡ pos 7940680
-  -- "Charging the day after payment": example 3 with the next day, whose shortfall is 0, costs no more.
-  pub day-after-payment : charges (16306600 ∷ 16306600 ∷ 6306600 ∷ 6306600 ∷ 6306600 ∷ 0 ∷ []) ≡ 500000000

@@ -9,16 +9,16 @@ use mir.Val.{SFits, toZ, ofZ}
 use mir.Syntax.{w64}
 use mir.Facts.{toZ-ofZ}
 use lib.Dec.{leb, ltb}
-use lib.ListN.{length, getD, set, replicate, length-append}
+use lib.ListN.{length, getD, set, length-append}
 use lib.IntN.{ℤ, natAbs}
-use Rattle.laws.specs.Cases.{split, cond-true, cond-false, and-both, and-right, and-refused}
+use Rattle.laws.specs.Cases.{split, cond-true, cond-false, and-both, and-refused}
 use Rattle.calendar.specs.declared.Month.{Month}
 use Rattle.calendar.specs.Civil.{monthOf, isSeptember}
 use Rattle.manual.specs.declared.Check.{Check}
 use Rattle.manual.specs.declared.Check.the-variants.{Call, Covered}
 use Rattle.manual.specs.declared.Sum.{Sum}
 use Rattle.manual.specs.declared.Sum.the-variants as Sums
-use Rattle.manual.specs.Check.{callIsMade, checked}
+use Rattle.manual.specs.Check.{checked}
 use Rattle.manual.specs.Figures.{sumOf, wrongCount, outOfRange, summed}
 use Rattle.manual.specs.Laws.{checked-zeros}
 use Rattle.file.specs.declared.File.{File}
@@ -29,9 +29,9 @@ use Rattle.file.specs.Calls.{amountsOf, callOf, inPlaces}
 use Rattle.file.specs.CallLaws.{amounts-places, inPlaces-next}
 use Rattle.file.specs.Totals.{withTotal}
 use Rattle.file.specs.Position.{coverOn}
-use Rattle.file.specs.Fields.{openCalls, openAmounts, coverOf, withTotals}
-use Rattle.file.specs.CheckLaws.{settled-answer}
-use Rattle.file.specs.Settle.{outsideMonths, checkDue, deposited, settlementCalls, settledAnswer, settleAnswer, callsSettled, settledFile}
+use Rattle.file.specs.Fields.{openCalls, openAmounts, coverOf}
+use Rattle.file.specs.Settle.{outsideMonths, checkDue, deposited, settlementCalls, checkSays}
+use Rattle.file.specs.Settle.{settledAnswer, settleAnswer, callsSettled, settledFile}
 use Rattle.file.specs.Sound.{Sound}
 use Rattle.file.specs.KeepsCalls.{open-count}
 
@@ -69,13 +69,15 @@ module _ (p m : ℕ) where
 
 -- ---- the ring of month totals
 
-pub ring-set : (totals : List MonthTotal) (m : Month) (e : ℤ) → SFits w64 e → set totals (m .0 % 16) record { recorded = true; month = m; total = toZ w64 (ofZ w64 e) } ≡ withTotal totals (m .0) e
+pub ring-set : (totals : List MonthTotal) (m : Month) (e : ℤ) (at : ℕ) → SFits w64 e → at ≡ m .0 % 16
+    → set totals at record { recorded = true; month = m; total = toZ w64 (ofZ w64 e) } ≡ withTotal totals (m .0) e
 unfolding withTotal
-ring-set totals m e s = ap (λ (z : ℤ). set totals (m .0 % 16) record { recorded = true; month = m; total = z }) (toZ-ofZ s)
+ring-set totals m e at s p = simp (p, toZ-ofZ s)
 
 -- ---- the amounts in the four places
 
-pub amounts-four : (l : List OpenCall) (z : OpenCall) → length l ≡ 4 → (getD l 0 z) .amount ∷ (getD l 1 z) .amount ∷ (getD l 2 z) .amount ∷ (getD l 3 z) .amount ∷ [] ≡ amountsOf l
+pub amounts-four : (l : List OpenCall) (z : OpenCall) → length l ≡ 4
+    → (getD l 0 z) .amount ∷ (getD l 1 z) .amount ∷ (getD l 2 z) .amount ∷ (getD l 3 z) .amount ∷ [] ≡ amountsOf l
 amounts-four [] z h = absurd (omega arith)
 amounts-four (a ∷ []) z h = absurd (omega arith)
 amounts-four (a ∷ b ∷ []) z h = absurd (omega arith)
@@ -83,58 +85,24 @@ amounts-four (a ∷ b ∷ c ∷ []) z h = absurd (omega arith)
 amounts-four (a ∷ b ∷ c ∷ d ∷ []) z h = refl
 amounts-four (a ∷ b ∷ c ∷ d ∷ e ∷ l) z h = absurd (omega arith)
 
+-- ---- what a check's outcome says of its test, and the next place for a call
+
+covered-unmade : (made : Bool) (x y : ℕ) → Covered ≡ cond made (Call x y) Covered → made ≡ false
+covered-unmade true x y q = cc
+covered-unmade false x y q = refl
+
+call-made : (made : Bool) (x y a b : ℕ) → Call a b ≡ cond made (Call x y) Covered → (made ≡ true) × (x ≡ a)
+call-made true x y a b q = (refl, cc)
+call-made false x y a b q = (cc, cc)
+
+next-place : (calls l : List OpenCall) (n : ℕ) (c : OpenCall) → calls ≡ inPlaces l → n ≡ length l → n < 4
+    → (set calls n c ≡ inPlaces (l ++ c ∷ [])) × (n + 1 ≡ length (l ++ c ∷ []))
+next-place calls l n c p q h = (rw (p, q) (inPlaces-next l c (omega arith)), rw q (sym (length-append l (c ∷ []))))
+
 -- ---- the answers and their files
 
--- An answer and a file are those of the settlement.
-abbrev pub Settles : File → ℕ → ℕ → List ℤ → Answer → File → Type 0
-Settles f t m figures answer file = (answer ≡ settleAnswer f t m figures) × (file ≡ settledFile f t m figures)
-
--- a refusal leaves the file as it was
-settles-refused : (f : File) (t m n : ℕ) (figures : List ℤ) → settleAnswer f t m figures ≡ refused n → Settles f t m figures (refused n) f
-unfolding settledFile
-settles-refused f t m n figures e = (sym e, sym (cond-false _ _ f (ap accepted e)))
-
--- cause 12
-pub settles-outside : (f : File) (t m p : ℕ) (figures : List ℤ) (outside : Bool) → p ≡ monthOf t → outside ≡ outsideMonths p m → outside ≡ true → Settles f t m figures (refused 12) f
-unfolding settleAnswer decide
-settles-outside f t m p figures outside e h k =
-    settles-refused f t m 12 figures (let q : outsideMonths (monthOf t) m ≡ true = ap (λ (n : ℕ). outsideMonths n m) (sym e) ∙ sym h ∙ k in simp q)
-
--- the month is inside its range
-pub inside-months : (t m p : ℕ) (outside : Bool) → p ≡ monthOf t → outside ≡ outsideMonths p m → outside ≡ false → outsideMonths (monthOf t) m ≡ false
-inside-months t m p outside e h k = ap (λ (n : ℕ). outsideMonths n m) (sym e) ∙ sym h ∙ k
-
--- causes 10 and 11
-pub settles-figures : (f : File) (t m n : ℕ) (figures : List ℤ) (r : Sum) → outsideMonths (monthOf t) m ≡ false → r ≡ summed figures → r ≡ Sums.Refused n → Settles f t m figures (refused n) f
-unfolding settleAnswer decide summed
-settles-figures f t m n figures r inside e h =
-    split (wrongCount figures)
-    (λ p. let q : _≡_ {A = Sum} (Sums.Refused 10) (Sums.Refused n) = sym (cond-true _ _ _ p) ∙ sym e ∙ h in
-    settles-refused f t m n figures (simp (inside, p) (ap refused (number q))))
-    (λ p. split (outOfRange figures)
-    (λ o. let q : _≡_ {A = Sum} (Sums.Refused 11) (Sums.Refused n) = sym (cond-true _ _ _ o) ∙ sym (cond-false _ _ _ p) ∙ sym e ∙ h in
-    settles-refused f t m n figures (simp (inside, p, o) (ap refused (number q))))
-    (λ o. let q : Sums.Total (sumOf figures) ≡ Sums.Refused n = sym (cond-false _ _ _ o) ∙ sym (cond-false _ _ _ p) ∙ sym e ∙ h in
-    let z : _≡_ {A = ℕ} 0 1 = cc in absurd (omega arith)))
-  where
-    number : {a b : ℕ} → Sums.Refused a ≡ Sums.Refused b → a ≡ b
-    number q = cc
-
--- the figures are of the right number and within their range, and the total is their sum
-pub figures-summed : (figures : List ℤ) (r : Sum) (e : ℤ) → r ≡ summed figures → r ≡ Sums.Total e → (e ≡ sumOf figures) × (wrongCount figures ≡ false) × (outOfRange figures ≡ false)
-unfolding summed
-figures-summed figures r e h k =
-    split (wrongCount figures)
-    (λ p. let q : Sums.Refused 10 ≡ Sums.Total e = sym (cond-true _ _ _ p) ∙ sym h ∙ k in let z : _≡_ {A = ℕ} 0 1 = cc in absurd (omega arith))
-    (λ p. split (outOfRange figures)
-    (λ o. let q : Sums.Refused 11 ≡ Sums.Total e = sym (cond-true _ _ _ o) ∙ sym (cond-false _ _ _ p) ∙ sym h ∙ k in let z : _≡_ {A = ℕ} 0 1 = cc in absurd (omega arith))
-    (λ o. let q : Sums.Total (sumOf figures) ≡ Sums.Total e = sym (cond-false _ _ _ o) ∙ sym (cond-false _ _ _ p) ∙ sym h ∙ k in (total q, p, o)))
-  where
-    total : {a b : ℤ} → Sums.Total a ≡ Sums.Total b → b ≡ a
-    total q = cc
-
--- the file with other calls and totals
-abbrev withFields : File → List OpenCall → ℕ → List MonthTotal → File
+-- The file with other calls and totals, as the code leaves it.
+abbrev pub withFields : File → List OpenCall → ℕ → List MonthTotal → File
 withFields f calls count totals =
     record {
       admitted = f .admitted;
@@ -149,127 +117,127 @@ withFields f calls count totals =
       accrued = f .accrued;
     }
 
--- the file with the month's total, and nothing else changed
-abbrev pub totalled : File → List MonthTotal → File
-totalled f totals = withFields f (f .calls) (f .count) totals
+-- the month's range, as the code asks about it
+pub months-asked : (t m p : ℕ) (outside b : Bool) → p ≡ monthOf t → outside ≡ outsideMonths p m → outside ≡ b → outsideMonths (monthOf t) m ≡ b
+months-asked t m p outside b e h k = ap (λ (n : ℕ). outsideMonths n m) (sym e) ∙ sym h ∙ k
 
--- equal calls, counts and totals make equal files
-file-path : (f : File) {calls calls′ : List OpenCall} {count count′ : ℕ} {totals totals′ : List MonthTotal} → calls ≡ calls′ → count ≡ count′ → totals ≡ totals′ → withFields f calls count totals ≡ withFields f calls′ count′ totals′
-file-path f p q r = rw (p, q, r)
+-- the figures are of the right number and within their range, and the total is their sum
+pub figures-summed : (figures : List ℤ) (r : Sum) (e : ℤ) → r ≡ summed figures → r ≡ Sums.Total e
+    → (e ≡ sumOf figures) × (wrongCount figures ≡ false) × (outOfRange figures ≡ false)
+unfolding summed
+figures-summed figures r e h k = pick (wrongCount figures) (outOfRange figures) (sym h ∙ k)
+  where
+    pick : (w o : Bool) → cond w (Sums.Refused 10) (cond o (Sums.Refused 11) (Sums.Total (sumOf figures))) ≡ Sums.Total e
+        → (e ≡ sumOf figures) × (w ≡ false) × (o ≡ false)
+    pick true o q = (cc, cc, cc)
+    pick false true q = (cc, cc, cc)
+    pick false false q = (cc, refl, refl)
 
--- the file with the month's total and a new call
-abbrev pub withCall : File → List MonthTotal → ℕ → ℕ → File
-withCall f totals amount last = withFields f (set (f .calls) (f .count) (callOf amount last)) (f .count + 1) totals
+module _ (f : File) (t m : ℕ) (figures : List ℤ) where
+  -- An answer and a file are those of the settlement.
+  abbrev pub Settles : Answer → File → Type 0
+  Settles answer file = (answer ≡ settleAnswer f t m figures) × (file ≡ settledFile f t m figures)
 
-module _ (f : File) (t m : ℕ) (s : Sound t f) (figures : List ℤ) (number : wrongCount figures ≡ false) (range : outOfRange figures ≡ false) (inside : outsideMonths (monthOf t) m ≡ false) where
-  -- only cause 13 is left
-  last-cause : settleAnswer f t m figures ≡ cond (settlementCalls f t m figures && leb 4 (length (openCalls f))) (refused 13) (settledAnswer f t m figures)
+  -- a refusal leaves the file as it was
+  settles-refused : (n : ℕ) → settleAnswer f t m figures ≡ refused n → Settles (refused n) f
+  unfolding settledFile
+  settles-refused n e = (sym e, sym (cond-false _ _ f (ap accepted e)))
+
+  -- cause 12
+  pub settles-outside : outsideMonths (monthOf t) m ≡ true → Settles (refused 12) f
   unfolding settleAnswer decide
-  last-cause = simp (inside, number, range)
+  settles-outside h = settles-refused 12 (simp h)
 
-  -- a settlement that doesn't call
-  uncalled-answer : settlementCalls f t m figures ≡ false → settleAnswer f t m figures ≡ cond (checkDue (monthOf t) m) (covered (sumOf figures)) (recorded (sumOf figures))
-  uncalled-answer e = last-cause ∙ cond-false _ (refused 13) _ (and-refused (settlementCalls f t m figures) (leb 4 (length (openCalls f))) e) ∙ settled-answer f t m figures ∙ cond-false _ _ _ e
-
-  uncalled-file : settlementCalls f t m figures ≡ false → accepted (settleAnswer f t m figures) ≡ true → totalled f (withTotal (f .totals) m (sumOf figures)) ≡ settledFile f t m figures
-  unfolding settledFile callsSettled
-  uncalled-file e a = sym (cond-true _ _ f a ∙ simp (e, ← s .places, open-count f t s))
-
-  -- no check was due
-  pub settles-recorded : (due : Bool) (e : ℤ) (totals : List MonthTotal) → due ≡ checkDue (monthOf t) m → due ≡ false → e ≡ sumOf figures → totals ≡ withTotal (f .totals) m e → Settles f t m figures (recorded e) (totalled f totals)
-  unfolding settlementCalls
-  settles-recorded due e totals d n h r =
-      let q : checkDue (monthOf t) m ≡ false = sym d ∙ n in
-      let u : settlementCalls f t m figures ≡ false = uncalled q in
-      let a : settleAnswer f t m figures ≡ recorded (sumOf figures) = uncalled-answer u ∙ cond-false _ _ _ q in
-      (ap recorded h ∙ sym a, ap (totalled f) (r ∙ ap (withTotal (f .totals) m) h) ∙ uncalled-file u (ap accepted a))
+  -- causes 10 and 11
+  pub settles-figures : (n : ℕ) (r : Sum) → outsideMonths (monthOf t) m ≡ false → r ≡ summed figures → r ≡ Sums.Refused n → Settles (refused n) f
+  unfolding settleAnswer decide summed
+  settles-figures n r inside e h = settles-refused n (simp inside (pick (wrongCount figures) (outOfRange figures) _ (sym e ∙ h)))
     where
-      uncalled : checkDue (monthOf t) m ≡ false → settlementCalls f t m figures ≡ false
-      uncalled q = and-refused (checkDue (monthOf t) m) _ q
+      pick : (w o : Bool) (x : Answer) → cond w (Sums.Refused 10) (cond o (Sums.Refused 11) (Sums.Total (sumOf figures))) ≡ Sums.Refused n
+          → cond w (refused 10) (cond o (refused 11) x) ≡ refused n
+      pick true o x q = cc
+      pick false true x q = cc
+      pick false false x q = cc
 
-  -- a check was due: what it found, by the cover and the amounts that the code gave it
-  module _ (due : Bool) (e : ℤ) (d : ℕ) (opens : List ℕ) (r : Check) (due-is : due ≡ checkDue (monthOf t) m) (due-yes : due ≡ true) (e-is : e ≡ sumOf figures) (d-is : d ≡ coverOn t (f .slots)) (opens-is : opens ≡ amountsOf (f .calls)) (r-is : r ≡ checked e d (f .firm) opens) where
-    yes-due : checkDue (monthOf t) m ≡ true
-    yes-due = sym due-is ∙ due-yes
+  -- A settlement that only cause 13 can refuse, with the total of its figures and the ring that holds it.
+  pub record Ready (e : ℤ) (totals : List MonthTotal) : Type 0 where
+    pub sound : Sound t f
+    pub month : outsideMonths (monthOf t) m ≡ false
+    pub number : wrongCount figures ≡ false
+    pub range : outOfRange figures ≡ false
+    pub sum : e ≡ sumOf figures
+    pub ring : totals ≡ withTotal (f .totals) m e
 
-    opens-open : opens ≡ openAmounts f ++ replicate (4 - length (openCalls f)) 0
-    opens-open = opens-is ∙ ap amountsOf (s .places) ∙ amounts-places (openCalls f)
+  module _ (e : ℤ) (totals : List MonthTotal) (k : Ready e totals) where
+    -- the call would be a fifth open one
+    abbrev fifth : Bool
+    fifth = settlementCalls f t m figures && leb 4 (length (openCalls f))
 
-    found : r ≡ checked (sumOf figures) (deposited f t) (f .firm) (openAmounts f)
-    unfolding deposited coverOf
-    found = r-is ∙ ap (λ (x : ℤ). checked x d (f .firm) opens) e-is ∙ ap (λ (x : ℕ). checked (sumOf figures) x (f .firm) opens) d-is ∙ ap (checked (sumOf figures) (coverOn t (f .slots)) (f .firm)) opens-open ∙ checked-zeros (sumOf figures) (coverOn t (f .slots)) (f .firm) (openAmounts f) (4 - length (openCalls f))
+    last-cause : settleAnswer f t m figures ≡ cond fifth (refused 13) (settledAnswer f t m figures)
+    unfolding settleAnswer decide
+    last-cause = simp (k .month, k .number, k .range)
 
-    -- covered
-    covered-uncalled : r ≡ Covered → settlementCalls f t m figures ≡ false
-    unfolding settlementCalls checked
-    covered-uncalled h =
-        ap (λ (b : Bool). b && callIsMade (sumOf figures) (deposited f t) (f .firm) (openAmounts f)) yes-due
-        ∙ split (callIsMade (sumOf figures) (deposited f t) (f .firm) (openAmounts f)) (λ p. clear (sym h ∙ found ∙ cond-true _ _ _ p)) (λ p. p)
-      where
-        clear : {a b : ℕ} {A : Type 0} → Covered ≡ Call a b → A
-        clear q = let z : _≡_ {A = ℕ} 0 1 = cc in absurd (omega arith)
+    -- one that isn't refused, by its answer, its open calls and the fields of its file
+    settles-as : (answer : Answer) (left calls : List OpenCall) (count : ℕ) → fifth ≡ false → settledAnswer f t m figures ≡ answer
+        → accepted answer ≡ true → callsSettled f t m figures ≡ left → calls ≡ inPlaces left → count ≡ length left
+        → Settles answer (withFields f calls count totals)
+    unfolding settledFile
+    settles-as answer left calls count n a y o p q =
+        let e : settleAnswer f t m figures ≡ answer = last-cause ∙ cond-false _ (refused 13) _ n ∙ a in
+        (sym e, rw (p, q, k .ring, k .sum, sym o) (sym (cond-true _ _ f (ap accepted e ∙ y))))
 
-    pub settles-covered : (totals : List MonthTotal) → r ≡ Covered → totals ≡ withTotal (f .totals) m e → Settles f t m figures (covered e) (totalled f totals)
-    settles-covered totals h g =
-        let u : settlementCalls f t m figures ≡ false = covered-uncalled h in
-        let a : settleAnswer f t m figures ≡ covered (sumOf figures) = uncalled-answer u ∙ cond-true _ _ _ yes-due in
-        (ap covered e-is ∙ sym a, ap (totalled f) (g ∙ ap (withTotal (f .totals) m) e-is) ∙ uncalled-file u (ap accepted a))
+    -- one that doesn't call
+    settles-uncalled : (answer : Answer) → settlementCalls f t m figures ≡ false → settledAnswer f t m figures ≡ answer
+        → accepted answer ≡ true → Settles answer (withFields f (f .calls) (f .count) totals)
+    unfolding callsSettled
+    settles-uncalled answer u a y =
+        settles-as answer (openCalls f) (f .calls) (f .count) (and-refused _ _ u) a y (cond-false _ _ _ u) (k .sound .places)
+        (sym (open-count f t (k .sound)))
 
-    -- called
-    module _ (amount asked : ℕ) (h : r ≡ Call amount asked) where
-      call-called : settlementCalls f t m figures ≡ true
+    -- no check was due
+    pub settles-recorded : checkDue (monthOf t) m ≡ false → Settles (recorded e) (withFields f (f .calls) (f .count) totals)
+    unfolding settlementCalls settledAnswer
+    settles-recorded q = settles-uncalled (recorded e) (and-refused _ _ q) (cond-false _ _ _ q ∙ ap recorded (sym (k .sum))) refl
+
+    -- a check was due: what it found, by the cover and the amounts that the code gave it
+    module _ (d : ℕ) (opens : List ℕ) (r : Check) (due : checkDue (monthOf t) m ≡ true) (d-is : d ≡ coverOn t (f .slots))
+        (opens-is : opens ≡ amountsOf (f .calls)) (r-is : r ≡ checked e d (f .firm) opens) where
+      found : r ≡ checked (sumOf figures) (deposited f t) (f .firm) (openAmounts f)
+      unfolding deposited coverOf
+      found =
+          let zeros = ap amountsOf (k .sound .places) ∙ amounts-places (openCalls f) in
+          r-is ∙ rw (k .sum, d-is, opens-is, zeros) (checked-zeros (sumOf figures) _ (f .firm) (openAmounts f) (4 - length (openCalls f)))
+
+      answered : (q : Check) → r ≡ q → settledAnswer f t m figures ≡ checkSays (sumOf figures) (t + 10) q
+      unfolding settledAnswer
+      answered q h = cond-true _ _ _ due ∙ ap (checkSays (sumOf figures) (t + 10)) (sym found ∙ h)
+
+      pub settles-covered : r ≡ Covered → Settles (covered e) (withFields f (f .calls) (f .count) totals)
       unfolding settlementCalls checked
-      call-called =
-          ap (λ (b : Bool). b && callIsMade (sumOf figures) (deposited f t) (f .firm) (openAmounts f)) yes-due
-          ∙ split (callIsMade (sumOf figures) (deposited f t) (f .firm) (openAmounts f)) (λ p. p) (λ p. clear (sym h ∙ found ∙ cond-false _ _ _ p))
-        where
-          clear : {a b : ℕ} {A : Type 0} → Call a b ≡ Covered → A
-          clear q = let z : _≡_ {A = ℕ} 0 1 = cc in absurd (omega arith)
+      settles-covered h =
+          let u : settlementCalls f t m figures ≡ false = rw due (covered-unmade _ _ _ (sym h ∙ found)) in
+          settles-uncalled (covered e) u (answered Covered h ∙ ap covered (sym (k .sum))) refl
 
-      call-amounts : Call amount asked ≡ Call (natAbs (sumOf figures)) (natAbs (sumOf figures) - deposited f t)
-      unfolding settlementCalls checked
-      call-amounts = sym h ∙ found ∙ cond-true _ _ _ (and-right (checkDue (monthOf t) m) _ call-called)
+      module _ (amount asked : ℕ) (h : r ≡ Call amount asked) where
+        calls-amount : (settlementCalls f t m figures ≡ true) × (natAbs (sumOf figures) ≡ amount)
+        unfolding settlementCalls checked
+        calls-amount = let c = call-made _ _ _ _ _ (sym h ∙ found) in (rw due (c .0), c .1)
 
-      amount-is : amount ≡ natAbs (sumOf figures)
-      amount-is = first call-amounts
-        where
-          first : {a b x y : ℕ} → Call a b ≡ Call x y → a ≡ x
-          first q = cc
+        -- a fifth open call
+        pub settles-fifth : 4 ≤ f .count → Settles (refused 13) f
+        settles-fifth n =
+            let full : leb 4 (length (openCalls f)) ≡ true = le-leb 4 (length (openCalls f)) (omega (arith, open-count f t (k .sound))) in
+            settles-refused 13 (last-cause ∙ cond-true _ (refused 13) _ (and-both _ _ (calls-amount .0) full))
 
-      asked-is : asked ≡ natAbs (sumOf figures) - deposited f t
-      asked-is = second call-amounts
-        where
-          second : {a b x y : ℕ} → Call a b ≡ Call x y → b ≡ y
-          second q = cc
-
-      -- a fifth open call
-      pub settles-fifth : 4 ≤ f .count → Settles f t m figures (refused 13) f
-      settles-fifth n =
-          settles-refused f t m 13 figures (last-cause ∙ cond-true _ (refused 13) _ (and-both (settlementCalls f t m figures) (leb 4 (length (openCalls f))) call-called (le-leb 4 (length (openCalls f)) (omega (arith, open-count f t s)))))
-
-      -- a new call
-      new-answer : f .count < 4 → settleAnswer f t m figures ≡ called (natAbs (sumOf figures)) (natAbs (sumOf figures) - deposited f t) (t + 10)
-      new-answer n =
-          last-cause
-          ∙ cond-false _ (refused 13) _ (ap (λ (b : Bool). settlementCalls f t m figures && b) (lt-leb 4 (length (openCalls f)) (omega (arith, open-count f t s))) ∙ and-false (settlementCalls f t m figures))
-          ∙ settled-answer f t m figures
-          ∙ cond-true _ _ _ call-called
-
-      new-file : f .count < 4 → settledFile f t m figures ≡ withTotals f (withTotal (f .totals) m (sumOf figures)) (openCalls f ++ callOf (natAbs (sumOf figures)) (t + 10) ∷ [])
-      unfolding settledFile callsSettled
-      new-file n = cond-true _ _ f (ap accepted (new-answer n)) ∙ ap (withTotals f (withTotal (f .totals) m (sumOf figures))) (cond-true _ _ (openCalls f) call-called)
-
-      new-fields : (totals : List MonthTotal) → f .count < 4 → totals ≡ withTotal (f .totals) m e → withCall f totals amount (t + 10) ≡ withTotals f (withTotal (f .totals) m (sumOf figures)) (openCalls f ++ callOf (natAbs (sumOf figures)) (t + 10) ∷ [])
-      new-fields totals n g =
-          let c : callOf amount (t + 10) ≡ callOf (natAbs (sumOf figures)) (t + 10) = ap (λ (x : ℕ). callOf x (t + 10)) amount-is in
-          let k : length (openCalls f) ≡ f .count = open-count f t s in
-          file-path f
-          (ap (set (f .calls) (f .count)) c ∙ ap (λ (l : List OpenCall). set l (f .count) (callOf (natAbs (sumOf figures)) (t + 10))) (s .places) ∙ ap (λ (i : ℕ). set (inPlaces (openCalls f)) i (callOf (natAbs (sumOf figures)) (t + 10))) (sym k) ∙ inPlaces-next (openCalls f) (callOf (natAbs (sumOf figures)) (t + 10)) (omega arith))
-          (ap (λ (i : ℕ). i + 1) (sym k) ∙ sym (length-append (openCalls f) (callOf (natAbs (sumOf figures)) (t + 10) ∷ [])))
-          (g ∙ ap (withTotal (f .totals) m) e-is)
-
-      pub settles-called : (totals : List MonthTotal) → f .count < 4 → totals ≡ withTotal (f .totals) m e → Settles f t m figures (called amount asked (t + 10)) (withCall f totals amount (t + 10))
-      settles-called totals n g = (
-        ap (λ (x : ℕ). called x asked (t + 10)) amount-is ∙ ap (λ (x : ℕ). called (natAbs (sumOf figures)) x (t + 10)) asked-is ∙ sym (new-answer n),
-        new-fields totals n g ∙ sym (new-file n),
-      )
+        -- a new call
+        pub settles-called : f .count < 4
+            → Settles (called amount asked (t + 10)) (withFields f (set (f .calls) (f .count) (callOf amount (t + 10))) (f .count + 1) totals)
+        unfolding callsSettled
+        settles-called n =
+            let c = callOf amount (t + 10) in
+            let o : f .count ≡ length (openCalls f) = sym (open-count f t (k .sound)) in
+            let free : leb 4 (length (openCalls f)) ≡ false = lt-leb 4 (length (openCalls f)) (omega arith) in
+            let p = next-place (f .calls) (openCalls f) (f .count) c (k .sound .places) o n in
+            settles-as (called amount asked (t + 10)) (openCalls f ++ c ∷ []) _ _ (rw free (and-false (settlementCalls f t m figures)))
+            (answered (Call amount asked) h) refl
+            (cond-true _ _ _ (calls-amount .0) ∙ ap (λ (a : ℕ). openCalls f ++ callOf a (t + 10) ∷ []) (calls-amount .1)) (p .0) (p .1)

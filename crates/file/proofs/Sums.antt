@@ -21,7 +21,8 @@ cover-from : (d i : ℕ) (l : List Slot) (z : Slot) → i < length l
 unfolding coverOn
 cover-from d i l z h = rw (add-one i, drop-cons l i z h)
 
-module _ (d i sum x : ℕ) (l : List Slot) (z : Slot) (short : i < 8) (long : length l ≡ 8) (e : sum + coverOn d (drop i l) ≡ coverOn d l) (g : x ≡ countsOn d ((getD l i z) .position)) where
+module _ (d i sum x : ℕ) (l : List Slot) (z : Slot) (short : i < 8) (long : length l ≡ 8) (e : sum + coverOn d (drop i l) ≡ coverOn d l)
+    (g : x ≡ countsOn d ((getD l i z) .position)) where
   -- One more position.
   pub cover-step : sum + x + coverOn d (drop (i + 1) l) ≡ coverOn d l
   cover-step = omega (arith, cover-from d i l z (omega arith))

@@ -1,11 +1,10 @@
 -- The recorded totals of the annual run's window, by the tests that the code makes. Assumes nothing.
-use Prim.Native.Nat.{ℕ, _+_, _-_, _%_, _≤_, _<_}
+use Prim.Native.Nat.{ℕ, zero, suc, _+_, _-_, _%_, _≤_, _<_}
 use mathlib.Core.Path.{_≡_, refl, sym, _∙_, ap}
 use mathlib.Core.Bool.{Bool, true, false, not, _&&_, and-false}
 use mathlib.Core.List.{List, [], _∷_, _++_, append-nil}
 use native.Mathlib.Omega.{arith}
-use native.Mathlib.Numerals.{add-one}
-use borrow.Author.Tests.{eq-eqb, ne-eqb, not-true, not-false}
+use borrow.Author.Tests.{not-true, not-false}
 use lib.Dec.{eqb}
 use lib.ListN.{length, getD, set, take, replicate, length-append, length-take}
 use lib.IntN.{ℤ, pos}
@@ -29,56 +28,85 @@ recorded-path p q = rw (p, q)
 
 module _ (found : Recorded) (place : MonthTotal) (month : ℕ) where
   -- a month that isn't recorded there adds nothing
-  skipped : (passed : List ℤ) → found ≡ recordedIn passed → totalHere month place ≡ none → found ≡ recordedIn (passed ++ added (totalHere month place) [])
-  skipped passed e h = e ∙ ap recordedIn (sym (ap (λ (x : Total). passed ++ added x []) h ∙ append-nil passed))
+  skipped : totalHere month place ≡ none → (passed : List ℤ) → found ≡ recordedIn passed
+      → found ≡ recordedIn (passed ++ added (totalHere month place) [])
+  skipped h passed e = e ∙ ap recordedIn (sym (ap (λ (x : Total). passed ++ added x []) h ∙ append-nil passed))
 
-  pub month-empty : not (place .recorded) ≡ true → (passed : List ℤ) → found ≡ recordedIn passed → found ≡ recordedIn (passed ++ added (totalHere month place) [])
+  pub month-empty : not (place .recorded) ≡ true → (passed : List ℤ) → found ≡ recordedIn passed
+      → found ≡ recordedIn (passed ++ added (totalHere month place) [])
   unfolding totalHere
-  month-empty h passed e = skipped passed e (cond-false _ _ none (and-refused (place .recorded) (eqb (place .month .0) month) (not-true (place .recorded) h)))
+  month-empty h = skipped (cond-false _ _ none (and-refused (place .recorded) _ (not-true (place .recorded) h)))
 
-  pub month-other : (place .month .0 ≡ month → ⊥) → (passed : List ℤ) → found ≡ recordedIn passed → found ≡ recordedIn (passed ++ added (totalHere month place) [])
+  pub month-other : (same : Bool) → same ≡ eqb (place .month .0) month → not same ≡ true → (passed : List ℤ) → found ≡ recordedIn passed
+      → found ≡ recordedIn (passed ++ added (totalHere month place) [])
   unfolding totalHere
-  month-other h passed e = skipped passed e (cond-false _ _ none (ap (λ (b : Bool). place .recorded && b) (ne-eqb (place .month .0) month h) ∙ and-false (place .recorded)))
+  month-other same s h =
+      skipped (cond-false _ _ none (ap (λ (b : Bool). place .recorded && b) (sym s ∙ not-true same h) ∙ and-false (place .recorded)))
 
   -- a recorded total takes the next place
-  pub month-recorded : (e : ℤ) → not (place .recorded) ≡ false → place .month .0 ≡ month → e ≡ place .total → found .count < 12 → (passed : List ℤ) → found ≡ recordedIn passed
-      → record { totals = set (found .totals) (found .count) e; count = found .count + 1 } ≡ recordedIn (passed ++ added (totalHere month place) [])
+  pub month-recorded : (e : ℤ) (same : Bool) → not (place .recorded) ≡ false → same ≡ eqb (place .month .0) month → not same ≡ false
+      → e ≡ place .total → found .count < 12 → (passed : List ℤ) → found ≡ recordedIn passed
+      → record { totals = set (found .totals) (found .count) e; count = found .count + 1 }
+      ≡ recordedIn (passed ++ added (totalHere month place) [])
   unfolding totalHere recordedIn
-  month-recorded e h m v k passed p =
-      let here : totalHere month place ≡ total e =
-      cond-true _ _ none (and-both (place .recorded) (eqb (place .month .0) month) (not-false (place .recorded) h) (eq-eqb (place .month .0) month m)) ∙ ap total (sym v) in
+  month-recorded e same h s m v k passed p =
+      let both = and-both (place .recorded) _ (not-false (place .recorded) h) (sym s ∙ not-false same m) in
+      let here : totalHere month place ≡ total e = cond-true _ _ none both ∙ ap total (sym v) in
       let n : found .count ≡ length passed = ap (λ (r : Recorded). r .count) p in
       let l : found .totals ≡ passed ++ replicate (12 - length passed) (pos 0) = ap (λ (r : Recorded). r .totals) p in
       recorded-path
-      (ap (λ (t : List ℤ). set t (found .count) e) l ∙ ap (λ (i : ℕ). set (passed ++ replicate (12 - length passed) (pos 0)) i e) n ∙ fill-next (pos 0) 12 passed e (omega arith))
+      (ap (λ (t : List ℤ). set t (found .count) e) l
+      ∙ ap (λ (i : ℕ). set (passed ++ replicate (12 - length passed) (pos 0)) i e) n
+      ∙ fill-next (pos 0) 12 passed e (omega arith))
       (ap (λ (i : ℕ). i + 1) n ∙ sym (length-append passed (e ∷ [])))
       ∙ ap recordedIn (sym (ap (λ (x : Total). passed ++ added x []) here))
 
--- ---- the loop over the months
+-- ---- the loop over the months: of n before the end, so many are left
 
--- with none passed
-pub window-none : (totals : List MonthTotal) (first : ℕ) → record { totals = replicate 12 (pos 0); count = 0 } ≡ recordedIn (totalsFrom (totalAt totals) first 0)
-unfolding recordedIn totalsFrom
-window-none totals first = refl
+module _ (totals : List MonthTotal) (end n : ℕ) where
+  abbrev pub Passed : Recorded → ℕ → Type 0
+  Passed found left = found ≡ recordedIn (totalsFrom (totalAt totals) (end - n) (n - left))
+
+  -- with none passed
+  pub window-none : Passed record { totals = replicate 12 (pos 0); count = 0 } n
+  unfolding recordedIn totalsFrom
+  window-none = let e : n - n ≡ 0 = omega arith in rw e refl
+
+  -- the next month
+  pub window-next : (found r : Recorded) (left month at : ℕ) → 0 < left → left ≤ n → n ≤ end → month ≡ end - left → at ≡ month % 16
+      → Passed found left
+      → ((passed : List ℤ) → found ≡ recordedIn passed → r ≡ recordedIn (passed ++ added (totalHere month (getD totals at noTotal)) []))
+      → Passed r (left - 1)
+  unfolding totalAt
+  window-next found r left month at z h k m a e f =
+      let look = totalAt totals in
+      let next : n - (left - 1) ≡ suc (n - left) = omega arith in
+      let here : end - n + (n - left) ≡ month = omega arith in
+      f (totalsFrom look (end - n) (n - left)) e
+      ∙ ap recordedIn (sym (ap (totalsFrom look (end - n)) next ∙ totals-next look (end - n) (n - left)
+      ∙ ap (λ (k : ℕ). totalsFrom look (end - n) (n - left) ++ added (totalHere k (getD totals (k % 16) noTotal)) []) here
+      ∙ ap (λ (k : ℕ). totalsFrom look (end - n) (n - left) ++ added (totalHere month (getD totals k noTotal)) []) (sym a)))
 
 -- there is a place for the next
-pub window-short : (found : Recorded) (totals : List MonthTotal) (first i months : ℕ) → found ≡ recordedIn (totalsFrom (totalAt totals) first i) → i < months → months ≤ 12 → found .count < 12
+pub window-short : (found : Recorded) (totals : List MonthTotal) (end n left : ℕ) → Passed totals end n found left
+    → 0 < left → left ≤ n → n ≤ 12 → found .count < 12
 unfolding recordedIn
-window-short found totals first i months e h k =
-    omega (arith, ap (λ (r : Recorded). r .count) e, totals-length (totalAt totals) first i)
+window-short found totals end n left e z h k =
+    omega (arith, ap (λ (r : Recorded). r .count) e, totals-length (totalAt totals) (end - n) (n - left))
 
--- the next month
-pub window-next : (found r : Recorded) (totals : List MonthTotal) (first i : ℕ) → found ≡ recordedIn (totalsFrom (totalAt totals) first i)
-    → ((passed : List ℤ) → found ≡ recordedIn passed → r ≡ recordedIn (passed ++ added (totalHere (first + i) (getD totals ((first + i) % 16) noTotal)) []))
-    → r ≡ recordedIn (totalsFrom (totalAt totals) first (i + 1))
-unfolding totalAt
-window-next found r totals first i e f =
-    f (totalsFrom (totalAt totals) first i) e
-    ∙ ap recordedIn (sym (ap (totalsFrom (totalAt totals) first) (add-one i) ∙ totals-next (totalAt totals) first i))
+-- the months from one on are those from another, where there are any and the two are the same
+from-same : (look : ℕ → Total) (a b n : ℕ) → (0 < n → a ≡ b) → totalsFrom look a n ≡ totalsFrom look b n
+unfolding totalsFrom
+from-same look a b zero h = refl
+from-same look a b (suc n) h = ap (λ (k : ℕ). totalsFrom look k (suc n)) (h (omega arith))
 
 -- with all passed
-pub window-all : (found : Recorded) (totals : List MonthTotal) (first i months : ℕ) → found ≡ recordedIn (totalsFrom (totalAt totals) first i) → i ≤ months → months ≤ i → found ≡ recordedIn (totalsFrom (totalAt totals) first months)
-window-all found totals first i months e h k = let q : i ≡ months = omega arith in e ∙ ap (λ (n : ℕ). recordedIn (totalsFrom (totalAt totals) first n)) q
+pub window-all : (found : Recorded) (totals : List MonthTotal) (first end n left : ℕ) → n ≡ end - first → Passed totals end n found left
+    → left ≤ 0 → found ≡ recordedIn (totalsFrom (totalAt totals) first (end - first))
+window-all found totals first end n left k e z =
+    let all : n - left ≡ end - first = omega arith in
+    let same = from-same (totalAt totals) (end - n) first (end - first) (λ (h : 0 < end - first). omega arith) in
+    e ∙ ap recordedIn (ap (totalsFrom (totalAt totals) (end - n)) all ∙ same)
 
 -- what was found is in front
 pub window-front : (found : Recorded) (l : List ℤ) → found ≡ recordedIn l → take (found .count) (found .totals) ≡ l
@@ -94,13 +122,14 @@ pub window-inside : (found : Recorded) (l : List ℤ) → found ≡ recordedIn l
 window-inside found l e = omega (arith, window-count found l e, length-take (found .count) (found .totals))
 
 -- the window's months
-pub window-months : (p first end : ℕ) → p ≤ 960 → first ≡ p - 14 → end ≡ p - 2 → (first ≤ 960) × (end - first ≤ 12)
-window-months p first end h a b = omega arith
+pub window-months : (p first end : ℕ) → first ≡ p - 14 → end ≡ p - 2 → end - first ≤ 12
+window-months p first end a b = omega arith
 
 -- ---- the run's answers and their files
 
 -- refused outside 1 to 10 September
-pub run-refused : (f : File) (t : ℕ) (inside : Bool) → inside ≡ inAnnualDays t → not inside ≡ true → (refused 14 ≡ annualAnswer f t) × (f ≡ annualFile f t)
+pub run-refused : (f : File) (t : ℕ) (inside : Bool) → inside ≡ inAnnualDays t → not inside ≡ true
+    → (refused 14 ≡ annualAnswer f t) × (f ≡ annualFile f t)
 unfolding annualAnswer annualFile decide
 run-refused f t inside e h =
     let q : not (inAnnualDays t) ≡ true = ap not (sym e) ∙ h in
@@ -131,7 +160,7 @@ module _ (f : File) (t : ℕ) (inside : Bool) (p first end : ℕ) (found : Recor
   unfolding annualFile
   run-done = (
     ap (λ (a : ℕ). annual a (found .count)) run-amount
-        ∙ ap (annual (annualAmountOf f t)) (window-count found (totalsFrom (totalAt (f .totals)) first (end - first)) found-is ∙ ap length found-totals)
+        ∙ ap (annual (annualAmountOf f t)) (window-count found _ found-is ∙ ap length found-totals)
         ∙ sym run-answer,
     ap (λ (a : ℕ). withNext f (setTo a)) run-amount ∙ sym (cond-true _ _ f (ap accepted run-answer)),
   )

@@ -1,7 +1,7 @@
 -- Paper 01, 'Admit': "Firm amount 0. A minimum above 0 becomes an open call with last free day t + 10".
 -- Assumes nothing.
 use Prim.Native.Nat.{ℕ, _+_}
-use mathlib.Core.Bool.{Bool, true, false, cond}
+use mathlib.Core.Bool.{true, false, cond}
 use mathlib.Core.List.{List, [], _∷_}
 use lib.Dec.{ltb}
 use lib.ListN.{length, replicate}

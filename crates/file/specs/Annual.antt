@@ -1,7 +1,7 @@
 -- Paper 01, 'Annual run' (participant), 1 to 10 September, P being that month. Its only cause is 14.
 -- Assumes nothing.
 use Prim.Native.Nat.{ℕ}
-use mathlib.Core.Bool.{Bool, cond, not}
+use mathlib.Core.Bool.{cond, not}
 use mathlib.Core.List.{List, [], _∷_}
 use lib.ListN.{length}
 use lib.IntN.{ℤ}

@@ -2,8 +2,7 @@
 -- code's enums stands for.
 -- Assumes nothing.
 use Prim.Native.Nat.{ℕ}
-use mathlib.Core.Bool.{Bool, true, false, cond}
-use mathlib.Core.List.{List, [], _∷_}
+use mathlib.Core.Bool.{Bool, true, false}
 use lib.IntN.{ℤ}
 -- a cause of refusal, and the answer that causes in an order leave
 pub use Rattle.laws.specs.Causes.{Cause}

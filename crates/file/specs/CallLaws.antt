@@ -1,6 +1,6 @@
 -- Laws of open calls: those that pass a test, the largest of amounts, and the file's four places.
 -- Assumes nothing.
-use Prim.Native.Nat.{ℕ, zero, suc, _+_, _-_, _≤_, _<_, max}
+use Prim.Native.Nat.{ℕ, zero, suc, _-_, _≤_, _<_, max}
 use mathlib.Core.Path.{_≡_, refl, _∙_, ap}
 use mathlib.Core.Bool.{Bool, true, false, cond}
 use mathlib.Core.List.{List, [], _∷_, _++_, append-nil}
@@ -19,7 +19,8 @@ module _ (test : OpenCall → Bool) where
   keep-append [] m = refl
   keep-append (c ∷ l) m = pick (test c) (keep-append l m)
     where
-      pick : (t : Bool) → keep test (l ++ m) ≡ keep test l ++ keep test m → cond t (c ∷ keep test (l ++ m)) (keep test (l ++ m)) ≡ cond t (c ∷ keep test l) (keep test l) ++ keep test m
+      pick : (t : Bool) → keep test (l ++ m) ≡ keep test l ++ keep test m
+          → cond t (c ∷ keep test (l ++ m)) (keep test (l ++ m)) ≡ cond t (c ∷ keep test l) (keep test l) ++ keep test m
       pick true e = ap (λ (k : List OpenCall). c ∷ k) e
       pick false e = e
 
@@ -80,7 +81,8 @@ pub amounts-append : (l m : List OpenCall) → amountsOf (l ++ m) ≡ amountsOf 
 amounts-append [] m = refl
 amounts-append (c ∷ l) m = ap (λ (k : List ℕ). c .amount ∷ k) (amounts-append l m)
 
-pub amounts-all : (k : ℕ) (P : OpenCall → Type 0) → ((c : OpenCall) → P c → c .amount ≤ k) → (l : List OpenCall) → All P l → All (λ (b : ℕ). b ≤ k) (amountsOf l)
+pub amounts-all : (k : ℕ) (P : OpenCall → Type 0) → ((c : OpenCall) → P c → c .amount ≤ k) → (l : List OpenCall) → All P l
+    → All (λ (b : ℕ). b ≤ k) (amountsOf l)
 amounts-all k P f [] a = tt
 amounts-all k P f (c ∷ l) a = (f c (a .0), amounts-all k P f l (a .1))
 

@@ -1,10 +1,10 @@
 -- Open calls, oldest first (paper 01, 'One participant's file'), and the largest of amounts.
 -- Assumes nothing.
-use Prim.Native.Nat.{ℕ, suc, _+_, _-_, max}
-use mathlib.Core.Bool.{Bool, true, false, cond, not}
+use Prim.Native.Nat.{ℕ, suc, _-_, max}
+use mathlib.Core.Bool.{Bool, cond, not}
 use mathlib.Core.List.{List, [], _∷_, _++_, map}
 use lib.Dec.{eqb}
-use lib.ListN.{length, take, replicate}
+use lib.ListN.{length, replicate}
 use Rattle.file.specs.declared.OpenCall.{OpenCall}
 
 -- The largest of an amount and a list of them.

@@ -10,7 +10,7 @@ use Rattle.manual.specs.declared.Check.the-variants.{Call, Covered}
 use Rattle.manual.specs.Check.{callIsMade, checked}
 use Rattle.manual.specs.Figures.{sumOf}
 use Rattle.file.specs.declared.File.{File}
-use Rattle.file.specs.Answer.{Answer, called, covered, recorded}
+use Rattle.file.specs.Answer.{called, covered, recorded}
 use Rattle.file.specs.Fields.{openAmounts}
 use Rattle.file.specs.Settle.{checkDue, deposited, settlementCalls, checkSays, settledAnswer}
 

@@ -8,7 +8,8 @@ use Rattle.laws.specs.Cases.{split, clash, cond-true, cond-false}
 use Rattle.file.specs.Answer.{Answer, refused, Cause, decide, accepted}
 
 -- None of an accepted call's causes holds.
-pub none-holds : (causes : List Cause) (answer : Answer) → accepted (decide refused causes answer) ≡ true → All (λ (c : Cause). c .holds ≡ false) causes
+pub none-holds : (causes : List Cause) (answer : Answer) → accepted (decide refused causes answer) ≡ true
+    → All (λ (c : Cause). c .holds ≡ false) causes
 unfolding decide
 none-holds [] answer e = tt
 none-holds (c ∷ causes) answer e =

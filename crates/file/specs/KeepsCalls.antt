@@ -45,7 +45,8 @@ open-length f = omega (arith, length-take (f .count) (f .calls))
 pub open-count : (f : File) (t : ℕ) → Sound t f → length (openCalls f) ≡ f .count
 unfolding openCalls
 open-count f t s =
-    let four : length (f .calls) ≡ 4 = ap length (s .places) ∙ inPlaces-length (take (f .count) (f .calls)) (omega (arith, length-take (f .count) (f .calls), s .count)) in
+    let few : length (take (f .count) (f .calls)) ≤ 4 = omega (arith, length-take (f .count) (f .calls), s .count) in
+    let four : length (f .calls) ≡ 4 = ap length (s .places) ∙ inPlaces-length (take (f .count) (f .calls)) few in
     omega (arith, length-take (f .count) (f .calls), s .count)
 
 pub open-sound : (f : File) → All SoundCall (f .calls) → All SoundCall (openCalls f)
@@ -63,10 +64,12 @@ emptied-sound : (d : ℕ) (p : Position) → SoundPosition p → SoundPosition (
 unfolding emptiedOn
 emptied-sound d p s = split (lapsedBy d p) (λ e. rw e tt) (λ e. rw e s)
 
-pub slots-sound : (f : File) (d : ℕ) → All (λ (s : Slot). SoundPosition (s .position)) (f .slots) → All (λ (s : Slot). SoundPosition (s .position)) (slotsOpened f d)
+pub slots-sound : (f : File) (d : ℕ) → All (λ (s : Slot). SoundPosition (s .position)) (f .slots)
+    → All (λ (s : Slot). SoundPosition (s .position)) (slotsOpened f d)
 unfolding slotsOpened
 slots-sound f d a =
-    all-map (λ (s : Slot). SoundPosition (s .position)) (λ (s : Slot). SoundPosition (s .position)) (λ (s : Slot). slotOf (emptiedOn d (s .position))) (f .slots)
+    all-map (λ (s : Slot). SoundPosition (s .position)) (λ (s : Slot). SoundPosition (s .position))
+    (λ (s : Slot). slotOf (emptiedOn d (s .position))) (f .slots)
     (λ (s : Slot) (h : SoundPosition (s .position)). emptied-sound d (s .position) h) a
 
 module _ (f : File) (t d : ℕ) (s : Sound t f) where
@@ -84,7 +87,8 @@ module _ (f : File) (t d : ℕ) (s : Sound t f) where
   unfolding firmRaised
   raised-bound =
       largest-bound totalBound (f .firm) (amountsOf (keep (endsAt d) (openCalls f))) (s .firm)
-      (amounts-all totalBound SoundCall (λ (c : OpenCall) (h : SoundCall c). h .amount) (keep (endsAt d) (openCalls f)) (keep-all (endsAt d) SoundCall (openCalls f) (open-sound f (s .calls))))
+      (amounts-all totalBound SoundCall (λ (c : OpenCall) (h : SoundCall c). h .amount) (keep (endsAt d) (openCalls f))
+      (keep-all (endsAt d) SoundCall (openCalls f) (open-sound f (s .calls))))
 
   pub firm-bound : firmOpened f d ≤ totalBound
   unfolding firmOpened
@@ -138,20 +142,24 @@ module _ (f : File) (t m : ℕ) (figures : List ℤ) (s : Sound t f) (a : accept
 
   settled-totals : All (λ (r : MonthTotal). natAbs (r .total) ≤ totalBound) (withTotal (f .totals) m (sumOf figures))
   unfolding withTotal
-  settled-totals = all-set (λ (r : MonthTotal). natAbs (r .total) ≤ totalBound) (f .totals) (m % 16) (totalOf m (sumOf figures)) total-bound (s .totals)
+  settled-totals =
+      all-set (λ (r : MonthTotal). natAbs (r .total) ≤ totalBound) (f .totals) (m % 16) (totalOf m (sumOf figures)) total-bound (s .totals)
 
   settled-count : length (callsSettled f t m figures) ≤ 4
   unfolding callsSettled
   settled-count =
       split (settlementCalls f t m figures)
-      (λ e. rw e (omega (arith, length-append (openCalls f) (callOf (natAbs (sumOf figures)) (t + 10) ∷ []), leb-false 4 (length (openCalls f)) (sym (ap (λ (b : Bool). b && leb 4 (length (openCalls f))) e) ∙ free .2))))
+      (λ e.
+      let room = leb-false 4 (length (openCalls f)) (sym (ap (λ (b : Bool). b && leb 4 (length (openCalls f))) e) ∙ free .2) in
+      rw e (omega (arith, length-append (openCalls f) (callOf (natAbs (sumOf figures)) (t + 10) ∷ []), room)))
       (λ e. rw e (omega (arith, open-length f, s .count)))
 
   settled-calls : All SoundCall (callsSettled f t m figures)
   unfolding callsSettled
   settled-calls =
       split (settlementCalls f t m figures)
-      (λ e. rw e (all-append SoundCall (openCalls f) (callOf (natAbs (sumOf figures)) (t + 10) ∷ []) (open-sound f (s .calls)) (record { amount = total-bound; last = omega (arith, s .day) }, tt)))
+      (λ e. rw e (all-append SoundCall (openCalls f) (callOf (natAbs (sumOf figures)) (t + 10) ∷ []) (open-sound f (s .calls))
+      (record { amount = total-bound; last = omega (arith, s .day) }, tt)))
       (λ e. rw e (open-sound f (s .calls)))
 
 -- the file after a settlement

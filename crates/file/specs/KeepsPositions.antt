@@ -1,7 +1,7 @@
 -- A file keeps its bounds as it is admitted, and by every lodging and release; and what they say of its cover.
 -- Assumes nothing.
 use Prim.Native.Nat.{ℕ, _*_, _-_, _≤_}
-use mathlib.Core.Path.{_≡_, refl, sym, ap, _∙_}
+use mathlib.Core.Path.{_≡_, refl, sym, ap}
 use mathlib.Core.Bool.{Bool, true, false, cond, _&&_}
 use mathlib.Core.List.{List, [], _∷_}
 use native.Mathlib.Omega.{arith}
@@ -19,9 +19,10 @@ use Rattle.file.specs.declared.OpenCall.{OpenCall}
 use Rattle.file.specs.declared.Position.{Position}
 use Rattle.file.specs.declared.Position.the-variants.{Empty, Cash, Letter}
 use Rattle.file.specs.declared.Slot.{Slot}
-use Rattle.file.specs.Answer.{done, decide, accepted}
+use Rattle.file.specs.Answer.{done, accepted}
 use Rattle.file.specs.DecideLaws.{none-holds}
-use Rattle.file.specs.Position.{amountOf, againstDays, countsOn, coverOn, inForce, lessReleased, notReleasable, outsideAmounts, positionAt, slotOf}
+use Rattle.file.specs.Position.{amountOf, againstDays, countsOn, coverOn, inForce}
+use Rattle.file.specs.Position.{lessReleased, notReleasable, outsideAmounts, positionAt, slotOf}
 use Rattle.file.specs.Calls.{callOf, inPlaces}
 use Rattle.file.specs.CallLaws.{inPlaces-take, inPlaces-all}
 use Rattle.file.specs.Totals.{noTotal}

@@ -1,8 +1,8 @@
 -- Paper 01, 'Lodge'. Causes in their order: 5, 6, 8, 9.
 -- Assumes nothing.
 use Prim.Native.Nat.{ℕ}
-use mathlib.Core.Bool.{Bool, cond}
-use mathlib.Core.List.{List, [], _∷_}
+use mathlib.Core.Bool.{cond}
+use mathlib.Core.List.{[], _∷_}
 use lib.Dec.{ltb}
 use lib.ListN.{set}
 use Rattle.file.specs.declared.File.{File}

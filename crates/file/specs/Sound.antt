@@ -2,7 +2,6 @@
 -- Assumes nothing.
 use Prim.Native.Nat.{ℕ, _*_, _≤_}
 use mathlib.Core.Path.{_≡_}
-use mathlib.Core.List.{List, [], _∷_}
 use lib.IntN.{natAbs}
 use Rattle.laws.specs.Lists.{All}
 use Rattle.file.specs.declared.File.{File}

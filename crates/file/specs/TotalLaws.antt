@@ -39,12 +39,14 @@ module _ (look : ℕ → Total) where
       at-most (total e) l h = omega arith
 
 -- within the bounds of the ring's totals
-pub totals-within : (b : ℕ) (totals : List MonthTotal) → All (λ (r : MonthTotal). natAbs (r .total) ≤ b) totals → (m n : ℕ) → Within b (totalsFrom (totalAt totals) m n)
+pub totals-within : (b : ℕ) (totals : List MonthTotal) → All (λ (r : MonthTotal). natAbs (r .total) ≤ b) totals → (m n : ℕ)
+    → Within b (totalsFrom (totalAt totals) m n)
 unfolding totalsFrom totalAt totalHere Within
 totals-within b totals a m zero = tt
 totals-within b totals a m (suc n) =
     pick ((getD totals (m % 16) noTotal) .recorded && eqb ((getD totals (m % 16) noTotal) .month .0) m) (totals-within b totals a (suc m) n)
   where
-    pick : (t : Bool) → Within b (totalsFrom (totalAt totals) (suc m) n) → Within b (added (cond t (total ((getD totals (m % 16) noTotal) .total)) none) (totalsFrom (totalAt totals) (suc m) n))
+    pick : (t : Bool) → Within b (totalsFrom (totalAt totals) (suc m) n)
+        → Within b (added (cond t (total ((getD totals (m % 16) noTotal) .total)) none) (totalsFrom (totalAt totals) (suc m) n))
     pick true w = (all-default (λ (r : MonthTotal). natAbs (r .total) ≤ b) totals (m % 16) noTotal (omega arith) a, w)
     pick false w = w

@@ -4,9 +4,14 @@ use crate::File;
 use crate::FileAnnual;
 use crate::MonthTotal;
 use crate::NextAmount;
+use crate::ring_place;
 use calendar::Day;
+use calendar::Month;
 use calendar::in_annual_days;
 use calendar::month_of;
+use calendar::months_before;
+use calendar::months_between;
+use calendar::same_month;
 use manual::annual::annual_amount;
 ghost use mathlib.Core.Path.{_≡_};
 ghost use mathlib.Core.List.{List, [], _++_};
@@ -24,15 +29,16 @@ struct Recorded {
 }
 
 // With one more month: its total, where the month's place in the ring holds it.
-fn with_month(mut found: Recorded, place: MonthTotal, month: u32) -> Recorded
+fn with_month(mut found: Recorded, place: MonthTotal, month: Month) -> Recorded
     requires { ⌜ found .count < 12 ⌝ }
-    ensures { λ r. ⌜ ((passed : List ℤ) → found ≡ recordedIn passed → r ≡ recordedIn (passed ++ added (totalHere month place) [])) ⌝ }
+    ensures { λ r. ⌜ ((passed : List ℤ) → found ≡ recordedIn passed
+        → r ≡ recordedIn (passed ++ added (totalHere (month .0) place) [])) ⌝ }
 {
-    let at = place.month;
     if !place.recorded {
         return found;
     }
-    if at.0 != month {
+    let at = place.month;
+    if !same_month(at, month) {
         return found;
     }
     let n = found.count;
@@ -42,31 +48,23 @@ fn with_month(mut found: Recorded, place: MonthTotal, month: u32) -> Recorded
     found
 }
 
-// The recorded totals of so many months from the first on.
-fn window(totals: [MonthTotal; 16], first: u32, months: u32) -> Recorded
-    requires { ⌜ (first ≤ 960) × (months ≤ 12) ⌝ }
-    ensures { λ r. ⌜ r ≡ recordedIn (totalsFrom (totalAt totals) first months) ⌝ }
+// The recorded totals of the months from the first on, before the end. A month is told by how many are left before the end.
+fn window(totals: [MonthTotal; 16], first: Month, end: Month) -> Recorded
+    requires { ⌜ end .0 - first .0 ≤ 12 ⌝ }
+    ensures { λ r. ⌜ r ≡ recordedIn (totalsFrom (totalAt totals) (first .0) (end .0 - first .0)) ⌝ }
 {
     let mut found = Recorded {
         totals: [0; 12],
         count: 0,
     };
-    let mut i = 0;
-    while i < months {
-        let month = first + i;
-        let at = (month % 16) as usize;
-        let place = totals[at];
+    let mut left = months_between(first, end);
+    while 0 < left {
+        let month = months_before(end, left);
+        let place = totals[ring_place(month)];
         found = with_month(found, place, month);
-        i += 1;
+        left -= 1;
     }
     found
-}
-
-// A month number less so many months, never below 0.
-fn earlier(month: u32, months: u32) -> u32
-    ensures { λ r. ⌜ r ≡ month - months ⌝ }
-{
-    if months < month { month - months } else { 0 }
 }
 
 impl File {
@@ -81,10 +79,10 @@ impl File {
             };
         }
         let current = month_of(today);
-        let first = earlier(current.0, 14);
-        let end = earlier(current.0, 2);
+        let first = months_before(current, 14);
+        let end = months_before(current, 2);
         let totals = self.totals;
-        let found = window(totals, first, end - first);
+        let found = window(totals, first, end);
         let recorded = found.totals;
         let n = found.count;
         let amount = annual_amount(self.role, &recorded[..n]);

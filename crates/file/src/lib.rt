@@ -1,6 +1,8 @@
 // One participant's file: its positions, open calls, next amount, month totals and charges (paper 01, 'One participant's file').
 use calendar::Day;
 use calendar::Month;
+ghost use mathlib.Core.Path.{_≡_};
+ghost use Prim.Native.Nat.{_%_};
 
 mod admit;
 mod annual;
@@ -41,8 +43,15 @@ pub struct MonthTotal {
     pub total: i64,
 }
 
-// A participant's file. The open calls are the first `count` of `calls`, oldest first, with zeros behind them; month M's total, where
-// recorded, is at M % 16 of `totals`.
+// The place of a month in a ring of sixteen totals. No other function here takes a month's number to find its place.
+pub fn ring_place(month: Month) -> usize
+    ensures { λ r. ⌜ r ≡ month .0 % 16 ⌝ }
+{
+    (month.0 % 16) as usize
+}
+
+// A participant's file. The open calls are the first `count` of `calls`, oldest first, with zeros behind them; a month's total, where
+// recorded, is at its `ring_place` of `totals`.
 pub struct File {
     pub admitted: bool,
     pub role: u64,

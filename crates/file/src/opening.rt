@@ -61,7 +61,8 @@ struct CallsLeft {
 // One more open call at the opening of a day: it ends where its last free day is the day before, and stays otherwise.
 fn with_call(mut left: CallsLeft, call: OpenCall, day: Day) -> CallsLeft
     requires { ⌜ (left .count < 4) × (1 ≤ day .0) ⌝ }
-    ensures { λ r. ⌜ ((firm : ℕ) (passed : List OpenCall) → left ≡ callsLeft firm (day .0) passed → r ≡ callsLeft firm (day .0) (passed ++ call ∷ [])) ⌝ }
+    ensures { λ r. ⌜ ((firm : ℕ) (passed : List OpenCall) → left ≡ callsLeft firm (day .0) passed
+        → r ≡ callsLeft firm (day .0) (passed ++ call ∷ [])) ⌝ }
 {
     let last = call.last;
     if last.0 == day.0 - 1 {

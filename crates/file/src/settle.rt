@@ -5,6 +5,7 @@ use crate::MonthTotal;
 use crate::OpenCall;
 use crate::Settled;
 use crate::cover::cover;
+use crate::ring_place;
 use calendar::Day;
 use calendar::Month;
 use calendar::is_september;
@@ -55,7 +56,7 @@ fn check_due(current: Month, month: Month) -> bool
 fn with_total(mut totals: [MonthTotal; 16], month: Month, total: i64) -> [MonthTotal; 16]
     ensures { λ r. ⌜ r ≡ withTotal totals (month .0) total ⌝ }
 {
-    let at = (month.0 % 16) as usize;
+    let at = ring_place(month);
     totals[at] = MonthTotal {
         recorded: true,
         month,
@@ -80,7 +81,8 @@ fn settle_total(mut file: File, today: Day, month: Month, total: i64, due: bool)
     requires { ⌜ Sound (today .0) file × (due ≡ checkDue (monthOf (today .0)) (month .0)) ⌝ }
     ensures { λ r. ⌜ ((figures : List ℤ) → total ≡ sumOf figures → wrongCount figures ≡ false → outOfRange figures ≡ false
         → outsideMonths (monthOf (today .0)) (month .0) ≡ false
-        → (settledSays (r .answer) ≡ settleAnswer file (today .0) (month .0) figures) × (r .file ≡ settledFile file (today .0) (month .0) figures)) ⌝ }
+        → (settledSays (r .answer) ≡ settleAnswer file (today .0) (month .0) figures)
+        × (r .file ≡ settledFile file (today .0) (month .0) figures)) ⌝ }
 {
     let totals = file.totals;
     let totals = with_total(totals, month, total);

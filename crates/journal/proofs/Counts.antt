@@ -14,11 +14,13 @@ use Rattle.words.specs.Bytes.{control, some, uncommented}
 use Rattle.words.specs.Words.{words, placeIn}
 use Rattle.journal.specs.Names.{callNames}
 use Rattle.journal.specs.Fields.{Left, more, fault, fieldOf, closed, figuresOf, listOf, onLists, listsOf}
-use Rattle.journal.specs.Grammar.{Parsed, plain, areMarks, lengthsOf, lengthList, total, dayNumbered, monthNumbered, freshOf, admitOf, cashOf, letterOf, lodgeOf, releaseOf, settleOf, annualOf, advanceOf, statementOf, specialOf, callsOf, namedCall, wordsOf, parsed}
+use Rattle.journal.specs.Grammar.{Parsed, plain, areMarks, lengthsOf, lengthList, total, dayNumbered, monthNumbered}
+use Rattle.journal.specs.Grammar.{freshOf, admitOf, cashOf, letterOf, lodgeOf, releaseOf, settleOf}
+use Rattle.journal.specs.Grammar.{annualOf, advanceOf, statementOf, specialOf, callsOf, namedCall, wordsOf, parsed}
 use Rattle.journal.specs.declared.Reason.{Reason}
 use Rattle.journal.specs.declared.Request.{Request}
 use Rattle.journal.specs.declared.fields.Kind.{Kind}
-use Rattle.journal.proofs.Room.{at-place}
+use Rattle.journal.proofs.Room.{_&_, at-place}
 use Rattle.journal.proofs.ListLaws.{lists-many}
 
 -- how many numbers a call says that it has; none that has no list
@@ -163,7 +165,9 @@ call-counted : (room k : ℕ) (l : Left) → Counted (namedCall room k l)
 unfolding namedCall callsOf Counted
 call-counted room k l =
     at-place Counted (callsOf room l) k (plain (Request.Error Reason.NoCall))
-    (fresh-counted l, (admit-counted l, (lodge-counted l, (release-counted l, (settle-counted room l, (annual-counted l, (advance-counted l, (statement-counted l, (plain-counted l Request.Calls refl, (special-counted room l, (plain-counted l Request.Report refl, tt)))))))))))
+    (fresh-counted l & admit-counted l & lodge-counted l & release-counted l & settle-counted room l & annual-counted l
+    & advance-counted l & statement-counted l & plain-counted l Request.Calls refl & special-counted room l
+    & plain-counted l Request.Report refl & tt)
     (λ c. absurd c)
 
 words-counted : (room : ℕ) (ws : List (List ℕ)) → Counted (wordsOf room ws)
@@ -172,7 +176,8 @@ words-counted room [] = λ c. refl
 words-counted room (w ∷ ws) = call-counted room (placeIn w callNames) (more ws)
 
 -- a call has as many numbers as it says
-pub parsed-counted : (room : ℕ) (line : List ℕ) → IsCall (parsed room line .request) → countOf (parsed room line .request) ≡ length (parsed room line .numbers)
+pub parsed-counted : (room : ℕ) (line : List ℕ) → IsCall (parsed room line .request)
+    → countOf (parsed room line .request) ≡ length (parsed room line .numbers)
 unfolding parsed Counted
 parsed-counted room line =
     split (some control (uncommented line)) (λ t. rw t (λ c. absurd c)) (λ t. rw t (words-counted room (words (uncommented line))))

@@ -12,7 +12,8 @@ use Rattle.words.specs.Numerals.{natural, valueFrom, naturalOf, unsignedOf, neg
 use Rattle.words.specs.Dates.{isDated, isMonthed, numbered, datedDay, numberedMonth, datedMonth, dayIn, monthIn}
 use Rattle.journal.specs.Names.{callNames, roleNames, lodgedNames, roleIn, lodgedIn, readNumber}
 use Rattle.journal.specs.Fields.{nextOf, faulted, taken, fieldOf, closed, withNumber, numbersOf, wordsLeft, figuresOf, listOf, onLists, listsOf}
-use Rattle.journal.specs.Grammar.{plain, freshOf, admitOf, cashOf, letterOf, lodgeOf, releaseOf, annualOf, advanceOf, statementOf, settleOf, specialOf, callsOf, namedCall, wordsOf, parsed}
+use Rattle.journal.specs.Grammar.{plain, freshOf, admitOf, cashOf, letterOf, lodgeOf, releaseOf}
+use Rattle.journal.specs.Grammar.{annualOf, advanceOf, statementOf, settleOf, specialOf, callsOf, namedCall, wordsOf, parsed}
 use Rattle.journal.specs.declared.Reason.{Reason}
 use Rattle.journal.specs.declared.Request.{Request}
 
@@ -41,9 +42,20 @@ pub examples :
     × (parsed 4 (text "settle 1 2021-10 -5 7") ≡ record { request = Request.Settle 1 (record { 0 = 21 }) 2; numbers = negsuc 4 ∷ pos 7 ∷ [] })
     × (parsed 0 (text "settle 1 21") ≡ plain (Request.Settle 1 (record { 0 = 21 }) 0))
     × (parsed 1 (text "settle 1 21 8 9") ≡ record { request = Request.Error Reason.TooLong; numbers = pos 8 ∷ [] })
-    × (parsed 9 (text "special 1 -4 0 1 1 0 0 0 0") ≡ record { request = Request.Special (record { medium = 1; low = 0; marks = 1; «zero_medium» = 0; «zero_low» = 0; «excess_medium» = 0; «excess_low» = 0 }); numbers = negsuc 3 ∷ pos 1 ∷ [] })
+    × (parsed 9 (text "special 1 -4 0 1 1 0 0 0 0")
+    ≡ record {
+      request =
+          Request.Special
+          (record { medium = 1; low = 0; marks = 1; «zero_medium» = 0; «zero_low» = 0; «excess_medium» = 0; «excess_low» = 0 });
+      numbers = negsuc 3 ∷ pos 1 ∷ [];
+    })
     × (parsed 9 (text "special 0 0 1 -1 0 0 0 0") ≡ plain (Request.Error Reason.NotNumber))
     × (parsed 9 (text "special 3 1") ≡ record { request = Request.Error Reason.TooFewWords; numbers = pos 1 ∷ [] })
     × (parsed 0 (text "settlement 1") ≡ plain (Request.Error Reason.NoCall))
-unfolding parsed wordsOf namedCall callsOf uncommented some control blank words apart onto placeIn same callNames roleNames lodgedNames roleIn lodgedIn natural each digit valueFrom naturalOf unsignedOf negativeOf signedOf readNumber isDated isMonthed numbered datedDay numberedMonth datedMonth dayIn monthIn isDate monthNumber dayOfDate firstDay lengthOf lengthIn leap nextOf faulted taken fieldOf closed withNumber numbersOf wordsLeft figuresOf listOf onLists listsOf freshOf admitOf cashOf letterOf lodgeOf releaseOf annualOf advanceOf statementOf settleOf specialOf
-examples = (refl, refl, refl, refl, refl, refl, refl, refl, refl, refl, refl, refl, refl, refl, refl, refl, refl, refl, refl, refl, refl, refl, refl, refl)
+unfolding parsed wordsOf namedCall callsOf uncommented some control blank words apart onto placeIn same callNames roleNames lodgedNames
+    roleIn lodgedIn natural each digit valueFrom naturalOf unsignedOf negativeOf signedOf readNumber isDated isMonthed numbered datedDay
+    numberedMonth datedMonth dayIn monthIn isDate monthNumber dayOfDate firstDay lengthOf lengthIn leap nextOf faulted taken fieldOf closed
+    withNumber numbersOf wordsLeft figuresOf listOf onLists listsOf freshOf admitOf cashOf letterOf lodgeOf releaseOf annualOf advanceOf
+    statementOf settleOf specialOf
+examples =
+    (refl, refl, refl, refl, refl, refl, refl, refl, refl, refl, refl, refl, refl, refl, refl, refl, refl, refl, refl, refl, refl, refl, refl, refl)

@@ -93,11 +93,13 @@ unfolding words apart onto blank lodgedNames
 lodged-words = refl
 
 module _ (w : List ℕ) (k : ℕ) where
-  pub role-named : k ≡ placeIn w (words (text "supplier self-supplied trader producer res-aggregator demand-response")) → k < 6 → Number.Value k ≡ roleIn w
+  pub role-named : k ≡ placeIn w (words (text "supplier self-supplied trader producer res-aggregator demand-response")) → k < 6
+      → Number.Value k ≡ roleIn w
   unfolding roleIn
   role-named e h = let f : k ≡ placeIn w roleNames = e ∙ ap (placeIn w) role-words in rw (← f, lt-ltb k 6 h)
 
-  pub role-other : k ≡ placeIn w (words (text "supplier self-supplied trader producer res-aggregator demand-response")) → 6 ≤ k → (r : Number) → r ≡ naturalOf w
+  pub role-other : k ≡ placeIn w (words (text "supplier self-supplied trader producer res-aggregator demand-response")) → 6 ≤ k
+      → (r : Number) → r ≡ naturalOf w
       → r ≡ roleIn w
   unfolding roleIn
   role-other e h r g = let f : k ≡ placeIn w roleNames = e ∙ ap (placeIn w) role-words in rw (← f, le-ltb k 6 h) g

@@ -21,7 +21,8 @@ use Rattle.words.specs.Words.{apart, onto, words}
 use Rattle.words.specs.Found.{NextWord}
 use Rattle.words.specs.Numerals.{unsignedOf, signedOf}
 use Rattle.journal.specs.Names.{readNumber}
-use Rattle.journal.specs.Fields.{Left, fault, faulted, faultedPlace, leftAt, wordsLeft, Numbers, withNumber, numbersOf, Lists, onLists, listOf, listsOf, figuresOf, closed}
+use Rattle.journal.specs.Fields.{Left, fault, faulted, faultedPlace, leftAt, wordsLeft}
+use Rattle.journal.specs.Fields.{Numbers, withNumber, numbersOf, Lists, onLists, listOf, listsOf, figuresOf, closed}
 use Rattle.journal.specs.Grammar.{areMarks, lengthsOf, monthNumbered, settleOf, specialOf}
 use Rattle.journal.specs.Steps.{NextIs, FieldIs, ItemIs, FilledIs, ListedIs, ParsedIs}
 use Rattle.journal.specs.declared.Request.{Request}
@@ -65,7 +66,8 @@ words-few (b ∷ l) =
     split (blank b) (λ t. rw t (omega (arith, words-few l)))
     (λ t. split (apart l) (λ u. rw (t, u) (omega (arith, words-few l))) (λ u. rw (t, u) (omega (arith, words-few l, onto-few b (words l)))))
 
-module _ (s : List ℕ) (from at k start end : ℕ) (known : k + length (words (drop at s)) ≡ length (words (drop from s))) (x : NextWord s at start end) where
+module _ (s : List ℕ) (from at k start end : ℕ) (known : k + length (words (drop at s)) ≡ length (words (drop from s)))
+    (x : NextWord s at start end) where
   pub words-end : start ≡ end → k ≡ length (words (drop from s))
   words-end e = omega (arith, ap length (no-words s at start end x e))
 
@@ -121,7 +123,8 @@ no-room : (room : ℕ) (z : ℤ) (l : Left) (rest : Numbers) → room ≡ 0
 unfolding withNumber
 no-room room z l rest e = rw (eq-eqb room 0 e)
 
-no-number : (room : ℕ) (l : Left) (rest : Numbers) → withNumber room Signed.NoNumber l rest ≡ record { numbers = []; left = faulted l Reason.NotNumber }
+no-number : (room : ℕ) (l : Left) (rest : Numbers)
+    → withNumber room Signed.NoNumber l rest ≡ record { numbers = []; left = faulted l Reason.NotNumber }
 unfolding withNumber
 no-number room l rest = refl
 
@@ -136,14 +139,16 @@ ended x y s e f from i l p w q r =
     record { end = omega (arith, g .end); left = r ∙ g .left; numbers = g .same }
 
 module _ (s : List ℕ) (marks : Bool) (count from k i : ℕ) (e f : List ℤ) (first at : Place)
-    (w : Filling (numbersOf marks (length e - from) count (leftAt s first)) (numbersOf marks (length e - i) (count - k) (leftAt s at)) e from f i) where
+    (w : Filling (numbersOf marks (length e - from) count (leftAt s first))
+    (numbersOf marks (length e - i) (count - k) (leftAt s at)) e from f i) where
   pub filling-ends : count ≤ k
       → FilledIs (numbersOf marks (length e - from) count (leftAt s first)) s e from (record { end = i; place = at }) f
   unfolding numbersOf
   filling-ends h =
       let z : count - k ≡ 0 = omega arith in
       let q : numbersOf marks (length e - i) (count - k) (leftAt s at) ≡ nothing (leftAt s at) = rw z in
-      ended (numbersOf marks (length e - from) count (leftAt s first)) (numbersOf marks (length e - i) (count - k) (leftAt s at)) s e f from i (leftAt s at) at w q refl
+      ended (numbersOf marks (length e - from) count (leftAt s first))
+      (numbersOf marks (length e - i) (count - k) (leftAt s at)) s e f from i (leftAt s at) at w q refl
 
   module _ (x : Item) (is : ItemIs s at marks x) (h : k < count) where
     abbrev rest : Numbers
@@ -173,11 +178,15 @@ module _ (s : List ℕ) (marks : Bool) (count from k i : ℕ) (e f : List ℤ) (
         refl
 
     pub filling-goes : (z : ℤ) → x .value ≡ Signed.Value z → i < length f
-        → Filling (numbersOf marks (length e - from) count (leftAt s first)) (numbersOf marks (length e - (i + 1)) (count - (k + 1)) (leftAt s (x .place))) e from (set f i z) (i + 1)
+        → Filling (numbersOf marks (length e - from) count (leftAt s first))
+        (numbersOf marks (length e - (i + 1)) (count - (k + 1)) (leftAt s (x .place))) e from (set f i z) (i + 1)
     filling-goes z q g =
         let a : length e - (i + 1) ≡ length e - i - 1 = omega arith in
         let b = value-is (Signed.Value z) q ∙ with-room (length e - i) z (leftAt s (x .place)) rest (omega (arith, w .long)) in
-        let v : Filling (numbersOf marks (length e - from) count (leftAt s first)) (record { numbers = z ∷ rest .numbers; left = rest .left }) e from f i = rw b at w in
+        let v :
+        Filling (numbersOf marks (length e - from) count (leftAt s first))
+        (record { numbers = z ∷ rest .numbers; left = rest .left }) e from f i =
+        rw b at w in
         rw a
         (record {
           same = rw (add-one i) (v .same);
@@ -234,13 +243,15 @@ lists-cons m ms room l = refl
 
 lists-next : (room i : ℕ) (l : Left) → i < 7
     → listsOf (drop i areMarks) room l
-    ≡ onLists (listOf (eqb i 2) room l) (listsOf (drop (i + 1) areMarks) (room - length (listOf (eqb i 2) room l .numbers)) (listOf (eqb i 2) room l .left))
+    ≡ onLists (listOf (eqb i 2) room l)
+    (listsOf (drop (i + 1) areMarks) (room - length (listOf (eqb i 2) room l .numbers)) (listOf (eqb i 2) room l .left))
 lists-next room i l h = ap (λ (ms : List Bool). listsOf ms room l) (marks-from i h) ∙ lists-cons (eqb i 2) (drop (i + 1) areMarks) room l
 
 module _ (s : List ℕ) (i end : ℕ) (e f g : List ℤ) (d n : List ℕ) (at : Place) (x : Lists) (r : Filled) (h : i < 7)
     (w : Listing x (listsOf (drop i areMarks) (length e - end) (leftAt s at)) e f end d n i)
     (z : FilledIs (listOf (eqb i 2) (length f - end) (leftAt s at)) s f end r g) where
-  pub listing-goes : Listing x (listsOf (drop (i + 1) areMarks) (length e - r .end) (leftAt s (r .place))) e g (r .end) d (set n i (r .end - end)) (i + 1)
+  pub listing-goes :
+      Listing x (listsOf (drop (i + 1) areMarks) (length e - r .end) (leftAt s (r .place))) e g (r .end) d (set n i (r .end - end)) (i + 1)
   unfolding onLists
   listing-goes =
       let a = listOf (eqb i 2) (length e - end) (leftAt s at) in
@@ -278,7 +289,10 @@ pub listing-ends : (s : List ℕ) (i end room : ℕ) (e f : List ℤ) (d n : Lis
 unfolding listsOf
 listing-ends s i end room e f d n first at h k b w =
     let q : i ≡ 7 = omega arith in
-    let v : Listing (listsOf areMarks (length e) (leftAt s first)) (record { lengths = []; numbers = []; left = leftAt s at }) e f end d n 7 = rw q at w in
+    let v :
+    Listing (listsOf areMarks (length e) (leftAt s first))
+    (record { lengths = []; numbers = []; left = leftAt s at }) e f end d n 7 =
+    rw q at w in
     record {
       lengths =
           v .lengths

@@ -18,8 +18,10 @@ use Rattle.words.specs.Bytes.{control, some, uncommented}
 use Rattle.words.specs.Words.{words, placeIn}
 use Rattle.words.specs.declared.numbers.Signed.{Signed}
 use Rattle.journal.specs.Names.{readNumber, callNames}
-use Rattle.journal.specs.Fields.{Left, more, nextOf, fieldOf, closed, Numbers, withNumber, numbersOf, figuresOf, wordsLeft, listOf, Lists, onLists, listsOf}
-use Rattle.journal.specs.Grammar.{Parsed, plain, areMarks, freshOf, admitOf, lodgeOf, releaseOf, settleOf, annualOf, advanceOf, statementOf, specialOf, callsOf, namedCall, wordsOf, parsed}
+use Rattle.journal.specs.Fields.{Left, more, nextOf, fieldOf, closed}
+use Rattle.journal.specs.Fields.{Numbers, withNumber, numbersOf, figuresOf, wordsLeft, listOf, Lists, onLists, listsOf}
+use Rattle.journal.specs.Grammar.{Parsed, plain, areMarks, freshOf, admitOf, lodgeOf, releaseOf}
+use Rattle.journal.specs.Grammar.{settleOf, annualOf, advanceOf, statementOf, specialOf, callsOf, namedCall, wordsOf, parsed}
 use Rattle.journal.specs.Steps.{ParsedIs}
 use Rattle.journal.specs.declared.Reason.{Reason}
 use Rattle.journal.specs.declared.Request.{Request}
@@ -27,7 +29,8 @@ use Rattle.journal.specs.declared.fields.Kind.{Kind}
 
 -- There is room.
 
-with-fits : (room : ℕ) (v : Signed) (l : Left) (rest : Numbers) → length (rest .numbers) ≤ room - 1 → length (withNumber room v l rest .numbers) ≤ room
+with-fits : (room : ℕ) (v : Signed) (l : Left) (rest : Numbers) → length (rest .numbers) ≤ room - 1
+    → length (withNumber room v l rest .numbers) ≤ room
 unfolding withNumber
 with-fits room Signed.NoNumber l rest h = omega arith
 with-fits room (Signed.Value z) l rest h =
@@ -55,6 +58,11 @@ lists-fit [] room l = omega arith
 lists-fit (m ∷ ms) room l =
     on-fits room (listOf m room l) (listsOf ms (room - length (listOf m room l .numbers)) (listOf m room l .left)) (list-fits m room l)
     (lists-fit ms (room - length (listOf m room l .numbers)) (listOf m room l .left))
+
+-- facts of the elements of a list, one after the other
+infixr 4 _&_
+pub _&_ : {A B : Type 0} → A → B → A × B
+a & b = (a, b)
 
 -- what holds of each element, and of what stands past the end, holds at every place
 pub at-place : (P : Parsed → Type 0) (l : List Parsed) (k : ℕ) (d : Parsed) → All P l → P d → P (getD l k d)
@@ -85,7 +93,10 @@ call-fits : (room k : ℕ) (l : Left) → Fits room (namedCall room k l)
 unfolding namedCall callsOf
 call-fits room k l =
     at-place (Fits room) (callsOf room l) k (plain (Request.Error Reason.NoCall))
-    (plain-fits room (freshOf l), (plain-fits room (admitOf l), (plain-fits room (lodgeOf l), (plain-fits room (releaseOf l), (settle-fits room l, (plain-fits room (annualOf l), (plain-fits room (advanceOf l), (plain-fits room (statementOf l), (plain-fits room (closed l Request.Calls), (special-fits room l, (plain-fits room (closed l Request.Report), tt)))))))))))
+    (plain-fits room (freshOf l) & plain-fits room (admitOf l) & plain-fits room (lodgeOf l)
+    & plain-fits room (releaseOf l) & settle-fits room l & plain-fits room (annualOf l) & plain-fits room (advanceOf l)
+    & plain-fits room (statementOf l) & plain-fits room (closed l Request.Calls) & special-fits room l
+    & plain-fits room (closed l Request.Report) & tt)
     (plain-fits room (Request.Error Reason.NoCall))
 
 words-fit : (room : ℕ) (ws : List (List ℕ)) → Fits room (wordsOf room ws)

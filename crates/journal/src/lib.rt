@@ -68,7 +68,8 @@ pub enum Request {
 
 // The call whose name has place k among the names, from the place after it.
 fn call(k: usize, s: &[u8], place: Place, numbers: &mut [i64]) -> Request
-    ensures { λ r. ⌜ ParsedIs (namedCall (length (now (numbers .entry))) k (leftAt (now (s .entry)) place)) (now (numbers .entry)) r (now (numbers .exit)) ⌝ }
+    ensures { λ r. ⌜ ParsedIs (namedCall (length (now (numbers .entry))) k (leftAt (now (s .entry)) place))
+        (now (numbers .entry)) r (now (numbers .exit)) ⌝ }
 {
     match k {
         0 => calls::fresh(s, place),
@@ -88,7 +89,8 @@ fn call(k: usize, s: &[u8], place: Place, numbers: &mut [i64]) -> Request
 
 // The call that a line without comment and control bytes is.
 fn read_words(s: &[u8], numbers: &mut [i64]) -> Request
-    ensures { λ r. ⌜ ParsedIs (wordsOf (length (now (numbers .entry))) (Words·words (now (s .entry)))) (now (numbers .entry)) r (now (numbers .exit)) ⌝ }
+    ensures { λ r. ⌜ ParsedIs (wordsOf (length (now (numbers .entry))) (Words·words (now (s .entry))))
+        (now (numbers .entry)) r (now (numbers .exit)) ⌝ }
 {
     let w = word_at(s, 0);
     let start = w.start;

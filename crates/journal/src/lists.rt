@@ -99,7 +99,8 @@ fn fill(
     numbers: &mut [i64],
     from: usize,
 ) -> Filled
-    ensures { λ r. ⌜ FilledIs (numbersOf marks (length (now (numbers .entry)) - from) count (leftAt (now (s .entry)) place)) (now (s .entry)) (now (numbers .entry)) from r (now (numbers .exit)) ⌝ }
+    ensures { λ r. ⌜ FilledIs (numbersOf marks (length (now (numbers .entry)) - from) count (leftAt (now (s .entry)) place))
+        (now (s .entry)) (now (numbers .entry)) from r (now (numbers .exit)) ⌝ }
 {
     let mut at = place;
     let mut i = from;
@@ -130,7 +131,8 @@ fn fill(
 
 // Writes a list, which is its length and then its numbers, from a place of the slice on.
 fn list(s: &[u8], place: Place, marks: bool, numbers: &mut [i64], from: usize) -> Filled
-    ensures { λ r. ⌜ FilledIs (listOf marks (length (now (numbers .entry)) - from) (leftAt (now (s .entry)) place)) (now (s .entry)) (now (numbers .entry)) from r (now (numbers .exit)) ⌝ }
+    ensures { λ r. ⌜ FilledIs (listOf marks (length (now (numbers .entry)) - from) (leftAt (now (s .entry)) place))
+        (now (s .entry)) (now (numbers .entry)) from r (now (numbers .exit)) ⌝ }
 {
     let n = take_field(s, place, Kind::Natural);
     let after = n.place;
@@ -139,7 +141,8 @@ fn list(s: &[u8], place: Place, marks: bool, numbers: &mut [i64], from: usize) -
 
 // Writes the seven lists of a special guarantee one after the other; the third has the marks.
 fn lists(s: &[u8], place: Place, numbers: &mut [i64]) -> Listed
-    ensures { λ r. ⌜ ListedIs (listsOf areMarks (length (now (numbers .entry))) (leftAt (now (s .entry)) place)) (now (s .entry)) (now (numbers .entry)) r (now (numbers .exit)) ⌝ }
+    ensures { λ r. ⌜ ListedIs (listsOf areMarks (length (now (numbers .entry))) (leftAt (now (s .entry)) place))
+        (now (s .entry)) (now (numbers .entry)) r (now (numbers .exit)) ⌝ }
 {
     let mut lengths = [0usize; 7];
     let mut at = place;
@@ -161,7 +164,8 @@ fn lists(s: &[u8], place: Place, numbers: &mut [i64]) -> Listed
 
 // settle P MONTH FIGURE..
 pub fn settle(s: &[u8], place: Place, numbers: &mut [i64]) -> Request
-    ensures { λ r. ⌜ ParsedIs (settleOf (length (now (numbers .entry))) (leftAt (now (s .entry)) place)) (now (numbers .entry)) r (now (numbers .exit)) ⌝ }
+    ensures { λ r. ⌜ ParsedIs (settleOf (length (now (numbers .entry))) (leftAt (now (s .entry)) place))
+        (now (numbers .entry)) r (now (numbers .exit)) ⌝ }
 {
     let p = take_field(s, place, Kind::Natural);
     let after_p = p.place;
@@ -176,7 +180,8 @@ pub fn settle(s: &[u8], place: Place, numbers: &mut [i64]) -> Request
 
 // special LIST LIST LIST LIST LIST LIST LIST
 pub fn special(s: &[u8], place: Place, numbers: &mut [i64]) -> Request
-    ensures { λ r. ⌜ ParsedIs (specialOf (length (now (numbers .entry))) (leftAt (now (s .entry)) place)) (now (numbers .entry)) r (now (numbers .exit)) ⌝ }
+    ensures { λ r. ⌜ ParsedIs (specialOf (length (now (numbers .entry))) (leftAt (now (s .entry)) place))
+        (now (numbers .entry)) r (now (numbers .exit)) ⌝ }
 {
     let t = lists(s, place, numbers);
     let after = t.place;

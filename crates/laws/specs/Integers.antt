@@ -2,14 +2,14 @@
 use Prim.Native.Nat.{ℕ, suc, _+_, _*_, _≤_, _<_}
 use mathlib.Core.Path.{_≡_, refl, sym, _∙_, ap}
 use mathlib.Core.Bool.{true, false, not, cond}
-use mathlib.Core.List.{List, [], _∷_, _++_}
+use mathlib.Core.List.{List, [], _∷_}
 use native.Mathlib.Nat.{le-trans, suc-mul}
 use native.Mathlib.Omega.{arith}
 use native.Mathlib.Numerals.{add-one}
 use lib.Dec.{T, ltb}
 use lib.ListN.{length, getD, drop}
 use lib.Seq.{drop-cons}
-use lib.IntN.{ℤ, pos, negsuc, natAbs, subℕ, _+ℤ_, +ℤ-idl, +ℤ-assoc}
+use lib.IntN.{ℤ, pos, negsuc, natAbs, subℕ, _+ℤ_, +ℤ-assoc}
 use lib.Signed.{ltZ, leZ, nonNeg}
 use mir.Syntax.{w64}
 use mir.Val.{SFits, Fits, toZ, ofZ}
@@ -18,10 +18,6 @@ use borrow.Author.Tests.{ltb-true, ltb-false, lt-ltb, le-ltb}
 use Rattle.laws.specs.Cases.{split, clash, leb-not-ltb, cond-true, cond-false}
 
 -- ---- the order: `ltZ a b` is whether a is below b, `leZ a b` whether it is at most b
-
-pub ltZ-irrefl : (a : ℤ) → ltZ a a ≡ false
-ltZ-irrefl (pos a) = le-ltb a a (omega arith)
-ltZ-irrefl (negsuc a) = le-ltb a a (omega arith)
 
 pub ltZ-trans : (a b c : ℤ) → ltZ a b ≡ true → ltZ b c ≡ true → ltZ a c ≡ true
 ltZ-trans (pos a) (pos b) (pos c) p q = lt-ltb a c (omega (arith, ltb-true a b p, ltb-true b c q))
@@ -149,11 +145,6 @@ sumOf (x ∷ rest) = x +ℤ sumOf rest
 unfoldable pub Within : ℕ → List ℤ → Type 0
 Within k [] = Unit {0}
 Within k (x ∷ rest) = (natAbs x ≤ k) × Within k rest
-
-pub sumOf-append : (l m : List ℤ) → sumOf (l ++ m) ≡ sumOf l +ℤ sumOf m
-unfolding sumOf
-sumOf-append [] m = sym (+ℤ-idl (sumOf m))
-sumOf-append (x ∷ l) m = ap (λ (z : ℤ). x +ℤ z) (sumOf-append l m) ∙ sym (+ℤ-assoc x (sumOf l) (sumOf m))
 
 -- a sum is at most as many times k as there are elements
 pub sumOf-bound : (k : ℕ) (l : List ℤ) → Within k l → natAbs (sumOf l) ≤ length l * k

@@ -2,16 +2,15 @@
 -- Assumes nothing.
 use Prim.Native.Nat.{ℕ, zero, suc, _+_}
 use native.Mathlib.Omega.{arith}
-use mathlib.Core.Path.{_≡_, refl, sym, ap, _∙_}
-use mathlib.Core.Bool.{Bool, true, false, cond, _&&_}
+use mathlib.Core.Path.{_≡_, refl, ap, _∙_}
+use mathlib.Core.Bool.{Bool, true, false, not, cond, _&&_}
 use mathlib.Core.List.{List, [], _∷_, _++_}
-use borrow.Author.Tests.{ltb-true, ltb-false, le-leb}
 use lib.ListN.{length, take}
 use lib.Seq.{take-take}
-use lib.IntN.{ℤ, pos, negsuc, _+ℤ_, +ℤ-assoc, +ℤ-comm}
+use lib.IntN.{ℤ}
 use lib.Signed.{ltZ, leZ}
 use Rattle.laws.specs.Cases.{by-test, and-both, and-left, and-right}
-use Rattle.laws.specs.Integers.{sumOf}
+use Rattle.laws.specs.Integers.{ltZ-asym, leZ-ltZ, sumOf}
 use Rattle.laws.specs.Signed.{nearest}
 
 -- x put into a list that falls, before the first number below it.
@@ -63,16 +62,10 @@ falls (x ∷ []) = true
 falls (x ∷ y ∷ rest) = leZ y x && falls (y ∷ rest)
 
 lt-leZ : (x y : ℤ) → ltZ x y ≡ true → leZ x y ≡ true
-lt-leZ (pos a) (pos b) e = le-leb a b (omega (arith, ltb-true a b e))
-lt-leZ (pos a) (negsuc b) e = e
-lt-leZ (negsuc a) (pos b) e = refl
-lt-leZ (negsuc a) (negsuc b) e = le-leb b a (omega (arith, ltb-true b a e))
+lt-leZ x y e = leZ-ltZ x y ∙ ap not (ltZ-asym x y e)
 
 ge-leZ : (x y : ℤ) → ltZ x y ≡ false → leZ y x ≡ true
-ge-leZ (pos a) (pos b) e = le-leb b a (ltb-false a b e)
-ge-leZ (pos a) (negsuc b) e = refl
-ge-leZ (negsuc a) (pos b) e = sym e
-ge-leZ (negsuc a) (negsuc b) e = le-leb a b (ltb-false b a e)
+ge-leZ x y e = leZ-ltZ y x ∙ ap not e
 
 falls-rest : (y : ℤ) (l : List ℤ) → falls (y ∷ l) ≡ true → falls l ≡ true
 unfolding falls
@@ -102,7 +95,7 @@ unfolding falls falling
 falling-falls [] = refl
 falling-falls (x ∷ l) = insert-falls x (falling l) (falling-falls l)
 
--- ---- the length and the sum do not depend on the order
+-- ---- `falling` gives as many
 
 insert-length : (x : ℤ) (l : List ℤ) → length (insert x l) ≡ suc (length l)
 unfolding insert
@@ -115,19 +108,6 @@ pub falling-length : (l : List ℤ) → length (falling l) ≡ length l
 unfolding falling
 falling-length [] = refl
 falling-length (x ∷ l) = insert-length x (falling l) ∙ ap suc (falling-length l)
-
-insert-sum : (x : ℤ) (l : List ℤ) → sumOf (insert x l) ≡ x +ℤ sumOf l
-unfolding insert sumOf
-insert-sum x [] = refl
-insert-sum x (y ∷ l) =
-    by-test (ltZ y x) (x ∷ y ∷ l) (y ∷ insert x l) (λ m. sumOf m ≡ x +ℤ (y +ℤ sumOf l))
-    (λ t. refl)
-    (λ t. ap (λ z. y +ℤ z) (insert-sum x l) ∙ sym (+ℤ-assoc y x (sumOf l)) ∙ ap (λ z. z +ℤ sumOf l) (+ℤ-comm y x) ∙ +ℤ-assoc x y (sumOf l))
-
-pub falling-sum : (l : List ℤ) → sumOf (falling l) ≡ sumOf l
-unfolding falling sumOf
-falling-sum [] = refl
-falling-sum (x ∷ l) = insert-sum x (falling l) ∙ ap (λ z. x +ℤ z) (falling-sum l)
 
 -- ---- the n largest, kept while a list is walked from its end
 

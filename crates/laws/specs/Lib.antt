@@ -1,10 +1,12 @@
 pub mod Lists
 pub mod Cases
 pub mod Prefixes
+pub mod Every
 pub mod Tabulated
 pub mod Tables
 pub mod Integers
 pub mod Signed
+pub mod Read
 pub mod Magnitudes
 pub mod Largest
 pub mod Places

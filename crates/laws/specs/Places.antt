@@ -53,7 +53,8 @@ module _ {A : Type 0} (g : A → A) where
   upTo-all (suc i) (x ∷ l) h = ap (λ (m : List A). g x ∷ m) (upTo-all i l (le-of-suc-le-suc h))
 
   -- a turn of a loop that replaces them: what is stored at i is g of what was read there
-  pub upTo-turn : (s l : List A) (i n : ℕ) (x y d : A) → length l ≡ n → i < n → s ≡ upTo g i l → x ≡ getD s i d → y ≡ g x → set s i y ≡ upTo g (i + 1) l
+  pub upTo-turn : (s l : List A) (i n : ℕ) (x y d : A) → length l ≡ n → i < n → s ≡ upTo g i l → x ≡ getD s i d → y ≡ g x
+      → set s i y ≡ upTo g (i + 1) l
   upTo-turn s l i n x y d h k e p q = simp (q, p, e, upTo-next, add-one) (upTo-more i l d (omega arith))
 
 -- ---- one list over another, element by element
@@ -123,10 +124,12 @@ getD-same z (suc n) (suc k) = getD-same z n k
 
 module _ {A : Type 0} (z : A) (n : ℕ) where
   -- the next place is filled
-  pub fill-next : (l : List A) (x : A) → length l < n → set (l ++ replicate (n - length l) z) (length l) x ≡ (l ++ x ∷ []) ++ replicate (n - length (l ++ x ∷ [])) z
+  pub fill-next : (l : List A) (x : A) → length l < n
+      → set (l ++ replicate (n - length l) z) (length l) x ≡ (l ++ x ∷ []) ++ replicate (n - length (l ++ x ∷ [])) z
   fill-next l x h =
       let e : n - length l ≡ suc (n - (length l + 1)) = omega arith in
-      rw (e, length-append) (set-append-seam l z (replicate (n - (length l + 1)) z) x ∙ sym (append-assoc l (x ∷ []) (replicate (n - (length l + 1)) z)))
+      rw (e, length-append)
+      (set-append-seam l z (replicate (n - (length l + 1)) z) x ∙ sym (append-assoc l (x ∷ []) (replicate (n - (length l + 1)) z)))
 
   -- what is filled is in front
   pub fill-take : (l : List A) → take (length l) (l ++ replicate (n - length l) z) ≡ l

@@ -2,10 +2,12 @@
 -- Bounds are kept in ℕ, by `natAbs`.
 -- Assumes nothing.
 use Prim.Native.Nat.{ℕ, zero, suc, _+_, _*_, _-_, _/_, _^_, _≤_, _<_}
-use native.Mathlib.Nat.{div-mul-le-self, lt-div-mul-add, suc-mul}
+use native.Mathlib.Nat.{div-mul-le-self, lt-div-mul-add, div-eq-of-lt-le, zero-mul, suc-mul}
+use native.Mathlib.Numerals.{add-one}
 use native.Mathlib.Omega.{arith}
-use mathlib.Core.Path.{_≡_, refl}
-use lib.Dec.{T, le→leb, lt→ltb}
+use mathlib.Core.Path.{_≡_, refl, sym, ap}
+use mathlib.Core.Bool.{false}
+use lib.Dec.{T, leb, ltb, leb·zero, leb·suc-zero, leb·suc-suc, leb→le, ltb→lt, le→leb, lt→ltb}
 use lib.IntN.{ℤ, pos, negsuc, negℤ, sucℤ, natAbs, _+ℤ_, _-ℤ_, _*ℤ_}
 use lib.Signed.{mag, ltZ, leZ, _≤ℤ_, _<ℤ_}
 use mir.Syntax.{w64}
@@ -17,29 +19,30 @@ unfoldable pub floorDiv : ℤ → ℕ → ℤ
 floorDiv (pos a) n = pos (a / n)
 floorDiv (negsuc a) n = negsuc (a / n)
 
--- x / n to the nearest whole, halves upward, below zero too: x / n + 1/2 rounded down.
+-- x / n to the nearest whole, halves upward, below zero too: x / n + 1/2 rounded down (`nearest-law`, `nearest-only`).
 unfoldable pub nearest : ℤ → ℕ → ℤ
 nearest x n = floorDiv (pos 2 *ℤ x +ℤ pos n) (2 * n)
 
 -- ---- the law of the division
 
-neg-le : (m a : ℕ) → a < m → T (leZ (negℤ (pos m)) (negsuc a))
-neg-le zero a h = absurd (none a h)
-  where
-    none : (a : ℕ) → a < zero → ⊥
-    none a h = omega arith
-neg-le (suc m) a h = le→leb a m (less m a h)
-  where
-    less : (m a : ℕ) → a < suc m → a ≤ m
-    less m a h = omega arith
+-- the order of two numbers of which the one is -m and the other -(a + 1), as an order of naturals
+neg-le : (m a : ℕ) → leZ (negℤ (pos m)) (negsuc a) ≡ ltb a m
+neg-le zero a = sym (leb·suc-zero a)
+neg-le (suc m) a = sym (leb·suc-suc a m)
 
-lt-neg : (m a : ℕ) → m ≤ a → T (ltZ (negsuc a) (negℤ (pos m)))
-lt-neg zero a h = tt
-lt-neg (suc m) a h = lt→ltb m a h
+lt-neg : (m a : ℕ) → ltZ (negsuc a) (negℤ (pos m)) ≡ leb m a
+lt-neg zero a = sym (leb·zero a)
+lt-neg (suc m) a = refl
 
-above : (q n a : ℕ) → q * n ≤ a → T (ltZ (negsuc a) (sucℤ (negsuc q) *ℤ pos n))
-above zero n a h = tt
-above (suc q) n a h = lt-neg (suc q * n) a h
+-- no natural number is below -m
+pos-neg : (m a : ℕ) → ltZ (pos a) (negℤ (pos m)) ≡ false
+pos-neg zero a = leb·suc-zero a
+pos-neg (suc m) a = refl
+
+-- the number after -(q + 1) is -q
+after : (q n : ℕ) → sucℤ (negsuc q) *ℤ pos n ≡ negℤ (pos (q * n))
+after zero n = rw (zero-mul n)
+after (suc q) n = refl
 
 next : (a n : ℕ) → 0 < n → a < suc (a / n) * n
 next a n h = rw suc-mul (lt-div-mul-add h)
@@ -48,8 +51,34 @@ pub floorDiv-law : (x : ℤ) (n : ℕ) → 0 < n → ((floorDiv x n *ℤ pos n) 
 unfolding floorDiv
 floorDiv-law (pos a) n h =
     (record { le = le→leb (a / n * n) a (div-mul-le-self a n) }, record { lt = lt→ltb a (suc (a / n) * n) (next a n h) })
-floorDiv-law (negsuc a) n h =
-    (record { le = neg-le (suc (a / n) * n) a (next a n h) }, record { lt = above (a / n) n a (div-mul-le-self a n) })
+floorDiv-law (negsuc a) n h = (
+  record { le = rw (neg-le (suc (a / n) * n) a) (lt→ltb a (suc (a / n) * n) (next a n h)) },
+  record { lt = rw (after (a / n) n, lt-neg (a / n * n) a) (le→leb (a / n * n) a (div-mul-le-self a n)) },
+)
+
+quotient : (q a n : ℕ) → T (leb (q * n) a) → T (ltb a (suc q * n)) → q ≡ a / n
+quotient q a n l u = sym (div-eq-of-lt-le n (leb→le (q * n) a l) (rw (add-one q) (ltb→lt a (suc q * n) u)))
+
+-- no other whole number has the two bounds
+pub floorDiv-only : (x q : ℤ) (n : ℕ) → (q *ℤ pos n) ≤ℤ x → x <ℤ (sucℤ q *ℤ pos n) → q ≡ floorDiv x n
+unfolding floorDiv
+floorDiv-only (pos a) (pos q) n l u = ap pos (quotient q a n (l .le) (u .lt))
+floorDiv-only (pos a) (negsuc q) n l u = absurd (rw (after q n, pos-neg (q * n) a) at (u .lt))
+floorDiv-only (negsuc a) (pos q) n l u = absurd (l .le)
+floorDiv-only (negsuc a) (negsuc q) n l u =
+    ap negsuc (quotient q a n (rw (after q n, lt-neg (q * n) a) at (u .lt)) (rw (neg-le (suc q * n) a) at (l .le)))
+
+-- `nearest x n` is the nearest whole number to x / n, halves upward: it is the only whole number q with q - 1/2 ≤ x / n < q + 1/2. Both
+-- bounds are stated in integers, multiplied by 2 × n: 2 × n × q ≤ 2 × x + n < 2 × n × (q + 1).
+pub nearest-law : (x : ℤ) (n : ℕ) → 0 < n
+    → ((nearest x n *ℤ pos (2 * n)) ≤ℤ (pos 2 *ℤ x +ℤ pos n)) × ((pos 2 *ℤ x +ℤ pos n) <ℤ (sucℤ (nearest x n) *ℤ pos (2 * n)))
+unfolding nearest
+nearest-law x n h = floorDiv-law (pos 2 *ℤ x +ℤ pos n) (2 * n) (omega arith)
+
+pub nearest-only : (x q : ℤ) (n : ℕ) → (q *ℤ pos (2 * n)) ≤ℤ (pos 2 *ℤ x +ℤ pos n)
+    → (pos 2 *ℤ x +ℤ pos n) <ℤ (sucℤ q *ℤ pos (2 * n)) → q ≡ nearest x n
+unfolding nearest
+nearest-only x q n l u = floorDiv-only (pos 2 *ℤ x +ℤ pos n) q (2 * n) l u
 
 -- ---- bounds
 

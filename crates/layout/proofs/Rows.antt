@@ -37,7 +37,8 @@ module _ {A : Type 0} (enc : A → List ℕ) (n : ℕ) (size : (x : A) → lengt
   rows-none l at xs = (refl, tt)
 
   -- one more is written
-  pub rows-turn : (l m m′ : List ℕ) (at i : ℕ) (xs : List A) (x d : A) → i < length xs → m ≡ written l at (flat enc (take i xs)) → All Back (take i xs)
+  pub rows-turn : (l m m′ : List ℕ) (at i : ℕ) (xs : List A) (x d : A) → i < length xs
+      → m ≡ written l at (flat enc (take i xs)) → All Back (take i xs)
       → x ≡ getD xs i d → m′ ≡ written m (at + n * i) (enc x) → Back x
       → (m′ ≡ written l at (flat enc (take (i + 1) xs))) × All Back (take (i + 1) xs)
   rows-turn l m m′ at i xs x d h e all p q back =
@@ -55,7 +56,8 @@ module _ {A : Type 0} (enc : A → List ℕ) (n : ℕ) (size : (x : A) → lengt
   rows-all l m at i xs h e all = (e ∙ rw (take-all i xs h), rw (take-all i xs h) at all)
 
   -- what stands in the words of part i at place j
-  pub flat-at : (xs : List A) (rest : List ℕ) (i j : ℕ) (d : A) → i < length xs → j < n → getD (flat enc xs ++ rest) (n * i + j) 0 ≡ getD (enc (getD xs i d)) j 0
+  pub flat-at : (xs : List A) (rest : List ℕ) (i j : ℕ) (d : A) → i < length xs → j < n
+      → getD (flat enc xs ++ rest) (n * i + j) 0 ≡ getD (enc (getD xs i d)) j 0
   unfolding flat
   flat-at [] rest i j d h k = absurd (omega arith)
   flat-at (x ∷ xs) rest zero j d h k =
@@ -63,7 +65,8 @@ module _ {A : Type 0} (enc : A → List ℕ) (n : ℕ) (size : (x : A) → lengt
       rw (e, append-assoc (enc x) (flat enc xs) rest) (List·getD-append (enc x) (flat enc xs ++ rest) 0 j (omega (arith, size x)))
   flat-at (x ∷ xs) rest (suc i) j d h k =
       let e : n * suc i + j ≡ length (enc x) + (n * i + j) = omega (arith, size x, mul-suc n i) in
-      rw (e, append-assoc (enc x) (flat enc xs) rest) (getD-append-add (enc x) (flat enc xs ++ rest) (n * i + j) 0 ∙ flat-at xs rest i j d (omega arith) k)
+      rw (e, append-assoc (enc x) (flat enc xs) rest)
+      (getD-append-add (enc x) (flat enc xs ++ rest) (n * i + j) 0 ∙ flat-at xs rest i j d (omega arith) k)
 
 pub slots-none : (l : List ℕ) (at : ℕ) (xs : List Slot) → SoFar slotWords SlotBack xs l at 0 l
 slots-none l at xs = let h = rows-none slotWords 4 (λ x. refl) SlotBack l at xs in record { stored = h .0; backs = h .1 }
@@ -98,7 +101,8 @@ calls-all l m at i xs n h s =
 pub totals-none : (l : List ℕ) (at : ℕ) (xs : List MonthTotal) → SoFar totalWords TotalBack xs l at 0 l
 totals-none l at xs = let h = rows-none totalWords 3 (λ x. refl) TotalBack l at xs in record { stored = h .0; backs = h .1 }
 
-pub totals-turn : (l m m′ : List ℕ) (at i : ℕ) (xs : List MonthTotal) (d : MonthTotal) → length xs ≡ 16 → i < 16 → SoFar totalWords TotalBack xs l at i m
+pub totals-turn : (l m m′ : List ℕ) (at i : ℕ) (xs : List MonthTotal) (d : MonthTotal) → length xs ≡ 16 → i < 16
+    → SoFar totalWords TotalBack xs l at i m
     → m′ ≡ written m (at + 3 * i) (totalWords (getD xs i d)) → TotalBack (getD xs i d) → SoFar totalWords TotalBack xs l at (i + 1) m′
 totals-turn l m m′ at i xs d n h s q b =
     let k = rows-turn totalWords 3 (λ x. refl) TotalBack l m m′ at i xs (getD xs i d) d (omega arith) (s .stored) (s .backs) refl q b in

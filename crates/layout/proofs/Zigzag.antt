@@ -10,7 +10,7 @@ use mir.Facts.{toZ-ofZ, toZ-pos}
 use mir.Syntax.{w64}
 use mir.Val.{Fits, SFits, toZ, ofZ}
 use lib.Dec.{T, ltb}
-use lib.IntN.{ℤ, pos, negsuc, natAbs, negℤ, predℤ, _+ℤ_, _-ℤ_, +ℤ-comm, -ℤ-one}
+use lib.IntN.{ℤ, pos, negsuc, natAbs, negℤ, predℤ, _-ℤ_, +ℤ-comm, -ℤ-one}
 use lib.Signed.{ltZ, nonNeg}
 use Rattle.layout.specs.Parts.{signedOf, zigzagOf}
 

@@ -17,19 +17,21 @@ use mir.Val.{SFits, toZ, ofZ}
 use mir.Facts.{toZ-ofZ}
 use Rattle.laws.specs.Cases.{clash}
 use Rattle.laws.specs.Integers.{natAbs-add, sumOf, sumOf-turn}
+use Rattle.laws.specs.Signed.{fits-natAbs}
+use Rattle.laws.specs.Read.{read}
 use Rattle.manual.specs.Figures.{bound, wrongCount, allWithin, outOfRange, summed}
 use Rattle.manual.specs.declared.Sum.the-variants.{Total, Refused}
 
 -- ---- one figure
 
-pub above-low : (x : ℤ) → SFits w64 x → leZ (negsuc 999999999999) (toZ w64 (ofZ w64 x)) ≡ true → leZ (toZ w64 (ofZ w64 x)) (pos 1000000000000) ≡ leb (natAbs x) bound
+pub above-low : (x : ℤ) → SFits w64 x → leZ (negsuc 999999999999) (read x) ≡ true → leZ (read x) (pos 1000000000000) ≡ leb (natAbs x) bound
 above-low x f p = rw (toZ-ofZ f) (plain x (rw (toZ-ofZ f) at p))
   where
     plain : (x : ℤ) → leZ (negsuc 999999999999) x ≡ true → leZ x (pos 1000000000000) ≡ leb (natAbs x) bound
     plain (pos n) p = refl
     plain (negsuc n) p = sym (leb·suc-suc n 999999999999 ∙ p)
 
-pub below-low : (x : ℤ) → SFits w64 x → leZ (negsuc 999999999999) (toZ w64 (ofZ w64 x)) ≡ false → leZ (negsuc 999999999999) (toZ w64 (ofZ w64 x)) ≡ leb (natAbs x) bound
+pub below-low : (x : ℤ) → SFits w64 x → leZ (negsuc 999999999999) (read x) ≡ false → leZ (negsuc 999999999999) (read x) ≡ leb (natAbs x) bound
 below-low x f p = rw (toZ-ofZ f) (plain x (rw (toZ-ofZ f) at p))
   where
     plain : (x : ℤ) → leZ (negsuc 999999999999) x ≡ false → leZ (negsuc 999999999999) x ≡ leb (natAbs x) bound
@@ -58,11 +60,8 @@ SoFar l s i =
 grown : (s x : ℤ) (k : ℕ) → natAbs s ≤ k * bound → natAbs x ≤ bound → natAbs (s +ℤ x) ≤ (k + 1) * bound
 grown s x k p q = le-trans (natAbs-add s x) (omega arith)
 
-fits-within : (z : ℤ) → natAbs z ≤ 16 * bound → SFits w64 z
-fits-within (pos n) h = record { sfits = omega arith }
-fits-within (negsuc n) h = record { sfits = omega arith }
-
-module _ (t : Bool) (l : List ℤ) (s i : ℕ) (f : SFits w64 (getD l i (pos 0))) (h : i < length l) (few : length l ≤ 16) (said : t ≡ leb (natAbs (toZ w64 (ofZ w64 (getD l i (pos 0))))) bound) (inv : SoFar l s i) where
+module _ (t : Bool) (l : List ℤ) (s i : ℕ) (f : SFits w64 (getD l i (pos 0))) (h : i < length l) (few : length l ≤ 16)
+    (said : t ≡ leb (natAbs (read (getD l i (pos 0)))) bound) (inv : SoFar l s i) where
   found : t ≡ leb (natAbs (getD l i (pos 0))) bound
   found = rw (toZ-ofZ f) at said
 
@@ -79,18 +78,19 @@ module _ (t : Bool) (l : List ℤ) (s i : ℕ) (f : SFits w64 (getD l i (pos 0))
   unfolding allWithin
   in-range p = rw (add-one i) (rw (drop-cons l i (pos 0) h, sym found ∙ p) at (inv .1))
 
-  small : t ≡ true → natAbs (toZ w64 s +ℤ toZ w64 (ofZ w64 (getD l i (pos 0)))) ≤ (i + 1) * bound
+  small : t ≡ true → natAbs (toZ w64 s +ℤ read (getD l i (pos 0))) ≤ (i + 1) * bound
   small p =
       rw (toZ-ofZ f)
       (grown (toZ w64 s) (getD l i (pos 0)) i (inv .2) (leb-true (natAbs (getD l i (pos 0))) bound (sym found ∙ p)))
 
   -- the sum does not overflow
-  pub sum-fits : t ≡ true → SFits w64 (toZ w64 s +ℤ toZ w64 (ofZ w64 (getD l i (pos 0))))
-  sum-fits p = fits-within _ (le-trans (small p) (omega arith))
+  pub sum-fits : t ≡ true → SFits w64 (toZ w64 s +ℤ read (getD l i (pos 0)))
+  sum-fits p = fits-natAbs _ (omega (arith, small p))
 
-  pub sum-again : t ≡ true → SoFar l (ofZ w64 (toZ w64 s +ℤ toZ w64 (ofZ w64 (getD l i (pos 0))))) (i + 1)
+  pub sum-again : t ≡ true → SoFar l (ofZ w64 (toZ w64 s +ℤ read (getD l i (pos 0)))) (i + 1)
   sum-again p =
-      (omega arith, in-range p, rw (toZ-ofZ (sum-fits p)) (small p), rw (toZ-ofZ (sum-fits p), toZ-ofZ f) (sym (sumOf-turn (toZ w64 s) l i h) ∙ inv .3))
+      let e = toZ-ofZ (sum-fits p) in
+      (omega arith, in-range p, rw e (small p), rw (e, toZ-ofZ f) (sym (sumOf-turn (toZ w64 s) l i h) ∙ inv .3))
 
 -- ---- the loop's end
 

@@ -8,10 +8,11 @@ use lib.Seq.{drop-cons}
 use lib.IntN.{ℤ, pos, natAbs}
 use lib.Signed.{ltZ}
 use mir.Syntax.{w64}
-use mir.Val.{SFits, toZ, ofZ}
+use mir.Val.{SFits}
 use mir.Facts.{toZ-ofZ}
 use Rattle.laws.specs.Cases.{split}
 use Rattle.laws.specs.Integers.{larger, larger-comm, larger-assoc, above-natural}
+use Rattle.laws.specs.Read.{read}
 use Rattle.manual.specs.Minimum.{minimumOf}
 use Rattle.manual.specs.Annual.{largestTotal, annualAmount}
 
@@ -43,7 +44,9 @@ raisedBy-begins role m [] e = e
 raisedBy-begins role m (a ∷ l) e = rw e (ap natAbs (raisedBy-largest (minimumOf role) a l))
 
 -- a turn raises the amount by the next total
-pub raisedBy-turn : (role m r i : ℕ) (l : List ℤ) → i < length l → SFits w64 (getD l i (pos 0)) → r ≡ natAbs (larger (toZ w64 (ofZ w64 (getD l i (pos 0)))) (pos m)) → raisedBy m (drop i l) ≡ annualAmount role l → raisedBy r (drop (i + 1) l) ≡ annualAmount role l
+pub raisedBy-turn : (role m r i : ℕ) (l : List ℤ) → i < length l → SFits w64 (getD l i (pos 0))
+    → r ≡ natAbs (larger (read (getD l i (pos 0))) (pos m)) → raisedBy m (drop i l) ≡ annualAmount role l
+    → raisedBy r (drop (i + 1) l) ≡ annualAmount role l
 unfolding raisedBy
 raisedBy-turn role m r i l h f e p = rw (e, toZ-ofZ f, add-one i) (rw (drop-cons l i (pos 0) h) at p)
 

@@ -3,15 +3,16 @@ use Prim.Native.Nat.{ℕ, zero, suc, _≤_, _<_}
 use mathlib.Core.Path.{_≡_, refl, sym, _∙_, ap}
 use mathlib.Core.Bool.{Bool, true, false, _&&_, and-assoc, and-true}
 use mathlib.Core.List.{List, [], _∷_, _++_}
-use native.Mathlib.Nat.{le-trans, not-suc-le-zero, le-of-suc-le-suc}
+use native.Mathlib.Nat.{le-trans}
 use native.Mathlib.Omega.{arith}
 use borrow.Author.Tests.{ltb-false, leb-true, not-false}
 use lib.Dec.{ltb, leb, eqb}
-use lib.ListN.{length, getD, replicate}
+use lib.ListN.{length, replicate}
 use lib.IntN.{ℤ, pos, natAbs}
 use lib.Signed.{ltZ}
 use Rattle.laws.specs.Cases.{split, and-left, and-right, and-both, or-second}
-use Rattle.laws.specs.Integers.{above-natural, above-less, above-positive, larger-within, Within, sumOf, sumOf-bound}
+use Rattle.laws.specs.Every.{every, every-default}
+use Rattle.laws.specs.Integers.{above-less, above-positive, larger-within, Within, sumOf, sumOf-bound}
 use Rattle.manual.specs.Minimum.{minimums, minimumOf}
 use Rattle.manual.specs.Charge.{dayCharge}
 use Rattle.manual.specs.Check.{exceedsTolerance, exceedsEach, callIsMade, checked}
@@ -20,20 +21,10 @@ use Rattle.manual.specs.Figures.{bound, wrongCount, allWithin, outOfRang
 
 -- ---- the minimum guarantee and the day charge
 
--- whether each number of a table is at most b
-eachAtMost : ℕ → List ℕ → Bool
-eachAtMost b [] = true
-eachAtMost b (x ∷ l) = leb x b && eachAtMost b l
-
-eachAtMost-at : (b : ℕ) (l : List ℕ) (i : ℕ) → eachAtMost b l ≡ true → getD l i 0 ≤ b
-unfolding eachAtMost
-eachAtMost-at b [] i p = omega arith
-eachAtMost-at b (x ∷ l) zero p = leb-true x b (and-left (leb x b) (eachAtMost b l) p)
-eachAtMost-at b (x ∷ l) (suc i) p = eachAtMost-at b l i (and-right (leb x b) (eachAtMost b l) p)
-
 pub minimumOf-bound : (role : ℕ) → minimumOf role ≤ 2000000
-unfolding minimumOf eachAtMost
-minimumOf-bound role = eachAtMost-at 2000000 minimums role refl
+unfolding minimumOf every
+minimumOf-bound role =
+    leb-true (minimumOf role) 2000000 (every-default (λ x. leb x 2000000) minimums role 0 refl refl)
 
 pub dayCharge-zero : dayCharge 0 ≡ 0
 unfolding dayCharge
@@ -50,37 +41,12 @@ module _ (e : ℤ) (d firm : ℕ) (opens : List ℕ) (called : callIsMade e d fi
   unfolding callIsMade
   callIsMade-tolerance = and-left (exceedsTolerance e d) (exceedsEach e (firm ∷ opens)) called
 
-  pub callIsMade-each : exceedsEach e (firm ∷ opens) ≡ true
-  unfolding callIsMade
-  callIsMade-each = and-right (exceedsTolerance e d) (exceedsEach e (firm ∷ opens)) called
-
   -- the total exceeds the deposited guarantee
   pub callIsMade-above : d < natAbs e
   unfolding exceedsTolerance
   callIsMade-above = above-less d e (and-left (ltZ (pos d) e) _ callIsMade-tolerance)
 
-  -- the total is a natural number
-  pub callIsMade-natural : e ≡ pos (natAbs e)
-  unfolding exceedsTolerance
-  callIsMade-natural = above-natural d e (and-left (ltZ (pos d) e) _ callIsMade-tolerance)
-
-  -- the total exceeds the firm amount
-  pub callIsMade-firm : firm < natAbs e
-  unfolding exceedsEach
-  callIsMade-firm = above-less firm e (and-left (ltZ (pos firm) e) (exceedsEach e opens) callIsMade-each)
-
-  -- the total exceeds each open call
-  pub callIsMade-opens : exceedsEach e opens ≡ true
-  unfolding exceedsEach
-  callIsMade-opens = and-right (ltZ (pos firm) e) (exceedsEach e opens) callIsMade-each
-
--- a total that exceeds each amount of a list exceeds the one at an index
-pub exceedsEach-at : (e : ℤ) (l : List ℕ) → exceedsEach e l ≡ true → (i : ℕ) → i < length l → getD l i 0 < natAbs e
-unfolding exceedsEach
-exceedsEach-at e [] p i h = absurd (not-suc-le-zero h)
-exceedsEach-at e (a ∷ l) p zero h = above-less a e (and-left (ltZ (pos a) e) (exceedsEach e l) p)
-exceedsEach-at e (a ∷ l) p (suc i) h = exceedsEach-at e l (and-right (ltZ (pos a) e) (exceedsEach e l) p) i (le-of-suc-le-suc h)
-
+-- a total exceeds each amount of two lists where it exceeds each of both
 pub exceedsEach-append : (e : ℤ) (l m : List ℕ) → exceedsEach e (l ++ m) ≡ (exceedsEach e l && exceedsEach e m)
 unfolding exceedsEach
 exceedsEach-append e [] m = refl
@@ -113,7 +79,8 @@ allWithin-within : (l : List ℤ) → allWithin l ≡ true → Within bound l
 unfolding allWithin Within
 allWithin-within [] p = tt
 allWithin-within (x ∷ l) p =
-    (leb-true (natAbs x) bound (and-left (leb (natAbs x) bound) (allWithin l) p), allWithin-within l (and-right (leb (natAbs x) bound) (allWithin l) p))
+    let t = leb (natAbs x) bound in
+    (leb-true (natAbs x) bound (and-left t (allWithin l) p), allWithin-within l (and-right t (allWithin l) p))
 
 -- the figures' number, where cause 10 does not hold
 pub wrongCount-at-most : (l : List ℤ) → wrongCount l ≡ false → length l ≤ 16

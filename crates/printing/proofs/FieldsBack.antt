@@ -13,7 +13,8 @@ use Rattle.laws.specs.Lists.{All}
 use Rattle.calendar.specs.declared.Day.{Day}
 use Rattle.calendar.specs.declared.Month.{Month}
 use Rattle.journal.specs.Names.{readAs, readNumber}
-use Rattle.journal.specs.Fields.{Left, more, nextOf, taken, fieldOf, closed, Numbers, withNumber, numbersOf, wordsLeft, figuresOf, listOf, onLists, listsOf}
+use Rattle.journal.specs.Fields.{Left, more, nextOf, taken, fieldOf, closed}
+use Rattle.journal.specs.Fields.{Numbers, withNumber, numbersOf, wordsLeft, figuresOf, listOf, onLists, listsOf}
 use Rattle.journal.specs.Grammar.{dayNumbered, monthNumbered}
 use Rattle.words.specs.declared.numbers.Number.{Number}
 use Rattle.journal.specs.declared.Request.{Request}

@@ -13,15 +13,11 @@ use lib.ListN.{length, take, drop, getD, drop-of-length-le, length-drop}
 use lib.Seq.{drop-cons, take-all, drop-drop}
 use lib.IntN.{ℤ, pos}
 use Rattle.laws.specs.Cases.{split}
-use Rattle.calendar.specs.declared.Day.{Day}
-use Rattle.calendar.specs.declared.Month.{Month}
 use Rattle.words.specs.Text.{text}
 use Rattle.journal.specs.declared.Reason.{Reason}
 use Rattle.journal.specs.declared.Request.{Request}
-use Rattle.journal.specs.declared.Lengths.{Lengths}
 use Rattle.printing.specs.Decimals.{decimal, integer, spaced, joined}
-use Rattle.printing.specs.Lines.{callWords, printed, cut, listWords}
-use Rattle.journal.specs.Grammar.{lengthList}
+use Rattle.printing.specs.Lines.{printed, cut, listWords}
 use Rattle.printing.specs.Answers.{reasonText, answerWords, answerLine}
 use Rattle.printing.specs.Placed.{Put}
 use Rattle.printing.specs.declared.Answer.{Answer}
@@ -75,7 +71,8 @@ module _ (e f g d : List ℕ) (at p q r : ℕ) where
   pub put-cash : (a b c : List ℕ) → Put (joined (text "lodge" ∷ a ∷ b ∷ [])) e at p f → Put (text " cash") f p q g → Put (spaced (c ∷ [])) g q r d
       → Put (joined (text "lodge" ∷ a ∷ b ∷ text "cash" ∷ c ∷ [])) e at r d
   put-cash a b c x y z =
-      put-more e g d at q r (text "lodge") (a ∷ b ∷ text "cash" ∷ []) (c ∷ []) (put-more e f g at p q (text "lodge") (a ∷ b ∷ []) (text "cash" ∷ []) x (rw (cash-spaced) y)) z
+      put-more e g d at q r (text "lodge") (a ∷ b ∷ text "cash" ∷ []) (c ∷ [])
+      (put-more e f g at p q (text "lodge") (a ∷ b ∷ []) (text "cash" ∷ []) x (rw cash-spaced y)) z
 
   pub put-fault : (l w : List ℕ) → Put (joined (text "error" ∷ l ∷ [])) e at p f → Put (32 ∷ []) f p q g → Put w g q r d
       → Put (joined (text "error" ∷ l ∷ w ∷ [])) e at r d
@@ -84,7 +81,8 @@ module _ (e f g d : List ℕ) (at p q r : ℕ) where
   pub put-statement : (a b c k m : List ℕ) → Put (joined (text "statement" ∷ a ∷ b ∷ c ∷ [])) e at p f → Put (spaced (k ∷ [])) f p q g
       → Put (spaced (m ∷ [])) g q r d → Put (joined (text "statement" ∷ a ∷ b ∷ c ∷ k ∷ m ∷ [])) e at r d
   put-statement a b c k m x y z =
-      put-more e g d at q r (text "statement") (a ∷ b ∷ c ∷ k ∷ []) (m ∷ []) (put-more e f g at p q (text "statement") (a ∷ b ∷ c ∷ []) (k ∷ []) x y) z
+      put-more e g d at q r (text "statement") (a ∷ b ∷ c ∷ k ∷ []) (m ∷ [])
+      (put-more e f g at p q (text "statement") (a ∷ b ∷ c ∷ []) (k ∷ []) x y) z
 
 -- Numbers with a blank before each, one by one.
 
@@ -103,7 +101,8 @@ spaced-nil : spaced [] ≡ []
 unfolding spaced
 spaced-nil = refl
 
-pub integers-done : (x : List ℕ) (zs : List ℤ) (e f : List ℕ) (at p i : ℕ) → length zs ≤ i → Putting x (spaced (map integer (drop i zs))) e at p f → Put x e at p f
+pub integers-done : (x : List ℕ) (zs : List ℤ) (e f : List ℕ) (at p i : ℕ) → length zs ≤ i
+    → Putting x (spaced (map integer (drop i zs))) e at p f → Put x e at p f
 integers-done x zs e f at p i h w = putting-ends x (spaced (map integer (drop i zs))) e f at p w (rw (drop-of-length-le zs h) spaced-nil)
 
 -- Lists, one by one.
@@ -132,7 +131,8 @@ rest-is zs k n h =
 
 -- the next list and the rest
 lists-next : (n : ℕ) (ks : List ℕ) (zs : List ℤ)
-    → spaced (listWords (cut (n ∷ ks) zs)) ≡ spaced (decimal (length (take n zs)) ∷ map integer (take n zs)) ++ spaced (listWords (cut ks (drop n zs)))
+    → spaced (listWords (cut (n ∷ ks) zs))
+    ≡ spaced (decimal (length (take n zs)) ∷ map integer (take n zs)) ++ spaced (listWords (cut ks (drop n zs)))
 unfolding cut listWords
 lists-next n ks zs = spaced-append (decimal (length (take n zs)) ∷ map integer (take n zs)) (listWords (cut ks (drop n zs)))
 
@@ -147,7 +147,8 @@ lists-more x ks zs e f g at p q i k n end h b c d w z =
     let o : drop i ks ≡ n ∷ drop (i + 1) ks = rw (c, add-one i) (drop-cons ks i 0 h) in
     let t : take (end - k) (drop k zs) ≡ take n (drop k zs) = ap (λ (m : ℕ). take (m - k) (drop k zs)) d ∙ part-is zs k n b in
     let r : drop end zs ≡ drop n (drop k zs) = ap (λ (m : ℕ). drop m zs) d ∙ rest-is zs k n b in
-    putting-goes x (spaced (listWords (cut (drop i ks) (drop k zs)))) (listBytes (take (end - k) (drop k zs))) (spaced (listWords (cut (drop (i + 1) ks) (drop end zs))))
+    putting-goes x (spaced (listWords (cut (drop i ks) (drop k zs)))) (listBytes (take (end - k) (drop k zs)))
+    (spaced (listWords (cut (drop (i + 1) ks) (drop end zs))))
     e f g at p q w (rw (o, t, r) (lists-next n (drop (i + 1) ks) (drop k zs))) z
 
 no-lists : (zs : List ℤ) → spaced (listWords (cut [] zs)) ≡ []
@@ -159,154 +160,25 @@ pub lists-done : (x : List ℕ) (ks : List ℕ) (zs : List ℤ) (e f : List ℕ)
 lists-done x ks zs e f at p i h w =
     putting-ends x (spaced (listWords (cut (drop i ks) zs))) e f at p w (rw (drop-of-length-le ks h) (no-lists zs))
 
--- What is wrong with a line, by the reason.
+-- What is wrong with a line, by the reason, and an answer and a call, by their kind.
 
-module _ (why : Reason) (e g : List ℕ) (at q : ℕ) where
-  pub control-byte : why ≡ Reason.ControlByte → Put (text "a control byte") e at q g → Put (reasonText why) e at q g
-  control-byte k x = rw k x
+module _ (e g : List ℕ) (at q : ℕ) where
+  pub reason-is : (why r : Reason) → why ≡ r → Put (reasonText r) e at q g → Put (reasonText why) e at q g
+  reason-is why r k x = rw k x
 
-  pub no-call : why ≡ Reason.NoCall → Put (text "no such call") e at q g → Put (reasonText why) e at q g
-  no-call k x = rw k x
+  pub answer-is : (answer a : Answer) → answer ≡ a → Put (answerLine a) e at q g → Put (answerLine answer) e at q g
+  answer-is answer a k x = rw k x
 
-  pub too-few : why ≡ Reason.TooFewWords → Put (text "too few words") e at q g → Put (reasonText why) e at q g
-  too-few k x = rw k x
+  pub call-is : (request r : Request) (zs : List ℤ) → request ≡ r → Put (printed r zs) e at q g → Put (printed request zs) e at q g
+  call-is request r zs k x = rw k x
 
-  pub too-many : why ≡ Reason.TooManyWords → Put (text "too many words") e at q g → Put (reasonText why) e at q g
-  too-many k x = rw k x
-
-  pub no-number : why ≡ Reason.NotNumber → Put (text "not a number") e at q g → Put (reasonText why) e at q g
-  no-number k x = rw k x
-
-  pub no-day : why ≡ Reason.NotDay → Put (text "not a day") e at q g → Put (reasonText why) e at q g
-  no-day k x = rw k x
-
-  pub no-month : why ≡ Reason.NotMonth → Put (text "not a month") e at q g → Put (reasonText why) e at q g
-  no-month k x = rw k x
-
-  pub no-role : why ≡ Reason.NotRole → Put (text "not a role") e at q g → Put (reasonText why) e at q g
-  no-role k x = rw k x
-
-  pub no-cash-or-letter : why ≡ Reason.NotCashOrLetter → Put (text "neither cash nor letter") e at q g → Put (reasonText why) e at q g
-  no-cash-or-letter k x = rw k x
-
-  pub too-long : why ≡ Reason.TooLong → Put (text "line too long") e at q g → Put (reasonText why) e at q g
-  too-long k x = rw k x
-
-  pub fresh-later : why ≡ Reason.FreshLater → Put (text "fresh is not the first call") e at q g → Put (reasonText why) e at q g
-  fresh-later k x = rw k x
-
-  pub no-newline : why ≡ Reason.NoNewline → Put (text "line without newline, not taken") e at q g → Put (reasonText why) e at q g
-  no-newline k x = rw k x
-
-  pub read-only : why ≡ Reason.ReadOnly → Put (text "only questions, the journal is read") e at q g → Put (reasonText why) e at q g
-  read-only k x = rw k x
-
--- Answers, by their kind.
-
-module _ (answer : Answer) (e g : List ℕ) (at q : ℕ) where
-  pub answer-done : answer ≡ Answer.Done → Put (text "done") e at q g → Put (answerLine answer) e at q g
-  unfolding answerLine answerWords joined spaced
-  answer-done k x = rw k x
-
-  pub answer-refused : (n : ℕ) → answer ≡ Answer.Refused n → Put (joined (text "refused" ∷ decimal n ∷ [])) e at q g → Put (answerLine answer) e at q g
+  -- the numbers that may have a minus
+  pub answer-covered : (answer : Answer) (z : ℤ) → answer ≡ Answer.Covered z → Put (joined (text "covered" ∷ integer z ∷ [])) e at q g
+      → Put (answerLine answer) e at q g
   unfolding answerLine answerWords
-  answer-refused n k x = rw k x
+  answer-covered answer z k x = rw k x
 
-  pub answer-called : (a b : ℕ) (d : Day) → answer ≡ Answer.Called a b d → Put (joined (text "called" ∷ decimal a ∷ decimal b ∷ decimal (d .0) ∷ [])) e at q g → Put (answerLine answer) e at q g
+  pub answer-recorded : (answer : Answer) (z : ℤ) → answer ≡ Answer.Recorded z → Put (joined (text "recorded" ∷ integer z ∷ [])) e at q g
+      → Put (answerLine answer) e at q g
   unfolding answerLine answerWords
-  answer-called a b d k x = rw k x
-
-  pub answer-covered : (z : ℤ) → answer ≡ Answer.Covered z → Put (joined (text "covered" ∷ integer z ∷ [])) e at q g → Put (answerLine answer) e at q g
-  unfolding answerLine answerWords
-  answer-covered z k x = rw k x
-
-  pub answer-recorded : (z : ℤ) → answer ≡ Answer.Recorded z → Put (joined (text "recorded" ∷ integer z ∷ [])) e at q g → Put (answerLine answer) e at q g
-  unfolding answerLine answerWords
-  answer-recorded z k x = rw k x
-
-  pub answer-annual : (a b : ℕ) → answer ≡ Answer.Annual a b → Put (joined (text "annual" ∷ decimal a ∷ decimal b ∷ [])) e at q g → Put (answerLine answer) e at q g
-  unfolding answerLine answerWords
-  answer-annual a b k x = rw k x
-
-  pub answer-opened : (n : ℕ) → answer ≡ Answer.Opened n → Put (joined (text "opened" ∷ decimal n ∷ [])) e at q g → Put (answerLine answer) e at q g
-  unfolding answerLine answerWords
-  answer-opened n k x = rw k x
-
-  pub answer-stated : (a b c d m : ℕ) → answer ≡ Answer.Statement a b c d m → Put (joined (text "statement" ∷ decimal a ∷ decimal b ∷ decimal c ∷ decimal d ∷ decimal m ∷ [])) e at q g → Put (answerLine answer) e at q g
-  unfolding answerLine answerWords
-  answer-stated a b c d m k x = rw k x
-
-  pub answer-counted : (n : ℕ) → answer ≡ Answer.Calls n → Put (joined (text "calls" ∷ decimal n ∷ [])) e at q g → Put (answerLine answer) e at q g
-  unfolding answerLine answerWords
-  answer-counted n k x = rw k x
-
-  pub answer-guaranteed : (n : ℕ) → answer ≡ Answer.Special n → Put (joined (text "special" ∷ decimal n ∷ [])) e at q g → Put (answerLine answer) e at q g
-  unfolding answerLine answerWords
-  answer-guaranteed n k x = rw k x
-
-  pub answer-faulty : (n : ℕ) (w : Reason) → answer ≡ Answer.Error n w → Put (joined (text "error" ∷ decimal n ∷ reasonText w ∷ [])) e at q g → Put (answerLine answer) e at q g
-  unfolding answerLine answerWords
-  answer-faulty n w k x = rw k x
-
-  pub answer-nothing : answer ≡ Answer.Nothing → Put [] e at q g → Put (answerLine answer) e at q g
-  unfolding answerLine answerWords joined spaced
-  answer-nothing k x = rw k x
-
--- Calls, by their kind.
-
-module _ (request : Request) (zs : List ℤ) (e g : List ℕ) (at q : ℕ) where
-  pub line-nothing : request ≡ Request.Nothing → Put [] e at q g → Put (printed request zs) e at q g
-  unfolding printed callWords joined spaced
-  line-nothing k x = rw k x
-
-  pub line-fresh : (d : Day) → request ≡ Request.Fresh d → Put (joined (text "fresh" ∷ decimal (d .0) ∷ [])) e at q g → Put (printed request zs) e at q g
-  unfolding printed callWords
-  line-fresh d k x = rw k x
-
-  pub line-admit : (a b : ℕ) → request ≡ Request.Admit a b → Put (joined (text "admit" ∷ decimal a ∷ decimal b ∷ [])) e at q g → Put (printed request zs) e at q g
-  unfolding printed callWords
-  line-admit a b k x = rw k x
-
-  pub line-cash : (a b c : ℕ) → request ≡ Request.LodgeCash a b c → Put (joined (text "lodge" ∷ decimal a ∷ decimal b ∷ text "cash" ∷ decimal c ∷ [])) e at q g → Put (printed request zs) e at q g
-  unfolding printed callWords
-  line-cash a b c k x = rw k x
-
-  pub line-letter : (a b c : ℕ) (d m : Day) → request ≡ Request.LodgeLetter a b c d m → Put (joined (text "lodge" ∷ decimal a ∷ decimal b ∷ text "letter" ∷ decimal c ∷ decimal (d .0) ∷ decimal (m .0) ∷ [])) e at q g → Put (printed request zs) e at q g
-  unfolding printed callWords
-  line-letter a b c d m k x = rw k x
-
-  pub line-release : (a b c : ℕ) → request ≡ Request.Release a b c → Put (joined (text "release" ∷ decimal a ∷ decimal b ∷ decimal c ∷ [])) e at q g → Put (printed request zs) e at q g
-  unfolding printed callWords
-  line-release a b c k x = rw k x
-
-  pub line-settle : (a : ℕ) (m : Month) (n : ℕ) → request ≡ Request.Settle a m n → Put (joined (text "settle" ∷ decimal a ∷ decimal (m .0) ∷ map integer zs)) e at q g → Put (printed request zs) e at q g
-  unfolding printed callWords
-  line-settle a m n k x = rw k x
-
-  pub line-annual : (a : ℕ) → request ≡ Request.Annual a → Put (joined (text "annual" ∷ decimal a ∷ [])) e at q g → Put (printed request zs) e at q g
-  unfolding printed callWords
-  line-annual a k x = rw k x
-
-  pub line-advance : (d : Day) (b : ℕ) → request ≡ Request.Advance d b → Put (joined (text "advance" ∷ decimal (d .0) ∷ decimal b ∷ [])) e at q g → Put (printed request zs) e at q g
-  unfolding printed callWords
-  line-advance d b k x = rw k x
-
-  pub line-statement : (a : ℕ) → request ≡ Request.Statement a → Put (joined (text "statement" ∷ decimal a ∷ [])) e at q g → Put (printed request zs) e at q g
-  unfolding printed callWords
-  line-statement a k x = rw k x
-
-  pub line-calls : request ≡ Request.Calls → Put (text "calls") e at q g → Put (printed request zs) e at q g
-  unfolding printed callWords joined spaced
-  line-calls k x = rw k x
-
-  pub line-special : (n : Lengths) → request ≡ Request.Special n → Put (joined (text "special" ∷ listWords (cut (lengthList n) zs))) e at q g → Put (printed request zs) e at q g
-  unfolding printed callWords
-  line-special n k x = rw k x
-
-  pub line-report : request ≡ Request.Report → Put (text "report") e at q g → Put (printed request zs) e at q g
-  unfolding printed callWords joined spaced
-  line-report k x = rw k x
-
-  pub line-error : (w : Reason) → request ≡ Request.Error w → Put [] e at q g → Put (printed request zs) e at q g
-  unfolding printed callWords joined spaced
-  line-error w k x = rw k x
+  answer-recorded answer z k x = rw k x

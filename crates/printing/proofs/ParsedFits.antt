@@ -1,15 +1,14 @@
 -- The numbers of a call that a line is fit their types, so the round trip holds of every call that was parsed.
 -- Assumes nothing.
-use Prim.Native.Nat.{ℕ, zero, suc, _-_, _≤_, _<_, min}
-use mathlib.Core.Path.{_≡_, refl, sym, ap, subst, _∙_}
-use mathlib.Core.Bool.{Bool, true, false, cond}
+use Prim.Native.Nat.{ℕ, zero, suc, _-_, _≤_, min}
+use mathlib.Core.Path.{_≡_, refl, sym, subst}
+use mathlib.Core.Bool.{Bool, true, false}
 use mathlib.Core.List.{List, [], _∷_, _++_}
 use native.Mathlib.Omega.{arith}
 use borrow.Author.Tests.{ltb-true}
 use lib.Dec.{ltb, eqb}
-use lib.IntN.{ℤ, pos, negsuc, negℤ}
-use lib.Signed.{mag}
-use lib.ListN.{length, take, drop}
+use lib.IntN.{ℤ, pos, negℤ}
+use lib.ListN.{length}
 use lib.Seq.{take-append-seam, drop-append-seam}
 use Rattle.laws.specs.Cases.{split}
 use Rattle.laws.specs.Lists.{All}
@@ -19,12 +18,15 @@ use Rattle.words.specs.Numerals.{natural, value, naturalOf, unsignedOf, negativ
 use Rattle.words.specs.declared.numbers.Number.{Number}
 use Rattle.words.specs.declared.numbers.Signed.{Signed}
 use Rattle.journal.specs.Names.{callNames, roleNames, roleIn, readNumber, whyNot}
-use Rattle.journal.specs.Fields.{Left, more, fault, nextOf, taken, fieldOf, closed, Numbers, withNumber, numbersOf, wordsLeft, figuresOf, listOf, onLists, listsOf}
-use Rattle.journal.specs.Grammar.{Parsed, plain, areMarks, lengthsOf, lengthList, total, dayNumbered, monthNumbered, freshOf, admitOf, cashOf, letterOf, lodgeOf, releaseOf, settleOf, annualOf, advanceOf, statementOf, specialOf, callsOf, namedCall, wordsOf, parsed}
+use Rattle.journal.specs.Fields.{Left, more, fault, nextOf, taken, fieldOf, closed}
+use Rattle.journal.specs.Fields.{Numbers, withNumber, numbersOf, wordsLeft, figuresOf, listOf, onLists, listsOf}
+use Rattle.journal.specs.Grammar.{Parsed, plain, areMarks, lengthsOf, lengthList, dayNumbered, monthNumbered}
+use Rattle.journal.specs.Grammar.{freshOf, admitOf, cashOf, letterOf, lodgeOf, releaseOf, settleOf}
+use Rattle.journal.specs.Grammar.{annualOf, advanceOf, statementOf, specialOf, callsOf, namedCall, wordsOf, parsed}
 use Rattle.journal.specs.declared.Reason.{Reason}
 use Rattle.journal.specs.declared.Request.{Request}
 use Rattle.journal.specs.declared.fields.Kind.{Kind}
-use Rattle.journal.proofs.Room.{at-place, parsed-fits}
+use Rattle.journal.proofs.Room.{_&_, at-place, parsed-fits}
 use Rattle.journal.proofs.Counts.{countOf, IsCall, parsed-counted}
 use Rattle.journal.proofs.ListLaws.{lists-many}
 use Rattle.printing.specs.Lines.{cut, Natural64, Natural32, Holds, Hold, Fitting, printed}
@@ -230,9 +232,9 @@ special-fits : (room : ℕ) (l : Left) → Fits (specialOf room l)
 unfolding specialOf
 special-fits room l =
     let t = listsOf areMarks room l in
+    let e = sym (seven-lengths (t .lengths) (lists-many areMarks room l)) in
     closed-fits (t .left) (Request.Special (lengthsOf (t .lengths))) (t .numbers)
-    (λ n k.
-    (n, k, subst (λ (ks : List ℕ). Hold areMarks (cut ks (t .numbers))) (sym (seven-lengths (t .lengths) (lists-many areMarks room l))) (lists-held areMarks room l)))
+    (λ n k. (n, k, subst (λ (ks : List ℕ). Hold areMarks (cut ks (t .numbers))) e (lists-held areMarks room l)))
 
 no-call-fits : Fits (plain (Request.Error Reason.NoCall))
 unfolding Fits
@@ -242,7 +244,8 @@ call-fits : (room k : ℕ) (l : Left) → Fits (namedCall room k l)
 unfolding namedCall callsOf
 call-fits room k l =
     at-place Fits (callsOf room l) k (plain (Request.Error Reason.NoCall))
-    (fresh-fits l, (admit-fits l, (lodge-fits l, (release-fits l, (settle-fits room l, (annual-fits l, (advance-fits l, (statement-fits l, (plain-fits l Request.Calls refl, (special-fits room l, (plain-fits l Request.Report refl, tt)))))))))))
+    (fresh-fits l & admit-fits l & lodge-fits l & release-fits l & settle-fits room l & annual-fits l & advance-fits l
+    & statement-fits l & plain-fits l Request.Calls refl & special-fits room l & plain-fits l Request.Report refl & tt)
     no-call-fits
 
 words-fitting : (room : ℕ) (ws : List (List ℕ)) → Fits (wordsOf room ws)

@@ -21,7 +21,8 @@ use Rattle.printing.specs.PlacedLaws.{put-then, decimal-step, decimal-sm
 pub number-small : (n b at q : ℕ) (e g : List ℕ) → n < 10 → b ≡ 48 + n % 10 → Put (b ∷ []) e at q g → Put (decimal n) e at q g
 number-small n b at q e g h k z = rw (decimal-small n h, ← k) z
 
-pub number-large : (n b at p q : ℕ) (e f g : List ℕ) → 10 ≤ n → b ≡ 48 + n % 10 → Put (decimal (n / 10)) e at p f → Put (b ∷ []) f p q g → Put (decimal n) e at q g
+pub number-large : (n b at p q : ℕ) (e f g : List ℕ) → 10 ≤ n → b ≡ 48 + n % 10 → Put (decimal (n / 10)) e at p f
+    → Put (b ∷ []) f p q g → Put (decimal n) e at q g
 number-large n b at p q e f g h k x z =
     rw (decimal-step n h, ← k) (put-then (decimal (n / 10)) (b ∷ []) e f g at p q x z)
 

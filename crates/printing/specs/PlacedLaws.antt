@@ -92,7 +92,8 @@ module _ (bs e f : List ℕ) (at r : ℕ) (x : Put bs e at r f) (room : at + len
   pub put-bytes : take (length bs) (drop at f) ≡ bs
   put-bytes =
       let l : length (take at e) ≡ at = length-take-le at e (omega arith) in
-      let k : f ≡ take at e ++ (bs ++ drop (at + length bs) e) = x .written ∙ sets-eq bs e at room ∙ append-assoc (take at e) bs (drop (at + length bs) e) in
+      let k : f ≡ take at e ++ (bs ++ drop (at + length bs) e) =
+      x .written ∙ sets-eq bs e at room ∙ append-assoc (take at e) bs (drop (at + length bs) e) in
       rw (k, drop-at (take at e) (bs ++ drop (at + length bs) e) at l) (take-append-seam bs (drop (at + length bs) e))
 
 -- The digits of a number.

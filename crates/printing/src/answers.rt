@@ -53,7 +53,8 @@ fn put_statement(
     days: u64,
     mills: u64,
 ) -> usize
-    ensures { λ r. ⌜ Put (joined (text "statement" ∷ decimal firm ∷ decimal cover ∷ decimal shortfall ∷ decimal days ∷ decimal mills ∷ [])) (now (out .entry)) at r (now (out .exit)) ⌝ }
+    ensures { λ r. ⌜ Put (joined (text "statement" ∷ decimal firm ∷ decimal cover ∷ decimal shortfall ∷ decimal days ∷ decimal mills ∷ []))
+        (now (out .entry)) at r (now (out .exit)) ⌝ }
 {
     let next = put_three(out, at, b"statement", firm, cover, shortfall);
     let after = put_spaced(out, next, days);

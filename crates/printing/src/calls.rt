@@ -28,7 +28,8 @@ fn put_cash(out: &mut [u8], at: usize, p: u64, q: u64, a: u64) -> usize
 
 // lodge P POSITION letter AMOUNT FIRST LAST
 fn put_letter(out: &mut [u8], at: usize, p: u64, q: u64, a: u64, first: u64, last: u64) -> usize
-    ensures { λ r. ⌜ Put (joined (text "lodge" ∷ decimal p ∷ decimal q ∷ text "letter" ∷ decimal a ∷ decimal first ∷ decimal last ∷ [])) (now (out .entry)) at r (now (out .exit)) ⌝ }
+    ensures { λ r. ⌜ Put (joined (text "lodge" ∷ decimal p ∷ decimal q ∷ text "letter" ∷ decimal a ∷ decimal first ∷ decimal last ∷ []))
+        (now (out .entry)) at r (now (out .exit)) ⌝ }
 {
     let next = put_two(out, at, b"lodge", p, q);
     put_three(out, next, b" letter", a, first, last)
@@ -36,7 +37,8 @@ fn put_letter(out: &mut [u8], at: usize, p: u64, q: u64, a: u64, first: u64, las
 
 // settle P MONTH FIGURE..
 fn put_settle(out: &mut [u8], at: usize, p: u64, month: u64, figures: &[i64]) -> usize
-    ensures { λ r. ⌜ Put (joined (text "settle" ∷ decimal p ∷ decimal month ∷ map integer (now (figures .entry)))) (now (out .entry)) at r (now (out .exit)) ⌝ }
+    ensures { λ r. ⌜ Put (joined (text "settle" ∷ decimal p ∷ decimal month ∷ map integer (now (figures .entry))))
+        (now (out .entry)) at r (now (out .exit)) ⌝ }
 {
     let next = put_two(out, at, b"settle", p, month);
     put_integers(out, next, figures)
@@ -44,7 +46,8 @@ fn put_settle(out: &mut [u8], at: usize, p: u64, month: u64, figures: &[i64]) ->
 
 // A list: its length, and then its numbers.
 fn put_list(out: &mut [u8], at: usize, values: &[i64]) -> usize
-    ensures { λ r. ⌜ Put (spaced (decimal (length (now (values .entry))) ∷ map integer (now (values .entry)))) (now (out .entry)) at r (now (out .exit)) ⌝ }
+    ensures { λ r. ⌜ Put (spaced (decimal (length (now (values .entry))) ∷ map integer (now (values .entry))))
+        (now (out .entry)) at r (now (out .exit)) ⌝ }
 {
     let next = put_spaced(out, at, values.len() as u64);
     put_integers(out, next, values)
@@ -77,7 +80,8 @@ fn put_lists(out: &mut [u8], at: usize, lengths: &[usize], numbers: &[i64]) -> u
 
 // special LIST LIST LIST LIST LIST LIST LIST
 fn put_special(out: &mut [u8], at: usize, n: Lengths, numbers: &[i64]) -> usize
-    ensures { λ r. ⌜ Put (joined (text "special" ∷ listWords (cut (lengthList n) (now (numbers .entry))))) (now (out .entry)) at r (now (out .exit)) ⌝ }
+    ensures { λ r. ⌜ Put (joined (text "special" ∷ listWords (cut (lengthList n) (now (numbers .entry)))))
+        (now (out .entry)) at r (now (out .exit)) ⌝ }
 {
     let lengths = [
         n.medium,

@@ -52,7 +52,8 @@ module _ (e f g : List ℕ) (at p q : ℕ) where
   unfolding digits
   digits-none k n h = rw h (put-none e at)
 
-  pub digits-more : (k n b : ℕ) → (k ≡ 0 → ⊥) → b ≡ 48 + n % 10 → Put (digits (k - 1) (n / 10)) e at p f → Put (b ∷ []) f p q g → Put (digits k n) e at q g
+  pub digits-more : (k n b : ℕ) → (k ≡ 0 → ⊥) → b ≡ 48 + n % 10 → Put (digits (k - 1) (n / 10)) e at p f → Put (b ∷ []) f p q g
+      → Put (digits k n) e at q g
   unfolding digits
   digits-more zero n b h m x y = absurd (h refl)
   digits-more (suc k) n b h m x y =
@@ -75,7 +76,8 @@ unfolding fixed
 fixed-count k n = omega (arith, length-append (decimal (n / 10 ^ k)) (46 ∷ digits k n), digits-count k n)
 
 module _ (e f g d : List ℕ) (at p q r : ℕ) where
-  pub put-fixed : (k u n : ℕ) → u ≡ 10 ^ k → Put (decimal (n / u)) e at p f → Put (46 ∷ []) f p q g → Put (digits k n) g q r d → Put (fixed k n) e at r d
+  pub put-fixed : (k u n : ℕ) → u ≡ 10 ^ k → Put (decimal (n / u)) e at p f → Put (46 ∷ []) f p q g → Put (digits k n) g q r d
+      → Put (fixed k n) e at r d
   unfolding fixed
   put-fixed k u n h x y z =
       put-then (decimal (n / 10 ^ k)) (46 ∷ digits k n) e f d at p r (rw h at x) (put-then (46 ∷ []) (digits k n) f g d p q r y z)

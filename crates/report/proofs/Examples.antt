@@ -1,6 +1,7 @@
 -- Texts of the report, computed by the definitions.
 -- Assumes nothing.
 use mathlib.Core.Path.{_≡_, refl, ap}
+use mathlib.Core.List.{_++_}
 use Rattle.calendar.specs.DateLaws.{dateOf-dayOfDate, october-2021}
 use Rattle.words.specs.Text.{text}
 use Rattle.file.specs.Answer.{stated, decide}
@@ -39,6 +40,8 @@ line = refl
 
 -- The report of a book with no participants: the title and the heading.
 pub none : reportText (freshBook 639)
-    ≡ text "report 639 2021-10-01 0\nparticipant             role          firm EUR         cover EUR     shortfall EUR days charged            charge EUR\n"
-unfolding reportText titleLine heading tableLine inColumns padded joined spaced rows row lineOf admittedCount admittedBelow freshBook fileAt answer ifNumbered ifAdmitted decide decimal numeral
+    ≡ text "report 639 2021-10-01 0\n"
+    ++ text "participant             role          firm EUR         cover EUR     shortfall EUR days charged            charge EUR\n"
+unfolding reportText titleLine heading tableLine inColumns padded joined spaced rows row lineOf admittedCount admittedBelow freshBook fileAt answer
+    ifNumbered ifAdmitted decide decimal numeral
 none = rw date

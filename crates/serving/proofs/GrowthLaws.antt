@@ -84,7 +84,8 @@ module _ (way : Way) (room room₁ : ℕ) (s t u : State) (input : List ℕ) (st
       let b = take used (drop start input) in
       let lines : linesIn (take (start + used) input) ≡ linesIn a ++ linesIn b =
       ap linesIn (take-add start used input) ∙ lines-behind a b (d .whole) in
-      let both : allJournal way room s (linesIn (take (start + used) input)) ≡ allJournal way room s (linesIn a) ++ allJournal way room t (linesIn b) =
+      let both : allJournal way room s (linesIn (take (start + used) input))
+      ≡ allJournal way room s (linesIn a) ++ allJournal way room t (linesIn b) =
       ap (allJournal way room s) lines ∙ journal-append way room s (linesIn a) (linesIn b)
       ∙ ap (λ (z : State). allJournal way room s (linesIn a) ++ allJournal way room z (linesIn b)) (sym (d .left)) in
       grown-more silent i j k _ _ _ before more

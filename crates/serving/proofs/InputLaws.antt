@@ -27,7 +27,8 @@ pub record Moving (e : List ℕ) (from i : ℕ) (b : List ℕ) : Type 0 where
 pub none-moved : (e : List ℕ) (from : ℕ) → Moving e from 0 e
 none-moved e from = record { long = refl; moved = refl; left = λ k h. refl }
 
-pub one-moved : (e b : List ℕ) (from to i : ℕ) → Moving e from i b → to ≤ length e → i < to - from → Moving e from (i + 1) (set b i (getD b (from + i) 0))
+pub one-moved : (e b : List ℕ) (from to i : ℕ) → Moving e from i b → to ≤ length e → i < to - from
+    → Moving e from (i + 1) (set b i (getD b (from + i) 0))
 one-moved e b from to i m h k =
     let x = getD b (from + i) 0 in
     let same : x ≡ getD (drop from e) i 0 = m .left (from + i) (omega arith) ∙ sym (getD-drop from e i 0) in

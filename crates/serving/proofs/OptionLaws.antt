@@ -41,7 +41,8 @@ pub one-argument : (o : Options) (i k n : ℕ) (a : List ℕ) (dashed : Bool) �
 unfolding withArgument
 one-argument o i k n a dashed e h m = rw (m, e, h) refl
 
-pub end-line : (p : Place) (n : ℕ) (e f g h i j : List ℕ) (a b c d r : ℕ) → Put (text "end ") e 0 a f → Put (decimal (p .line)) f a b g → Put (text " ") g b c h
+pub end-line : (p : Place) (n : ℕ) (e f g h i j : List ℕ) (a b c d r : ℕ) → Put (text "end ") e 0 a f
+    → Put (decimal (p .line)) f a b g → Put (text " ") g b c h
     → n ≡ p .line - p .refused → Put (decimal n) h c d i → Put (10 ∷ []) i d r j → Put (endLine p) e 0 r j
 unfolding endLine
 end-line p n e f g h i j a b c d r u v w m x y =

@@ -29,8 +29,8 @@ pub record Delivered (before : Journal) (bytes : List ℕ) (r : Journal) : Type 
   pub well : r .ok ≡ true → before .ok ≡ true
   pub grown : r .ok ≡ true → r ≡ longerBy before (length bytes)
 
--- What becomes of lines at a place: where a journal is replayed, which is silent, the first that is refused or an error stops it; else their bytes are
--- kept and answered.
+-- What becomes of lines at a place: where a journal is replayed, which is silent, the first that is refused or an error stops it; else their bytes
+-- are kept and answered.
 pub record Became (silent : Bool) (p : Place) (before : Journal) (bytes : List ℕ) (r : Journal) : Type 0 where
   pub kept : silent ≡ false → Delivered before bytes r
   pub replayed : silent ≡ true → r ≡ stoppedIf (ltb 0 (p .refused)) before

@@ -128,7 +128,8 @@ fn take_part(
     kept: &mut [u8],
     out: &mut [u8],
 ) -> Taken
-    requires { ⌜ WellFormed (now book) × (full ≤ length (now buffer)) × (0 < length (now buffer)) × (1024 ≤ length (now kept)) × (16384 ≤ length (now out)) ⌝ }
+    requires { ⌜ WellFormed (now book) × (full ≤ length (now buffer)) × (0 < length (now buffer)) × (1024 ≤ length (now kept))
+        × (16384 ≤ length (now out)) ⌝ }
     ensures { λ r. ⌜ WellFormed (now (book .exit)) × (r .used < length (now (buffer .entry))) ⌝ }
     ensures { λ r. ⌜ PartTaken way (length (now (numbers .entry))) (stateOf (now (book .entry)) (progress .place)) (now (buffer .entry)) full
         (stateOf (now (book .exit)) (r .progress .place)) (r .progress .journal .ok) (r .used) (now (buffer .exit)) ⌝ }

@@ -1,20 +1,22 @@
 -- The guarantee of the ratios and sums, as the code multiplies, rounds, subtracts and raises.
 -- Assumes nothing.
-use Prim.Native.Nat.{ℕ, _+_, _*_, _^_, _≤_, _<_}
+use Prim.Native.Nat.{ℕ, _+_, _*_, _≤_}
 use native.Mathlib.Nat.{mul-le-mul}
 use native.Mathlib.Omega.{arith}
 use mathlib.Core.Path.{_≡_, refl, ap, _∙_}
-use mathlib.Core.Bool.{true, false, true≢false}
+use mathlib.Core.Bool.{true, false}
 use borrow.Author.Tests.{ltb-true, ltb-false}
 use lib.Dec.{T}
 use lib.IntN.{ℤ, pos, negsuc, natAbs, _+ℤ_, _-ℤ_, _*ℤ_}
-use lib.Signed.{mag, ltZ, nonNeg}
+use lib.Signed.{ltZ, nonNeg}
 use mir.Syntax.{w64}
 use mir.Val.{Fits, SFits}
-use Rattle.laws.specs.Integers.{natAbs-add}
+use mir.Facts.{toZ-ofZ}
+use Rattle.laws.specs.Cases.{clash}
+use Rattle.laws.specs.Integers.{ltZ-not-trans, cast-fits, cast-natural, natAbs-add}
 use Rattle.laws.specs.Signed.{nearest, natAbs-minus, natAbs-mul, fits-natAbs}
 use Rattle.special.specs.Guarantee.{atLeast, amount, Bounded}
-use Rattle.special.proofs.Read.{read, read-is, read-abs}
+use Rattle.laws.specs.Read.{read, read-abs}
 use Rattle.special.proofs.Means.{nearest-bound}
 
 -- ---- the minimum
@@ -27,21 +29,17 @@ low (negsuc n) e = refl
 high : (x : ℤ) → ltZ x (pos 500000) ≡ false → natAbs x ≡ atLeast 500000 x
 unfolding atLeast
 high (pos n) e = omega (arith, ltb-false n 500000 e)
-high (negsuc n) e = absurd (true≢false e)
-
-high-fits : (x : ℤ) → mag x < 2 ^ 63 → ltZ x (pos 500000) ≡ false → T (nonNeg x) × Fits w64 (natAbs x)
-high-fits (pos n) f e = (tt, record { fits = omega arith })
-high-fits (negsuc n) f e = absurd (true≢false e)
+high (negsuc n) e = clash refl e
 
 module _ (x : ℤ) (f : SFits w64 x) where
   pub raised-low : ltZ (read x) (pos 500000) ≡ true → 500000 ≡ atLeast 500000 x
-  raised-low e = low x (rw (read-is x (f .sfits)) at e)
+  raised-low e = low x (rw (toZ-ofZ f) at e)
 
   pub raised-high : ltZ (read x) (pos 500000) ≡ false → natAbs (read x) ≡ atLeast 500000 x
-  raised-high e = ap natAbs (read-is x (f .sfits)) ∙ high x (rw (read-is x (f .sfits)) at e)
+  raised-high e = ap natAbs (toZ-ofZ f) ∙ high x (rw (toZ-ofZ f) at e)
 
   pub raised-fits : ltZ (read x) (pos 500000) ≡ false → T (nonNeg (read x)) × Fits w64 (natAbs (read x))
-  raised-fits e = rw (read-is x (f .sfits)) (high-fits x (f .sfits) (rw (read-is x (f .sfits)) at e))
+  raised-fits e = (cast-natural x f (ltZ-not-trans x (pos 500000) (pos 0) (rw (toZ-ofZ f) at e) refl), cast-fits x f)
 
 -- ---- one product
 
@@ -71,7 +69,13 @@ module _ (mr ms lr ls me le : ℤ) (h : Bounded mr ms lr ls me le) where
   gross = rw (product-read mr ms (h .medium-ratio) (h .medium-sum), product-read lr ls (h .low-ratio) (h .low-sum))
 
   gross-small : natAbs (mr *ℤ ms +ℤ lr *ℤ ls) ≤ 3200032000000000000
-  gross-small = omega (arith, natAbs-add (mr *ℤ ms) (lr *ℤ ls), product-small mr ms (h .medium-ratio) (h .medium-sum), product-small lr ls (h .low-ratio) (h .low-sum))
+  gross-small =
+      omega (
+        arith,
+        natAbs-add (mr *ℤ ms) (lr *ℤ ls),
+        product-small mr ms (h .medium-ratio) (h .medium-sum),
+        product-small lr ls (h .low-ratio) (h .low-sum),
+      )
 
   pub fits-gross : SFits w64 (read (read mr *ℤ read ms) +ℤ read (read lr *ℤ read ls))
   fits-gross = rw gross (fits-natAbs (mr *ℤ ms +ℤ lr *ℤ ls) (omega (arith, gross-small)))

@@ -18,7 +18,9 @@ use Rattle.special.proofs.Means.{mean-small}
 sum-small : (l : List ℤ) → Amounts l → natAbs (sumOf l) ≤ 16000000000000
 sum-small l a = omega (arith, sum-bound 1000000000000 l (a .small), a .few)
 
-pub bounded : (medium low : Best) (zm zl em el : List ℤ) → ratesInRange (kept medium) ≡ true → ratesInRange (kept low) ≡ true → Amounts zm → Amounts zl → Amounts em → Amounts el → Bounded (meanOfThree (kept medium)) (sumOf zm) (meanOfThree (kept low)) (sumOf zl) (sumOf em) (sumOf el)
+pub bounded : (medium low : Best) (zm zl em el : List ℤ) → ratesInRange (kept medium) ≡ true → ratesInRange (kept low) ≡ true
+    → Amounts zm → Amounts zl → Amounts em → Amounts el
+    → Bounded (meanOfThree (kept medium)) (sumOf zm) (meanOfThree (kept low)) (sumOf zl) (sumOf em) (sumOf el)
 bounded medium low zm zl em el rm rl am al xm xl =
     record {
       medium-ratio = mean-small (medium .a) (medium .b) (medium .c) rm;

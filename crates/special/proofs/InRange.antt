@@ -1,46 +1,45 @@
 -- Numbers in range stay so where some are taken, sorted or skipped, and a list of excesses is one of amounts.
 -- Assumes nothing.
 use Prim.Native.Nat.{ℕ, zero, suc}
-use mathlib.Core.Path.{_≡_, refl}
-use mathlib.Core.Bool.{Bool, true, false, false≢true}
+use mathlib.Core.Path.{_≡_}
+use mathlib.Core.Bool.{Bool, true, false≢true}
 use mathlib.Core.List.{List, [], _∷_}
 use lib.Dec.{leb, eqb}
 use lib.ListN.{take}
 use lib.IntN.{ℤ, pos, negsuc, negℤ}
 use lib.Signed.{ltZ}
-use Rattle.laws.specs.Cases.{by-test, and-both, and-left, and-right}
+use Rattle.laws.specs.Cases.{by-test, and-right}
+use Rattle.laws.specs.Every.{every-nil, every-cons, every-head, every-tail}
 use Rattle.laws.specs.Largest.{insert, falling, threeLargest}
 use Rattle.special.specs.Ranges.{every, between, ratesInRange, zerosInRange, excessesInRange}
 use Rattle.special.specs.Ratio.{usable}
 
 module _ (test : ℤ → Bool) where
   every-take : (n : ℕ) (l : List ℤ) → every test l ≡ true → every test (take n l) ≡ true
-  unfolding every
-  every-take zero l e = refl
-  every-take (suc n) [] e = refl
-  every-take (suc n) (x ∷ l) e = and-both (test x) (every test (take n l)) (and-left (test x) (every test l) e) (every-take n l (and-right (test x) (every test l) e))
+  every-take zero l e = every-nil test
+  every-take (suc n) [] e = e
+  every-take (suc n) (x ∷ l) e = every-cons _ _ _ (every-head _ _ _ e) (every-take n l (every-tail _ _ _ e))
 
   every-insert : (x : ℤ) (l : List ℤ) → test x ≡ true → every test l ≡ true → every test (insert x l) ≡ true
-  unfolding every insert
-  every-insert x [] h e = and-both (test x) true h refl
+  unfolding insert
+  every-insert x [] h e = every-cons _ _ _ h e
   every-insert x (y ∷ l) h e =
-      by-test (ltZ y x) (x ∷ y ∷ l) (y ∷ insert x l) (λ m. every test m ≡ true) (λ t. and-both (test x) (every test (y ∷ l)) h e)
-      (λ t. and-both (test y) (every test (insert x l)) (and-left (test y) (every test l) e)
-      (every-insert x l h (and-right (test y) (every test l) e)))
+      by-test (ltZ y x) (x ∷ y ∷ l) (y ∷ insert x l) (λ m. every test m ≡ true) (λ t. every-cons _ _ _ h e)
+      (λ t. every-cons _ _ _ (every-head _ _ _ e) (every-insert x l h (every-tail _ _ _ e)))
 
   every-falling : (l : List ℤ) → every test l ≡ true → every test (falling l) ≡ true
-  unfolding every falling
-  every-falling [] e = refl
-  every-falling (x ∷ l) e = every-insert x (falling l) (and-left (test x) (every test l) e) (every-falling l (and-right (test x) (every test l) e))
+  unfolding falling
+  every-falling [] e = e
+  every-falling (x ∷ l) e = every-insert x (falling l) (every-head _ _ _ e) (every-falling l (every-tail _ _ _ e))
 
   every-usable : (rates : List ℤ) (marks : List ℕ) → every test rates ≡ true → every test (usable rates marks) ≡ true
-  unfolding every usable
-  every-usable [] marks e = refl
-  every-usable (x ∷ rates) [] e = and-both (test x) (every test (usable rates [])) (and-left (test x) (every test rates) e) (every-usable rates [] (and-right (test x) (every test rates) e))
+  unfolding usable
+  every-usable [] marks e = e
+  every-usable (x ∷ rates) [] e = every-cons _ _ _ (every-head _ _ _ e) (every-usable rates [] (every-tail _ _ _ e))
   every-usable (x ∷ rates) (m ∷ marks) e =
+      let h = every-usable rates marks (every-tail _ _ _ e) in
       by-test (eqb m 0) (x ∷ usable rates marks) (usable rates marks) (λ l. every test l ≡ true)
-      (λ t. and-both (test x) (every test (usable rates marks)) (and-left (test x) (every test rates) e) (every-usable rates marks (and-right (test x) (every test rates) e)))
-      (λ t. every-usable rates marks (and-right (test x) (every test rates) e))
+      (λ t. every-cons _ _ _ (every-head _ _ _ e) h) (λ t. h)
 
 -- the three largest of some rates in range
 pub largest-in-range : (rates : List ℤ) → ratesInRange rates ≡ true → ratesInRange (threeLargest rates) ≡ true
@@ -57,9 +56,5 @@ excess-amount (pos n) e = and-right (leb 0 n) (leb n 1000000000000) e
 excess-amount (negsuc n) e = absurd (false≢true e)
 
 pub excesses-in-range : (l : List ℤ) → excessesInRange l ≡ true → zerosInRange l ≡ true
-unfolding every
-excesses-in-range [] e = refl
-excesses-in-range (x ∷ l) e =
-    and-both (between (negℤ (pos 1000000000000)) (pos 1000000000000) x) (zerosInRange l)
-    (excess-amount x (and-left (between (pos 0) (pos 1000000000000) x) (excessesInRange l) e))
-    (excesses-in-range l (and-right (between (pos 0) (pos 1000000000000) x) (excessesInRange l) e))
+excesses-in-range [] e = every-nil _
+excesses-in-range (x ∷ l) e = every-cons _ _ _ (excess-amount x (every-head _ _ _ e)) (excesses-in-range l (every-tail _ _ _ e))

@@ -10,7 +10,7 @@ use mir.Syntax.{w64}
 use mir.Val.{SFits}
 use mir.Facts.{toZ-ofZ}
 use Rattle.laws.specs.Largest.{insert}
-use Rattle.special.proofs.Read.{read}
+use Rattle.laws.specs.Read.{read}
 
 module _ (a b c x : ℤ) (fa : SFits w64 a) (fb : SFits w64 b) (fc : SFits w64 c) (fx : SFits w64 x) where
   pub above-first : ltZ (read a) (read x) ≡ true → read x ∷ read a ∷ read b ∷ [] ≡ take 3 (insert x (a ∷ b ∷ c ∷ []))
@@ -22,7 +22,8 @@ module _ (a b c x : ℤ) (fa : SFits w64 a) (fb : SFits w64 b) (fc : SFits w64 c
   above-second s t =
       simp (toZ-ofZ fa, toZ-ofZ fb, toZ-ofZ fx, (simp (toZ-ofZ fa, toZ-ofZ fx) at s), (simp (toZ-ofZ fb, toZ-ofZ fx) at t))
 
-  pub above-third : ltZ (read a) (read x) ≡ false → ltZ (read b) (read x) ≡ false → ltZ (read c) (read x) ≡ true → read a ∷ read b ∷ read x ∷ [] ≡ take 3 (insert x (a ∷ b ∷ c ∷ []))
+  pub above-third : ltZ (read a) (read x) ≡ false → ltZ (read b) (read x) ≡ false → ltZ (read c) (read x) ≡ true
+      → read a ∷ read b ∷ read x ∷ [] ≡ take 3 (insert x (a ∷ b ∷ c ∷ []))
   unfolding insert
   above-third r s t =
       simp (
@@ -34,7 +35,8 @@ module _ (a b c x : ℤ) (fa : SFits w64 a) (fb : SFits w64 b) (fc : SFits w64 c
         (simp (toZ-ofZ fc, toZ-ofZ fx) at t),
       )
 
-  pub above-none : ltZ (read a) (read x) ≡ false → ltZ (read b) (read x) ≡ false → ltZ (read c) (read x) ≡ false → read a ∷ read b ∷ read c ∷ [] ≡ take 3 (insert x (a ∷ b ∷ c ∷ []))
+  pub above-none : ltZ (read a) (read x) ≡ false → ltZ (read b) (read x) ≡ false → ltZ (read c) (read x) ≡ false
+      → read a ∷ read b ∷ read c ∷ [] ≡ take 3 (insert x (a ∷ b ∷ c ∷ []))
   unfolding insert
   above-none r s t =
       simp (

@@ -1,4 +1,3 @@
-pub mod Read
 pub mod Walks
 pub mod Kept
 pub mod Usable

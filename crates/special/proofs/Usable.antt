@@ -3,24 +3,24 @@
 use Prim.Native.Nat.{ℕ, zero, suc, _+_, _-_, _^_, _≤_, _<_}
 use native.Mathlib.Numerals.{add-one}
 use native.Mathlib.Omega.{arith}
-use mathlib.Core.Path.{_≡_, refl, sym, ap, _∙_}
-use mathlib.Core.Bool.{Bool, true, false, cond}
+use mathlib.Core.Path.{_≡_, refl, ap, _∙_}
+use mathlib.Core.Bool.{true, cond}
 use mathlib.Core.List.{List, [], _∷_, _++_}
 use borrow.Author.Tests.{eq-eqb, ne-eqb, leb-true, lt-ltb}
 use lib.Dec.{eqb}
 use lib.ListN.{length, getD, take, drop, length-drop}
-use lib.Seq.{drop-cons, drop-length}
+use lib.Seq.{drop-length}
 use lib.IntN.{ℤ, pos, negsuc, negℤ}
 use lib.Signed.{mag, ltZ, leZ}
-use Rattle.laws.specs.Cases.{and-left, and-right}
+use Rattle.laws.specs.Cases.{split, and-left}
+use Rattle.laws.specs.Every.{every-default}
 use Rattle.laws.specs.Largest.{insert, falling, insert-take, insert-append}
+use Rattle.laws.specs.Read.{read, read-is}
 use Rattle.special.specs.declared.rates.Best.{Best}
-use Rattle.special.specs.Ranges.{every, between, ratesInRange}
+use Rattle.special.specs.Ranges.{between, ratesInRange}
 use Rattle.special.specs.Ratio.{usable}
 use Rattle.special.specs.Best.{kept, empty, BestOf}
-use Rattle.special.proofs.Read.{read, read-is}
-
--- ---- the usable rates from an index on
+use Rattle.special.proofs.Walks.{drop-back}
 
 -- without marks every rate is usable
 pub usable-all : (rates : List ℤ) → usable rates [] ≡ rates
@@ -28,56 +28,26 @@ unfolding usable
 usable-all [] = refl
 usable-all (x ∷ rates) = ap (λ l. x ∷ l) (usable-all rates)
 
--- the rate at j, if its mark is 0, and those after it
-usable-at : (rates : List ℤ) (marks : List ℕ) (j : ℕ) → j < length rates → usable (drop j rates) (drop j marks) ≡ cond (eqb (getD marks j 0) 0) (getD rates j (pos 0) ∷ usable (drop (suc j) rates) (drop (suc j) marks)) (usable (drop (suc j) rates) (drop (suc j) marks))
+-- the mark at j decides on the rate x, and those after it on the others
+usable-at : (x : ℤ) (rates : List ℤ) (marks : List ℕ) (j : ℕ) → usable (x ∷ rates) (drop j marks)
+    ≡ cond (eqb (getD marks j 0) 0) (x ∷ usable rates (drop (suc j) marks)) (usable rates (drop (suc j) marks))
 unfolding usable
-usable-at [] marks j h = absurd (none j h)
-  where
-    none : (j : ℕ) → j < 0 → ⊥
-    none j h = omega arith
-usable-at (x ∷ rates) [] zero h = refl
-usable-at (x ∷ rates) (m ∷ marks) zero h = refl
-usable-at (x ∷ rates) [] (suc j) h =
-    usable-all (drop j rates) ∙ drop-cons rates j (pos 0) (omega arith)
-    ∙ ap (λ l. getD rates j (pos 0) ∷ l) (sym (usable-all (drop (suc j) rates)))
-usable-at (x ∷ rates) (m ∷ marks) (suc j) h = usable-at rates marks j (omega arith)
+usable-at x rates [] zero = refl
+usable-at x rates [] (suc j) = refl
+usable-at x rates (m ∷ marks) zero = refl
+usable-at x rates (m ∷ marks) (suc j) = usable-at x rates marks j
 
-pub usable-length : (rates : List ℤ) (marks : List ℕ) → length (usable rates marks) ≤ length rates
+usable-length : (rates : List ℤ) (marks : List ℕ) → length (usable rates marks) ≤ length rates
 unfolding usable
 usable-length [] marks = omega arith
 usable-length (x ∷ rates) [] = omega (arith, usable-length rates [])
-usable-length (x ∷ rates) (m ∷ marks) = by (eqb m 0) (usable-length rates marks)
-  where
-    by : (t : Bool) → length (usable rates marks) ≤ length rates → length (cond t (x ∷ usable rates marks) (usable rates marks)) ≤ suc (length rates)
-    by true h = omega arith
-    by false h = omega arith
-
--- ---- one rate more
-
--- what passes in the whole passes at an index
-every-at : {A : Type 0} (test : A → Bool) (l : List A) (j : ℕ) (d : A) → every test l ≡ true → j < length l → test (getD l j d) ≡ true
-unfolding every
-every-at test [] j d e h = absurd (none j h)
-  where
-    none : (j : ℕ) → j < 0 → ⊥
-    none j h = omega arith
-every-at test (x ∷ l) zero d e h = and-left (test x) (every test l) e
-every-at test (x ∷ l) (suc j) d e h = every-at test l j d (and-right (test x) (every test l) e) (omega arith)
+usable-length (x ∷ rates) (m ∷ marks) =
+    split (eqb m 0) (λ t. rw t (omega (arith, usable-length rates marks))) (λ t. rw t (omega (arith, usable-length rates marks)))
 
 -- a rate is above what stands in an empty place
 above-empty : (x : ℤ) → between (negℤ (pos 100000)) (pos 100000) x ≡ true → ltZ (negℤ (pos 100001)) x ≡ true
 above-empty (pos n) e = refl
 above-empty (negsuc n) e = lt-ltb n 100000 (omega (arith, leb-true n 99999 (and-left (leZ (negsuc 99999) (negsuc n)) true e)))
-
-kept-more : (rates : List ℤ) (x : ℤ) (old new : Best) → ltZ (negℤ (pos 100001)) x ≡ true → BestOf rates old → kept new ≡ take 3 (insert x (kept old)) → new .n ≡ old .n + 1 → BestOf (x ∷ rates) new
-unfolding falling
-kept-more rates x old new low is e n =
-    record {
-      largest =
-          e ∙ ap (λ l. take 3 (insert x l)) (is .largest) ∙ insert-take 3 x (falling rates ++ empty)
-          ∙ ap (take 3) (insert-append x (negℤ (pos 100001)) (falling rates) (negℤ (pos 100001) ∷ negℤ (pos 100001) ∷ []) low);
-      number = n ∙ add-one (old .n) ∙ ap suc (is .number);
-    }
 
 -- ---- the walk
 
@@ -85,14 +55,6 @@ module _ (rates : List ℤ) (marks : List ℕ) where
   -- the usable rates from an index on
   abbrev from : ℕ → List ℤ
   from i = usable (drop i rates) (drop i marks)
-
-  back : (i : ℕ) → 0 < i → i ≤ length rates → from (i - 1) ≡ cond (eqb (getD marks (i - 1) 0) 0) (getD rates (i - 1) (pos 0) ∷ from i) (from i)
-  back i h k =
-      usable-at rates marks (i - 1) (omega arith)
-      ∙ ap (λ (n : ℕ). cond (eqb (getD marks (i - 1) 0) 0) (getD rates (i - 1) (pos 0) ∷ from n) (from n)) (same i h)
-    where
-      same : (i : ℕ) → 0 < i → suc (i - 1) ≡ i
-      same i h = omega arith
 
   pub from-none : (best : Best) → kept best ≡ empty → best .n ≡ 0 → BestOf (from (length rates)) best
   unfolding falling usable
@@ -104,18 +66,25 @@ module _ (rates : List ℤ) (marks : List ℕ) where
   pub from-fits : (i : ℕ) (best : Best) → 0 < i → i ≤ length rates → length rates < 2 ^ 64 → BestOf (from i) best → best .n + 1 < 2 ^ 64
   from-fits i best h k f b = omega (arith, b .number, usable-length (drop i rates) (drop i marks), length-drop i rates)
 
-  marked : (i mark : ℕ) → 0 < i → i ≤ length rates → mark ≡ getD marks (i - 1) 0 → (mark ≡ 0 → ⊥) → from (i - 1) ≡ from i
-  marked i mark h k m z = back i h k ∙ rw (ne-eqb (getD marks (i - 1) 0) 0 (λ e. z (m ∙ e)))
+  module _ (i mark : ℕ) (h : 0 < i) (k : i ≤ length rates) (m : mark ≡ getD marks (i - 1) 0) where
+    -- the rate before an index, if its mark is 0, and those from the index on
+    back : from (i - 1) ≡ cond (eqb mark 0) (getD rates (i - 1) (pos 0) ∷ from i) (from i)
+    back =
+        let e : suc (i - 1) ≡ i = omega arith in
+        rw (drop-back rates i (pos 0) h k, m) (rw e at (usable-at (getD rates (i - 1) (pos 0)) (drop i rates) marks (i - 1)))
 
-  unmarked : (i mark : ℕ) → 0 < i → i ≤ length rates → mark ≡ getD marks (i - 1) 0 → mark ≡ 0 → from (i - 1) ≡ getD rates (i - 1) (pos 0) ∷ from i
-  unmarked i mark h k m z = back i h k ∙ rw (eq-eqb (getD marks (i - 1) 0) 0 (sym m ∙ z))
+    pub from-marked : (best : Best) → (mark ≡ 0 → ⊥) → BestOf (from i) best → BestOf (from (i - 1)) best
+    from-marked best z b = rw (back, ne-eqb mark 0 z) b
 
-  pub from-marked : (i mark : ℕ) (best : Best) → 0 < i → i ≤ length rates → mark ≡ getD marks (i - 1) 0 → (mark ≡ 0 → ⊥) → BestOf (from i) best → BestOf (from (i - 1)) best
-  from-marked i mark best h k m z b = rw (marked i mark h k m z) b
-
-  pub from-unmarked : (i mark : ℕ) (old new : Best) → ratesInRange rates ≡ true → 0 < i → i ≤ length rates → mark ≡ getD marks (i - 1) 0 → mark ≡ 0 → mag (getD rates (i - 1) (pos 0)) < 2 ^ 63 → BestOf (from i) old → (kept new ≡ take 3 (insert (read (getD rates (i - 1) (pos 0))) (kept old))) × (new .n ≡ old .n + 1) → BestOf (from (i - 1)) new
-  from-unmarked i mark old new r h k m z f b e =
-      let x = getD rates (i - 1) (pos 0) in
-      rw (unmarked i mark h k m z)
-      (kept-more (from i) x old new (above-empty x (every-at _ rates (i - 1) (pos 0) r (omega arith))) b
-      (e .0 ∙ ap (λ y. take 3 (insert y (kept old))) (read-is x f)) (e .1))
+    pub from-unmarked : (old new : Best) → ratesInRange rates ≡ true → mark ≡ 0 → mag (getD rates (i - 1) (pos 0)) < 2 ^ 63 → BestOf (from i) old
+        → (kept new ≡ take 3 (insert (read (getD rates (i - 1) (pos 0))) (kept old))) × (new .n ≡ old .n + 1) → BestOf (from (i - 1)) new
+    unfolding falling
+    from-unmarked old new r z f b e =
+        let x = getD rates (i - 1) (pos 0) in
+        rw (back, eq-eqb mark 0 z)
+        (record {
+          largest =
+              e .0 ∙ rw (read-is x f, b .largest) (insert-take 3 x (falling (from i) ++ empty))
+              ∙ ap (take 3) (insert-append x _ (falling (from i)) _ (above-empty x (every-default _ rates (i - 1) (pos 0) refl r)));
+          number = e .1 ∙ add-one (old .n) ∙ ap suc (b .number);
+        })

@@ -1,49 +1,31 @@
 -- What a walk over a list has shown at an index.
 -- Assumes nothing.
 use Prim.Native.Nat.{ℕ, suc, _+_, _-_, _^_, _≤_, _<_}
-use native.Mathlib.Numerals.{add-one}
 use native.Mathlib.Omega.{arith}
 use mathlib.Core.Path.{_≡_, sym, ap, _∙_}
 use mathlib.Core.Bool.{Bool, true, false, not}
 use mathlib.Core.List.{List, _∷_}
-use lib.ListN.{length, getD, drop, drop-of-length-le}
+use lib.ListN.{length, getD, drop}
 use lib.Seq.{drop-cons}
 use lib.IntN.{ℤ, pos}
 use lib.Signed.{mag}
 use borrow.Author.Tests.{not-true, not-false}
-use Rattle.special.specs.Ranges.{every}
-use Rattle.special.proofs.Read.{read, read-is}
+use Rattle.laws.specs.Every.{every, every-passed, every-failed}
+use Rattle.laws.specs.Read.{read, read-is}
 
-module _ {A : Type 0} (test : A → Bool) (l : List A) (d : A) where
-  -- the element at i passes: what is left to test starts after it
-  pub every-passed : (i : ℕ) → every test l ≡ every test (drop i l) → i < length l → test (getD l i d) ≡ true → every test l ≡ every test (drop (i + 1) l)
-  unfolding every
-  every-passed i e h t = e ∙ rw (add-one, drop-cons l i d, t)
-
-  -- the element at i does not pass
-  pub every-failed : (i : ℕ) → every test l ≡ every test (drop i l) → i < length l → test (getD l i d) ≡ false → false ≡ every test l
-  unfolding every
-  every-failed i e h t = sym (e ∙ rw (drop-cons l i d, t))
-
-  -- nothing is left to test
-  pub every-ended : (i : ℕ) → every test l ≡ every test (drop i l) → length l ≤ i → true ≡ every test l
-  unfolding every
-  every-ended i e h = sym (e ∙ rw drop-of-length-le)
-
--- the same where the code reads the element, a signed number, back from its bits, and the answer to its test is r
+-- a walk that tests each element, where the code reads it, a signed number, back from its bits, and the answer to its test is r
 module _ (test : ℤ → Bool) (l : List ℤ) where
   answer : (i : ℕ) (r : Bool) → mag (getD l i (pos 0)) < 2 ^ 63 → r ≡ test (read (getD l i (pos 0))) → test (getD l i (pos 0)) ≡ r
   answer i r f e = sym (e ∙ ap test (read-is (getD l i (pos 0)) f))
 
-  pub passed : (i : ℕ) (r : Bool) → every test l ≡ every test (drop i l) → i < length l → mag (getD l i (pos 0)) < 2 ^ 63 → r ≡ test (read (getD l i (pos 0))) → not r ≡ false → every test l ≡ every test (drop (i + 1) l)
+  pub passed : (i : ℕ) (r : Bool) → every test l ≡ every test (drop i l) → i < length l → mag (getD l i (pos 0)) < 2 ^ 63
+      → r ≡ test (read (getD l i (pos 0))) → not r ≡ false → every test l ≡ every test (drop (i + 1) l)
   passed i r e h f k t = every-passed test l (pos 0) i e h (answer i r f k ∙ not-false r t)
 
-  pub failed : (i : ℕ) (r : Bool) → every test l ≡ every test (drop i l) → i < length l → mag (getD l i (pos 0)) < 2 ^ 63 → r ≡ test (read (getD l i (pos 0))) → not r ≡ true → false ≡ every test l
+  pub failed : (i : ℕ) (r : Bool) → every test l ≡ every test (drop i l) → i < length l → mag (getD l i (pos 0)) < 2 ^ 63
+      → r ≡ test (read (getD l i (pos 0))) → not r ≡ true → false ≡ every test l
   failed i r e h f k t = every-failed test l (pos 0) i e h (answer i r f k ∙ not-true r t)
 
 -- a walk from the end: the element before what is passed
 pub drop-back : {A : Type 0} (l : List A) (i : ℕ) (d : A) → 0 < i → i ≤ length l → drop (i - 1) l ≡ getD l (i - 1) d ∷ drop i l
-drop-back l i d h k = drop-cons l (i - 1) d (omega arith) ∙ ap (λ (n : ℕ). getD l (i - 1) d ∷ drop n l) (back i h)
-  where
-    back : (i : ℕ) → 0 < i → suc (i - 1) ≡ i
-    back i h = omega arith
+drop-back l i d h k = let e : suc (i - 1) ≡ i = omega arith in rw e at (drop-cons l (i - 1) d (omega arith))

@@ -17,8 +17,8 @@ wrongLengths medium low marks zeroMedium zeroLow excessMedium excessLow =
     || not (eqb excessLow zeroMedium) || ltb 16 zeroMedium
 
 -- Cause 11: "a .. rate, zero settlement or excess out of its range, a mark above 1".
-unfoldable pub outOfRange : List ℤ → List ℤ → List ℕ → List ℤ → List ℤ → List ℤ → List ℤ → Bool
-outOfRange medium low marks zeroMedium zeroLow excessMedium excessLow =
+unfoldable pub outsideRanges : List ℤ → List ℤ → List ℕ → List ℤ → List ℤ → List ℤ → List ℤ → Bool
+outsideRanges medium low marks zeroMedium zeroLow excessMedium excessLow =
     not (ratesInRange medium && ratesInRange low && marksInRange marks && (zerosInRange zeroMedium && zerosInRange zeroLow)
     && (excessesInRange excessMedium && excessesInRange excessLow))
 
@@ -35,6 +35,6 @@ causes medium low marks zeroMedium zeroLow excessMedium excessLow =
           wrongLengths (length medium) (length low) (length marks) (length zeroMedium) (length zeroLow) (length excessMedium)
           (length excessLow);
     }
-    ∷ record { number = 11; holds = outOfRange medium low marks zeroMedium zeroLow excessMedium excessLow }
+    ∷ record { number = 11; holds = outsideRanges medium low marks zeroMedium zeroLow excessMedium excessLow }
     ∷ record { number = 18; holds = tooFew medium (usable low marks) }
     ∷ []

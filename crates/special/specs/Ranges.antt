@@ -3,16 +3,13 @@
 use Prim.Native.Nat.{ℕ, _≤_}
 use mathlib.Core.Path.{_≡_}
 use mathlib.Core.Bool.{Bool, true, _&&_}
-use mathlib.Core.List.{List, [], _∷_}
+use mathlib.Core.List.{List}
 use lib.Dec.{leb}
 use lib.ListN.{length}
 use lib.IntN.{ℤ, pos, negℤ}
 use lib.Signed.{leZ}
-
--- Whether every element of a list passes a test.
-unfoldable pub every : {A : Type 0} → (A → Bool) → List A → Bool
-every test [] = true
-every test (x ∷ rest) = test x && every test rest
+-- `every test list` is whether every element of a list passes a test
+unfoldable pub use Rattle.laws.specs.Every.{every}
 
 -- Whether x is one of the numbers from low to high, both included.
 abbrev pub between : ℤ → ℤ → ℤ → Bool

@@ -1,7 +1,7 @@
 // What the lists must be: their lengths and the ranges of their numbers (paper 01, causes 19 and 11).
 ghost use mathlib.Core.Path.{_≡_};
 ghost use Rattle.special.specs.Ranges.{every, between, marksInRange};
-ghost use Rattle.special.specs.Causes.{wrongLengths, outOfRange};
+ghost use Rattle.special.specs.Causes.{wrongLengths, outsideRanges};
 
 // Whether the lists' lengths are against the rule (cause 19).
 pub fn wrong_lengths(
@@ -69,7 +69,7 @@ pub fn out_of_range(
     excess_medium: &[i64],
     excess_low: &[i64],
 ) -> bool
-    ensures { λ r. ⌜ r ≡ outOfRange (now (medium .entry)) (now (low .entry)) (now (marks .entry)) (now («zero_medium» .entry))
+    ensures { λ r. ⌜ r ≡ outsideRanges (now (medium .entry)) (now (low .entry)) (now (marks .entry)) (now («zero_medium» .entry))
         (now («zero_low» .entry)) (now («excess_medium» .entry)) (now («excess_low» .entry)) ⌝ }
 {
     let rates = all_between(medium, -100000, 100000) & all_between(low, -100000, 100000);

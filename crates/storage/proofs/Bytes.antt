@@ -39,14 +39,16 @@ module _ (n : ℕ) (f : ℕ → ℕ) where
   table-first : (before : List ℕ) → length before ≡ n → Filling n 0 (table n f) before before
   table-first before l = filling-first n (table n f) before (length-table n f) l
 
-  table-next : (i : ℕ) (before now : List ℕ) (x : ℕ) → Filling n i (table n f) before now → i < n → x ≡ f i → Filling n (i + 1) (table n f) before (set now i x)
+  table-next : (i : ℕ) (before now : List ℕ) (x : ℕ) → Filling n i (table n f) before now → i < n → x ≡ f i
+      → Filling n (i + 1) (table n f) before (set now i x)
   table-next i before now x w h e = filling-next n (table n f) i before now x 0 w h (e ∙ sym (getD-table n f i 0 h))
 
 pub padded-first : (s before : List ℕ) → Filling (length before) 0 (padded (length before) s) before before
 unfolding padded
 padded-first s before = table-first (length before) (λ k. getD s k 0) before refl
 
-pub padded-next : (n : ℕ) (s before now : List ℕ) (i x : ℕ) → Filling n i (padded n s) before now → i < n → x ≡ getD s i 0 → Filling n (i + 1) (padded n s) before (set now i x)
+pub padded-next : (n : ℕ) (s before now : List ℕ) (i x : ℕ) → Filling n i (padded n s) before now → i < n → x ≡ getD s i 0
+    → Filling n (i + 1) (padded n s) before (set now i x)
 unfolding padded
 padded-next n s before now i x w h e = table-next n (λ k. getD s k 0) i before now x w h e
 
@@ -54,7 +56,8 @@ pub shown-first : (s before : List ℕ) → Filling (length before) 0 (shownPadd
 unfolding shownPadded
 shown-first s before = table-first (length before) (λ k. shownByte (getD s k 0)) before refl
 
-pub shown-next : (n : ℕ) (s before now : List ℕ) (i x : ℕ) → Filling n i (shownPadded n s) before now → i < n → x ≡ shownByte (getD s i 0) → Filling n (i + 1) (shownPadded n s) before (set now i x)
+pub shown-next : (n : ℕ) (s before now : List ℕ) (i x : ℕ) → Filling n i (shownPadded n s) before now → i < n → x ≡ shownByte (getD s i 0)
+    → Filling n (i + 1) (shownPadded n s) before (set now i x)
 unfolding shownPadded
 shown-next n s before now i x w h e = table-next n (λ k. shownByte (getD s k 0)) i before now x w h e
 

@@ -28,7 +28,9 @@ module _ (j : Journal) (end : ℕ) where
   continued-not e = record { well = λ t. clash t e; ready = λ t. clash t e; stopped = λ t. still j t }
 
   pub continued-stopped : (r : Journal) → r ≡ stoppedOf j → Continued j end r
-  continued-stopped r e = let no : r .ok ≡ false = ap (λ (z : Journal). z .ok) e in record { well = λ t. clash t no; ready = λ t. clash t no; stopped = λ t. e }
+  continued-stopped r e =
+      let no : r .ok ≡ false = ap (λ (z : Journal). z .ok) e in
+      record { well = λ t. clash t no; ready = λ t. clash t no; stopped = λ t. e }
 
   pub continued-well : (r : Journal) (file : ℤ) → j .ok ≡ true → r ≡ continuedAs j file end → Continued j end r
   continued-well r file h e =
@@ -41,7 +43,9 @@ module _ (j : Journal) (bytes : List ℕ) where
   appended-not e = record { well = λ t. clash t e; grown = λ t. clash t e; stopped = λ t. still j t }
 
   pub appended-stopped : (r : Journal) → r ≡ stoppedOf j → Appended j bytes r
-  appended-stopped r e = let no : r .ok ≡ false = ap (λ (z : Journal). z .ok) e in record { well = λ t. clash t no; grown = λ t. clash t no; stopped = λ t. e }
+  appended-stopped r e =
+      let no : r .ok ≡ false = ap (λ (z : Journal). z .ok) e in
+      record { well = λ t. clash t no; grown = λ t. clash t no; stopped = λ t. e }
 
   pub appended-well : (r : Journal) → j .ok ≡ true → r ≡ grownBy j (length bytes) → Appended j bytes r
   appended-well r h e = let yes : r .ok ≡ true = ap (λ (z : Journal). z .ok) e in record { well = λ t. h; grown = λ t. e; stopped = λ t. clash yes t }

@@ -52,14 +52,16 @@ module _ (T : Declared) (L : LL.Laws T) where
     lend-out κ l γ =
         qed W (‵ (fdead κ) ∷ ‵ (flent κ (Body (mem R) l 0 γ)) ∷ []) ∵ updating ! $ lent-back ! tt $ fpick ! (λ z. fsplit ! $ fpick ! (λ vs. fsplit ! $
         spelt ! R (Is R) (shows 𝓤 H A R) (LL.vals T L) (LL.tells T L) fullShare z vs l 0 $
-        use1 W (‵ (fat fullShare τ l 0 (mach z))) (W .laws .raw-at fullShare τ l 0 (mach z)) $ at-once ! $ show ! (Whole l) z $ keep ! (0 ∷ 1 ∷ []) $ done !))
+        use1 W (‵ (fat fullShare τ l 0 (mach z))) (W .laws .raw-at fullShare τ l 0 (mach z)) $ at-once ! $ show ! (Whole l) z $
+        keep ! (0 ∷ 1 ∷ []) $ done !))
 
     pub share-in : (ℓ : Lifetime) (κ : Lft) (l : ℕ) (h : T .D) → ent 𝓤 (Whole l h) (H .⇛ (ex 𝓤 (LentShr 𝓤 H A W R ℓ κ fullShare h l 0)))
     unfolding partOf
     share-in ℓ κ l h =
         qed W (‵ (fat fullShare τ l 0 (mach h)) ∷ ‵ (R .own h (mach h ∷ [])) ∷ []) ∵
         use1 W (‵ (cellAt fullShare (R .mir) (mach h ∷ []) l 0)) (W .laws .at-raw fullShare τ l 0 (mach h)) $ fjoin ! $
-        fpack ! (List Val) (λ us. fsep (cellAt fullShare (R .mir) us l 0) (R .own h us)) (mach h ∷ []) $ by ! (lends-shr 𝓤 H A W R ℓ κ fullShare h l 0)
+        fpack ! (List Val) (λ us. fsep (cellAt fullShare (R .mir) us l 0) (R .own h us)) (mach h ∷ []) $
+        by ! (lends-shr 𝓤 H A W R ℓ κ fullShare h l 0)
 
     pub share-out : (κ : Lft) (l : ℕ) (h : T .D) → ent 𝓤 (sep 𝓤 (A .dead κ) (A .lent κ (partAt R fullShare h l 0))) (H .⇛ (Whole l h))
     unfolding partOf

@@ -57,8 +57,8 @@ stoppedOf j =
       «lock_inode» = j .«lock_inode»;
     }
 
--- What is left of a journal that was to be continued behind its first bytes, which end here. Where all is well all was well before, and it is ready to
--- be appended to; where not, all but that stays as it was.
+-- What is left of a journal that was to be continued behind its first bytes, which end here. Where all is well all was well before, and it is ready
+-- to be appended to; where not, all but that stays as it was.
 pub record Continued (before : Journal) (end : ℕ) (r : Journal) : Type 0 where
   pub well : r .ok ≡ true → before .ok ≡ true
   pub ready : r .ok ≡ true → r ≡ continuedAs before (r .file) end

@@ -42,6 +42,13 @@ pub fn hundredths(n: u64) {
     digit(n);
 }
 
+// A number of ten-thousandths, with four decimals.
+fn ten_thousandths(n: u64) {
+    hundredths(n / 100);
+    digit(n / 10);
+    digit(n);
+}
+
 // A number without its sign.
 fn magnitude(x: i64) -> u64
     ensures { λ r. ⌜ r ≡ natAbs x ⌝ }
@@ -83,25 +90,18 @@ pub fn amount(label: &[u8], found: u64, stated: u64) {
     verdict(found == stated);
 }
 
-// A line with a signed amount found and the one that 002 states, in cents.
-pub fn total(label: &[u8], found: i64, stated: i64) {
+// A line with a ratio found and the average that it is rounded from, in ten-thousandths of a percent, and the ratio that 002 states, in
+// hundredths of a percent. So a ratio that is not rounded shows.
+pub fn ratio(label: &[u8], found: u64, average: u64, stated: u16) {
     text(label);
     text(b": ");
-    signed(found);
-    text(b" euro, 002 says ");
-    signed(stated);
-    verdict(found == stated);
-}
-
-// A line with a ratio found and the one that 002 states, in hundredths of a percent.
-pub fn ratio(label: &[u8], found: u64, stated: u64) {
-    text(label);
-    text(b": ");
-    hundredths(found);
+    ten_thousandths(found);
+    text(b"%, from an average of ");
+    ten_thousandths(average);
     text(b"%, 002 says ");
-    hundredths(stated);
+    hundredths(stated as u64);
     text(b"%");
-    verdict(found == stated);
+    verdict(found == 100 * (stated as u64));
 }
 
 // A line's end: nothing where 002 says the same, else that it differs.

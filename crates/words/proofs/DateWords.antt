@@ -101,7 +101,9 @@ module _ (w : List ℕ) where
   -- a word of such a form is that long
   pub monthed-long : (t : Bool) → t ≡ isMonthed w → t ≡ true → length w ≡ 7
   unfolding isMonthed
-  monthed-long t f v = eqb-true (length w) 7 (and-left (eqb (length w) 7) (eqb (getD w 4 0) 45 && (natural (take 4 (drop 0 w)) && natural (take 2 (drop 5 w)))) (sym f ∙ v))
+  monthed-long t f v =
+      eqb-true (length w) 7
+      (and-left (eqb (length w) 7) (eqb (getD w 4 0) 45 && (natural (take 4 (drop 0 w)) && natural (take 2 (drop 5 w)))) (sym f ∙ v))
 
   pub dated-long : (t : Bool) → t ≡ isDated w → t ≡ true → length w ≡ 10
   unfolding isDated
@@ -173,7 +175,9 @@ module _ (w : List ℕ) (t : Bool) where
       let a : dayOfDate y m d ≡ dayOfDate (value (take 4 (drop 0 w))) (value (take 2 (drop 5 w))) (value (take 2 (drop 8 w))) =
       rw (e, g, h) (held-day (value (take 4 (drop 0 w))) (value (take 2 (drop 5 w))) (value (take 2 (drop 8 w)))) in
       l ∙ ap numbered (k ∙ a)
-      ∙ sym (cond-true (isDated w) (numbered (dayOfDate (value (take 4 (drop 0 w))) (value (take 2 (drop 5 w))) (value (take 2 (drop 8 w))))) Number.NoNumber (sym f ∙ v))
+      ∙ sym
+      (cond-true (isDated w) (numbered (dayOfDate (value (take 4 (drop 0 w))) (value (take 2 (drop 5 w))) (value (take 2 (drop 8 w)))))
+      Number.NoNumber (sym f ∙ v))
 
   pub dated-not : t ≡ isDated w → t ≡ false → Number.NoNumber ≡ datedDay w
   unfolding datedDay

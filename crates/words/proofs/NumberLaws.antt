@@ -52,7 +52,8 @@ pub digit-read : (w : List ℕ) (i n d r : ℕ) → i < length w → min (valueF
     → min (valueFrom r (drop (i + 1) w)) 18446744073709551615 ≡ min (value w) 18446744073709551615
 unfolding valueFrom
 digit-read w i n d r h k e f =
-    let g : min (valueFrom (10 * n + (getD w i 0 - 48)) (drop (i + 1) w)) 18446744073709551615 ≡ min (value w) 18446744073709551615 = rw (drop-at w i h) at k in
+    let g : min (valueFrom (10 * n + (getD w i 0 - 48)) (drop (i + 1) w)) 18446744073709551615 ≡ min (value w) 18446744073709551615 =
+    rw (drop-at w i h) at k in
     let m : r ≡ min (10 * n + (getD w i 0 - 48)) 18446744073709551615 = f ∙ ap (λ (x : ℕ). min (10 * n + x) 18446744073709551615) e in
     rw m (value-held 18446744073709551615 (10 * n + (getD w i 0 - 48)) (drop (i + 1) w) ∙ g)
 

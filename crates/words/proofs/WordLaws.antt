@@ -188,7 +188,8 @@ module _ (s : List ℕ) (from : ℕ) where
         let b : drop start s ≡ drop (blanksIn (drop from s)) (drop from s) = ap (λ (n : ℕ). drop n s) e ∙ at-word in
         let k : end - start ≡ solidIn (drop start s) = omega arith in
         let p : 0 < solidIn (drop start s) = rw e some-solid in
-        let d : drop (solidIn (drop start s)) (drop start s) ≡ drop end s = drop-drop (solidIn (drop start s)) start s ∙ ap (λ (n : ℕ). drop n s) (sym f) in
+        let d : drop (solidIn (drop start s)) (drop start s) ≡ drop end s =
+        drop-drop (solidIn (drop start s)) start s ∙ ap (λ (n : ℕ). drop n s) (sym f) in
         record {
           onward = λ g. omega arith;
           ordered = omega arith;

@@ -7,18 +7,15 @@ use native.Mathlib.Numerals.{add-one}
 use mathlib.Core.Path.{_≡_, refl, sym, ap, subst, _∙_}
 use mathlib.Core.Bool.{Bool, true, false, cond, _||_}
 use mathlib.Core.List.{List, [], map}
-use borrow.Author.Tests.{le-ltb, ltb-false}
 use lib.Dec.{ltb}
 use lib.ListN.{length, getD, set}
 use Rattle.laws.specs.Lists.{All, all-at, all-map}
-use Rattle.laws.specs.Cases.{or-first, or-second}
 use Rattle.laws.specs.Places.{upTo, upTo-none, upTo-next, upTo-all, upTo-long, upTo-turn}
 use Rattle.file.specs.declared.File.{File}
 use Rattle.file.specs.Answer.{Answer, refused, daysOpened, decide, accepted}
 use Rattle.file.specs.Sound.{Sound}
 use Rattle.file.specs.Opening.{openedFile}
 use Rattle.layout.specs.Book.{Book}
-use Rattle.layout.specs.WellFormed.{SoundBook}
 use Rattle.book.specs.Call.{advance}
 use Rattle.book.specs.Account.{openedIfAdmitted, openDay, openDays, answer, applied, step}
 use Rattle.book.specs.Opened.{filesOpened}
@@ -26,6 +23,7 @@ use Rattle.book.specs.Reached.{Given}
 use Rattle.book.proofs.Participant.Decide.{decide-true, decide-false}
 use Rattle.book.proofs.Functions.OnFile.{refused-left}
 use Rattle.book.proofs.Functions.SoundBook.{sound-opened}
+use Rattle.book.proofs.History.Advances.{not-outside, days-fit}
 use Rattle.book.proofs.History.Life.{given}
 
 -- ---- one file at an opening
@@ -162,21 +160,12 @@ refused-outside b day budget outside e h =
     let x = late-answer b day budget (sym e ∙ h) in
     given b (advance day budget) (refused 17) b x (refused-left b (advance day budget) 17 x)
 
--- The two halves of the test where it fails.
-pub outside-not : (day t : ℕ) (outside : Bool) → outside ≡ (ltb 29219 day || ltb day t) → outside ≡ false → (day ≤ 29219) × (t ≤ day)
-outside-not day t outside e h = (
-  ltb-false 29219 day (or-first (ltb 29219 day) (ltb day t) (sym e ∙ h)),
-  ltb-false day t (or-second (ltb 29219 day) (ltb day t) (sym e ∙ h)),
-)
-
 -- An accepted one.
-opened-answer : (b : Book) (day budget : ℕ) → day ≤ 29219 → b .today .0 ≤ day → daysOpened (min budget (day - b .today .0)) ≡ answer b (advance day budget)
+opened-answer : (b : Book) (day budget : ℕ) → (ltb 29219 day || ltb day (b .today .0)) ≡ false
+    → daysOpened (min budget (day - b .today .0)) ≡ answer b (advance day budget)
 unfolding answer decide
-opened-answer b day budget h k =
-    sym (decide-false (record { number = 17; holds = ltb 29219 day || ltb day (b .today .0) }) [] (daysOpened (min budget (day - b .today .0))) neither)
-  where
-    neither : (ltb 29219 day || ltb day (b .today .0)) ≡ false
-    neither = ap (λ (t : Bool). t || ltb day (b .today .0)) (le-ltb 29219 day h) ∙ le-ltb day (b .today .0) k
+opened-answer b day budget e =
+    sym (decide-false (record { number = 17; holds = ltb 29219 day || ltb day (b .today .0) }) [] (daysOpened (min budget (day - b .today .0))) e)
 
 pub gave-days : (b : Book) (day budget n : ℕ) (outside : Bool) (files : List File)
     → outside ≡ (ltb 29219 day || ltb day (b .today .0)) → outside ≡ false
@@ -184,8 +173,7 @@ pub gave-days : (b : Book) (day budget n : ℕ) (outside : Bool) (files : List F
     → Given b (advance day budget) (daysOpened n) (record { files = files; today = record { 0 = b .today .0 + n }; made = b .made })
 unfolding step applied
 gave-days b day budget n outside files test h number all =
-    let within = outside-not day (b .today .0) outside test h in
-    let e = opened-answer b day budget (within .0) (within .1) in
+    let e = opened-answer b day budget (sym test ∙ h) in
     given b (advance day budget) (daysOpened n) (record { files = files; today = record { 0 = b .today .0 + n }; made = b .made })
     (ap daysOpened number ∙ e)
     ((λ i. record { files = all i; today = record { 0 = b .today .0 + n }; made = b .made })
@@ -193,21 +181,10 @@ gave-days b day budget n outside files test h number all =
     ∙ ap (λ (m : ℕ). openDays m b) number
     ∙ ap (λ (x : Answer). cond (accepted x) (openDays (min budget (day - b .today .0)) b) b) e)
 
--- What opening the days asks: the files are sound, and the days stay within the calendar.
-pub files-sound : (b : Book) → SoundBook b → All (Sound (b .today .0)) (b .files)
-files-sound b s = s .files
-
+-- What opening the days asks: the day isn't before today, and the days stay within the calendar.
 module _ (day t : ℕ) (outside : Bool) (test : outside ≡ (ltb 29219 day || ltb day t)) (h : outside ≡ false) where
   pub not-before : t ≤ day
-  not-before = outside-not day t outside test h .1
+  not-before = not-outside day t (sym test ∙ h) .1
 
   pub days-within : (budget n : ℕ) → n ≡ min budget (day - t) → t + n ≤ 29219
-  days-within budget n e =
-      let within = outside-not day t outside test h in
-      let low = within .0 in
-      let high = within .1 in
-      omega arith
-
--- Such a day fits its word.
-pub fits-day : (n : ℕ) → n ≤ 29219 → n < 4294967296
-fits-day n h = omega arith
+  days-within budget n e = subst (λ (k : ℕ). t + k ≤ 29219) (sym e) (days-fit day t budget (sym test ∙ h))

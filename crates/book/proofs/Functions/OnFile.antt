@@ -12,7 +12,6 @@ use lib.ListN.{length}
 use lib.Seq.{set-getD}
 use Rattle.laws.specs.Cases.{split, cond-true, cond-false}
 use Rattle.file.specs.declared.File.{File}
-use Rattle.file.specs.declared.Position.{Position}
 use Rattle.file.specs.Answer.{Answer, refused, done, called, covered, recorded, annual, daysOpened, stated, counted, decide, accepted}
 use Rattle.file.specs.Admit.{noFile, admittedFile, callsOfAdmission}
 use Rattle.file.specs.CheckLaws.{settled-answer}
@@ -21,7 +20,7 @@ use Rattle.calendar.specs.Civil.{monthOf}
 use Rattle.manual.specs.Figures.{sumOf}
 use Rattle.file.specs.Annual.{annualAnswer, annualFile}
 use Rattle.layout.specs.Book.{Book}
-use Rattle.book.specs.Call.{Act, admit, lodge, release, settle, annualRun, Call, on, isCalled}
+use Rattle.book.specs.Call.{Act, admit, settle, annualRun, Call, on, isCalled}
 use Rattle.book.specs.Account.{fileAt, withFile, ifNumbered, ifAdmitted, fileAnswer, fileAfter, callsAdded, answer, applied, step}
 use Rattle.book.specs.Left.{fileLeft}
 use Rattle.book.proofs.Participant.Decide.{decide-true, decide-false, decide-accepted}
@@ -177,17 +176,10 @@ module _ (b : Book) (p : ℕ) (numbered : ltb 63 p ≡ false) where
       (λ e. (cond-true (accepted (fileAnswer f t a)) (fileAfter f t a) f (same ∙ e), if-so (same ∙ e)))
       (λ e. (cond-false (accepted (fileAnswer f t a)) (fileAfter f t a) f (same ∙ e), if-not (same ∙ e)))
 
-  pub lodge-left : (k : ℕ) (h : Position) → withFile b p (fileLeft (fileAt b p) (b .today .0) (lodge k h)) 0 ≡ step b (on p (lodge k h))
-  unfolding callsAdded
-  lodge-left k h = left (lodge k h) 0 (λ e. refl) (λ e. refl)
-
-  pub release-left : (k a : ℕ) → withFile b p (fileLeft (fileAt b p) (b .today .0) (release k a)) 0 ≡ step b (on p (release k a))
-  unfolding callsAdded
-  release-left k a = left (release k a) 0 (λ e. refl) (λ e. refl)
-
-  pub annual-left : withFile b p (fileLeft (fileAt b p) (b .today .0) annualRun) 0 ≡ step b (on p annualRun)
-  unfolding callsAdded
-  annual-left = left annualRun 0 (λ e. refl) (λ e. refl)
+  -- a call that makes none
+  pub none-left : (a : Act) → ((f : File) (t : ℕ) → callsAdded f t a ≡ 0)
+      → withFile b p (fileLeft (fileAt b p) (b .today .0) a) 0 ≡ step b (on p a)
+  none-left a none = left a 0 (λ e. sym (none (fileAt b p) (b .today .0))) (λ e. refl)
 
   pub settle-left : (m : ℕ) (figures : List ℤ)
       → withFile b p (fileLeft (fileAt b p) (b .today .0) (settle m figures))

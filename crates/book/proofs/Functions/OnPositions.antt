@@ -33,12 +33,12 @@ use Rattle.layout.specs.WellFormed.{WellFormed}
 use Rattle.layout.proofs.FileLaws.{slot-there}
 use Rattle.layout.proofs.PartLaws.{slot-put}
 use Rattle.book.specs.Call.{lodge, release, on}
-use Rattle.book.specs.Account.{fileAnswer, fileAfter}
+use Rattle.book.specs.Account.{fileAnswer, fileAfter, callsAdded}
 use Rattle.book.specs.Left.{fileLeft}
 use Rattle.book.specs.InWords.{GivenWords}
 use Rattle.book.specs.Positions.{SlotLeft}
 use Rattle.book.proofs.Functions.OnFile.{not-admitted, is-admitted}
-use Rattle.book.proofs.Functions.OnWords.{file-sound, given-lodge, given-release, after}
+use Rattle.book.proofs.Functions.OnWords.{file-sound, given-none, after}
 use Rattle.book.proofs.Functions.SoundBook.{behind-admitted}
 
 module _ (l : List ℕ) (p k : ℕ) where
@@ -71,7 +71,8 @@ module _ (l : List ℕ) (p k : ℕ) where
     pub lodge-no-place : a ≡ true → 7 < k → refused 5 ≡ fileAnswer f t (lodge k h)
     lodge-no-place e h′ = known (refused 5) e (lodgings.lodge-no-place f t k h h′)
 
-    module _ (e : a ≡ true) (low : k ≤ 7) (s : Slot) (es : s ≡ slotIn l (place p + (9 + 4 * k))) (held : Bool) (e6 : held ≡ filled (s .position)) where
+    module _ (e : a ≡ true) (low : k ≤ 7) (s : Slot) (es : s ≡ slotIn l (place p + (9 + 4 * k))) (held : Bool)
+        (e6 : held ≡ filled (s .position)) where
       here : held ≡ filled (positionAt (f .slots) k)
       here = e6 ∙ ap filled (held-is s low es)
 
@@ -106,7 +107,8 @@ module _ (l : List ℕ) (p k : ℕ) where
     pub release-no-place : a ≡ true → 7 < k → refused 5 ≡ fileAnswer f t (release k n)
     release-no-place e h = judged (refused 5) e (releases.release-no-place f t k n h)
 
-    module _ (e : a ≡ true) (low : k ≤ 7) (s : Slot) (es : s ≡ slotIn l (place p + (9 + 4 * k))) (held : Bool) (e7 : held ≡ filled (s .position)) where
+    module _ (e : a ≡ true) (low : k ≤ 7) (s : Slot) (es : s ≡ slotIn l (place p + (9 + 4 * k))) (held : Bool)
+        (e7 : held ≡ filled (s .position)) where
       there : held ≡ filled (positionAt (f .slots) k)
       there = e7 ∙ ap filled (held-is s low es)
 
@@ -203,14 +205,15 @@ module _ (l : List ℕ) (p : ℕ) (w : WellFormed l) (low : p ≤ 63) where
   pub given-lodged : (m : List ℕ) (k : ℕ) (h : Position) (x : Answer) (ok : Bool) → x ≡ fileAnswer (fileIn l p) (todayIn l) (lodge k h)
       → ok ≡ accepted x → ok ≡ true → m ≡ written l (place p + (9 + 4 * (k % 8))) (slotWords (slotOf h)) → SlotBack (slotOf h)
       → GivenWords l (on p (lodge k h)) x m
+  unfolding callsAdded
   given-lodged m k h x ok b r good stored back =
       let is = lodge-is k h x ok b r good in
       let at : k % 8 ≡ k = omega (arith, is .0) in
       let f = fileIn l p in
-      given-lodge l p w low m f (withSlots f (set (f .slots) k (slotOf h))) (todayIn l) refl refl
+      given-none l p w low m (withSlots f (set (f .slots) k (slotOf h)))
       (slot-put l m p (w .canonical) (w .long) low k (slotOf h) (omega (arith, is .0)) back
       (stored ∙ ap (λ (j : ℕ). written l (place p + (9 + 4 * j)) (slotWords (slotOf h))) at))
-      k h x b (is .1)
+      (lodge k h) x (λ f t. refl) b (is .1)
 
   -- a release is at one of eight places, of which as much is held, and leaves what is left there
   release-is : (k n : ℕ) (x : Answer) (ok : Bool) → x ≡ fileAnswer (fileIn l p) (todayIn l) (release k n) → ok ≡ accepted x → ok ≡ true
@@ -247,11 +250,11 @@ module _ (l : List ℕ) (p : ℕ) (w : WellFormed l) (low : p ≤ 63) where
 
   pub given-released : (m : List ℕ) (k n : ℕ) (x : Answer) (ok : Bool) → x ≡ fileAnswer (fileIn l p) (todayIn l) (release k n)
       → ok ≡ accepted x → ok ≡ true → SlotLeft l p k n m → GivenWords l (on p (release k n)) x m
-  unfolding slotsLeft
+  unfolding slotsLeft callsAdded
   given-released m k n x ok b r good left =
       let is = release-is k n x ok b r good in
       let f = fileIn l p in
       let s = slotOf (lessReleased n (positionAt (f .slots) k)) in
-      given-release l p w low m f (withSlots f (set (f .slots) k s)) (todayIn l) refl refl
+      given-none l p w low m (withSlots f (set (f .slots) k s))
       (slot-put l m p (w .canonical) (w .long) low k s (omega (arith, is .0)) (left .back) (left .stored))
-      k n x b (is .2)
+      (release k n) x (λ f t. refl) b (is .2)

@@ -15,12 +15,12 @@ use Rattle.laws.specs.Cases.{cond-true, cond-false}
 use Rattle.laws.specs.Lists.{All}
 use Rattle.manual.specs.Figures.{sumOf}
 use Rattle.file.specs.declared.File.{File}
-use Rattle.file.specs.declared.Position.{Position}
 use Rattle.file.specs.declared.MonthTotal.{MonthTotal}
 use Rattle.file.specs.declared.AnnualRun.{AnnualRun}
 use Rattle.file.specs.declared.Slot.{Slot}
 use Rattle.file.specs.declared.Statement.{Statement}
-use Rattle.file.specs.Answer.{Answer, refused, done, called, covered, recorded, annual, daysOpened, stated, counted, accepted, annualSays, statementSays}
+use Rattle.file.specs.Answer.{Answer, refused, done, called, covered, recorded, annual, daysOpened, stated, counted}
+use Rattle.file.specs.Answer.{accepted, annualSays, statementSays}
 use Rattle.file.specs.Admit.{noFile, admittedFile}
 use Rattle.file.specs.Annual.{annualAmountOf, annualAnswer, annualFile}
 use Rattle.file.specs.Calls.{callOf}
@@ -38,18 +38,18 @@ use Rattle.layout.specs.WellFormed.{SoundBook, WellFormed}
 use Rattle.layout.proofs.BookLaws.{book-long, book-file, put-book, put-length, made-book, canonical-put, canonical-made, freshWords, fresh-words}
 use Rattle.layout.proofs.BookLaws.{canonical-fresh}
 use Rattle.layout.proofs.PartLaws.{withMonths, total-put, next-put}
-use Rattle.book.specs.Call.{Act, admit, lodge, release, settle, annualRun, Call, on, statement, callsMade, isCalled}
-use Rattle.book.specs.Account.{fileAt, freshBook, ifAdmitted, fileAnswer, fileAfter, answer, step, applied}
+use Rattle.book.specs.Call.{Act, admit, settle, annualRun, Call, on, statement, callsMade, isCalled}
+use Rattle.book.specs.Account.{fileAt, freshBook, ifAdmitted, fileAnswer, fileAfter, callsAdded, answer, step, applied}
 use Rattle.book.specs.Reading.Decisions.{cause}
 use Rattle.book.specs.Left.{fileLeft}
 use Rattle.book.specs.Reached.{Given, Begun}
 use Rattle.book.specs.InWords.{GivenWords, BegunWords}
-use Rattle.book.proofs.Functions.Answers.{storedIn, above, sound, left-lodge, left-release, left-annual, left-settle, left-admit}
-use Rattle.book.proofs.Functions.Answers.{gave-admitted-already, gave-no-role, admission-few, settlement-few, count-fits, today-in}
+use Rattle.book.proofs.Functions.Answers.{storedIn, above, left-none, left-settle, left-admit}
+use Rattle.book.proofs.Functions.Answers.{gave-admitted-already, gave-no-role, admission-few, settlement-few, count-fits}
 use Rattle.book.proofs.Functions.Answers.{above-statement, unknown-statement, gave-statement, gave-count}
 use Rattle.book.proofs.Functions.Begins.{begun-refused, begun-done}
 use Rattle.book.proofs.Functions.OnFile.{known-answer, called-is}
-use Rattle.book.proofs.Functions.SoundBook.{step-sound, fresh-sound, behind-admitted}
+use Rattle.book.proofs.Functions.SoundBook.{sound-file, step-sound, fresh-sound, behind-admitted}
 use Rattle.book.proofs.Participant.Decide.{decide-accepted}
 use Rattle.book.proofs.History.Life.{given}
 
@@ -80,13 +80,9 @@ nothing-written l c x w g = in-words l l c x w g refl (w .canonical)
 
 -- ---- what the words of a book hold
 
--- There are words for the head, and for each participant's file.
-pub place-within : (l : List ℕ) (p : ℕ) → WellFormed l → p ≤ 63 → place p + 97 ≤ length l
-place-within l p w low = omega (arith, w .long)
-
 pub day-within : (l : List ℕ) (t : ℕ) → WellFormed l → t ≡ todayIn l → t ≤ 29219
 unfolding bookOfWords
-day-within l t w e = rw e (today-in (bookOfWords l) (w .sound))
+day-within l t w e = rw e (w .sound .day)
 
 room : (l : List ℕ) (n : ℕ) → WellFormed l → n ≤ 4 → getD l 2 0 + n < 18446744073709551616
 unfolding bookOfWords
@@ -107,6 +103,21 @@ none-there l p h = List·getD-eq-default (bookOfWords l .files) noFile (omega (a
 pub file-there : (l : List ℕ) (p : ℕ) → p ≤ 63 → fileAt (bookOfWords l) p ≡ fileIn l p
 unfolding fileAt
 file-there l p h = book-file l p h
+
+-- Whether it is admitted, and its role.
+pub there-admitted : (l : List ℕ) (p : ℕ) (r : Bool) → p ≤ 63 → r ≡ flagOf (getD l (place p + 1) 0) → r ≡ fileAt (bookOfWords l) p .admitted
+unfolding fileOfWords
+there-admitted l p r h e = e ∙ sym (ap (λ (z : File). z .admitted) (file-there l p h))
+
+pub none-admitted : (l : List ℕ) (p : ℕ) → 63 < p → false ≡ fileAt (bookOfWords l) p .admitted
+none-admitted l p h = sym (ap (λ (z : File). z .admitted) (none-there l p h))
+
+pub none-role : (l : List ℕ) (p : ℕ) → 63 < p → 0 ≡ fileAt (bookOfWords l) p .role
+none-role l p h = sym (ap (λ (z : File). z .role) (none-there l p h))
+
+pub there-role : (l : List ℕ) (p : ℕ) → p ≤ 63 → getD l (place p + 2) 0 ≡ fileAt (bookOfWords l) p .role
+unfolding fileOfWords
+there-role l p h = sym (ap (λ (z : File). z .role) (file-there l p h))
 
 -- A file that is read has sixteen month totals.
 file-totals : (l : List ℕ) (p : ℕ) → length (fileIn l p .totals) ≡ 16
@@ -155,17 +166,13 @@ stored-book l m p g low put n long =
 module _ (l : List ℕ) (p : ℕ) (w : WellFormed l) (low : p ≤ 63) where
   pub file-sound : (f : File) (t : ℕ) → f ≡ fileIn l p → t ≡ todayIn l → Sound t f
   unfolding bookOfWords
-  file-sound f t e q =
-      rw (e, q) (subst (Sound (todayIn l)) (book-file l p low) (sound (bookOfWords l) p noFile low (book-long l) (w .sound)))
+  file-sound f t e q = rw (e, q) (subst (Sound (todayIn l)) (file-there l p low) (sound-file (bookOfWords l) p (w .sound)))
 
-  module _ (m : List ℕ) (f g : File) (t : ℕ) (e : f ≡ fileIn l p) (q : t ≡ todayIn l) (put : Put l (place p) g m) where
-    held : f ≡ getD (bookOfWords l .files) p noFile
-    held = e ∙ sym (book-file l p low)
+  -- what is said of the file in the words is said of the book's file
+  said : {X : Type 0} (F : File → X) (x : X) → x ≡ F (fileIn l p) → x ≡ F (fileAt (bookOfWords l) p)
+  said F x e = e ∙ ap F (sym (file-there l p low))
 
-    -- what is said of the file taken out and its day is said of the book's file and day
-    moved : {X : Type 0} (F : File → ℕ → X) (x : X) → x ≡ F f t → x ≡ F (getD (bookOfWords l .files) p noFile) (todayIn l)
-    moved F x e = e ∙ (λ i. F (held i) (q i))
-
+  module _ (m : List ℕ) (g : File) (put : Put l (place p) g m) where
     -- the file alone is put back
     one : (a : Act) (x : Answer) → Given (bookOfWords l) (on p a) x (storedIn (bookOfWords l) p g (bookOfWords l .made)) → GivenWords l (on p a) x m
     one a x h =
@@ -180,47 +187,32 @@ module _ (l : List ℕ) (p : ℕ) (w : WellFormed l) (low : p ≤ 63) where
         (length-set m 2 n ∙ put-length l m p g low put)
         (canonical-made m n (canonical-put l m p g (w .canonical) low put) (omega (arith, put-length l m p g low put, w .long)))
 
-    pub given-lodge : (k : ℕ) (h : Position) (x : Answer) → x ≡ fileAnswer f t (lodge k h) → g ≡ fileLeft f t (lodge k h)
-        → GivenWords l (on p (lodge k h)) x m
+    -- a call that makes none
+    pub given-none : (a : Act) (x : Answer) → ((f : File) (t : ℕ) → callsAdded f t a ≡ 0) → x ≡ fileAnswer (fileIn l p) (todayIn l) a
+        → g ≡ fileLeft (fileIn l p) (todayIn l) a → GivenWords l (on p a) x m
     unfolding bookOfWords
-    given-lodge k h x a b =
-        one (lodge k h) x
-        (left-lodge (bookOfWords l) p noFile low (book-long l) k h x g
-        (moved (λ z d. fileAnswer z d (lodge k h)) x a) (moved (λ z d. fileLeft z d (lodge k h)) g b))
+    given-none a x none e h =
+        one a x
+        (left-none (bookOfWords l) p low a x g none
+        (said (λ z. fileAnswer z (todayIn l) a) x e) (said (λ z. fileLeft z (todayIn l) a) g h))
 
-    pub given-release : (k n : ℕ) (x : Answer) → x ≡ fileAnswer f t (release k n) → g ≡ fileLeft f t (release k n)
-        → GivenWords l (on p (release k n)) x m
+    -- a settlement: one that made no call, and one that made k
+    settle-stored : (mo : ℕ) (figures : List ℤ) (x : Answer) (k : ℕ) → x ≡ fileAnswer (fileIn l p) (todayIn l) (settle mo figures)
+        → g ≡ fileLeft (fileIn l p) (todayIn l) (settle mo figures) → k ≡ cond (isCalled x) 1 0
+        → Given (bookOfWords l) (on p (settle mo figures)) x (storedIn (bookOfWords l) p g (getD l 2 0 + k))
     unfolding bookOfWords
-    given-release k n x a b =
-        one (release k n) x
-        (left-release (bookOfWords l) p noFile low (book-long l) k n x g
-        (moved (λ z d. fileAnswer z d (release k n)) x a) (moved (λ z d. fileLeft z d (release k n)) g b))
+    settle-stored mo figures x k a b c =
+        left-settle (bookOfWords l) p low mo figures x k g
+        (said (λ z. fileAnswer z (todayIn l) (settle mo figures)) x a) (said (λ z. fileLeft z (todayIn l) (settle mo figures)) g b) c
 
-    given-annual : (x : Answer) → x ≡ fileAnswer f t annualRun → g ≡ fileLeft f t annualRun → GivenWords l (on p annualRun) x m
-    unfolding bookOfWords
-    given-annual x a b =
-        one annualRun x
-        (left-annual (bookOfWords l) p noFile low (book-long l) x g
-        (moved (λ z d. fileAnswer z d annualRun) x a) (moved (λ z d. fileLeft z d annualRun) g b))
-
-    pub given-settle : (mo : ℕ) (figures : List ℤ) (x : Answer) (k : ℕ)
-        → x ≡ fileAnswer f t (settle mo figures) → g ≡ fileLeft f t (settle mo figures) → k ≡ cond (isCalled x) 1 0
-        → GivenWords l (on p (settle mo figures)) x (set m 2 (getD l 2 0 + k))
-    unfolding bookOfWords
-    given-settle mo figures x k a b c =
-        both (settle mo figures) x (getD l 2 0 + k)
-        (left-settle (bookOfWords l) p noFile low (book-long l) mo figures x k g
-        (moved (λ z d. fileAnswer z d (settle mo figures)) x a) (moved (λ z d. fileLeft z d (settle mo figures)) g b) c)
-
-    -- a settlement that made no call
-    given-settled : (mo : ℕ) (figures : List ℤ) (x : Answer) → x ≡ fileAnswer f t (settle mo figures) → g ≡ fileLeft f t (settle mo figures)
-        → _≡_ {A = ℕ} (cond (isCalled x) 1 0) 0 → GivenWords l (on p (settle mo figures)) x m
+    given-settled : (mo : ℕ) (figures : List ℤ) (x : Answer) → x ≡ fileAnswer (fileIn l p) (todayIn l) (settle mo figures)
+        → g ≡ fileLeft (fileIn l p) (todayIn l) (settle mo figures) → _≡_ {A = ℕ} (cond (isCalled x) 1 0) 0
+        → GivenWords l (on p (settle mo figures)) x m
     unfolding bookOfWords
     given-settled mo figures x a b c =
         one (settle mo figures) x
         (subst (λ (n : ℕ). Given (bookOfWords l) (on p (settle mo figures)) x (storedIn (bookOfWords l) p g n)) (add-zero (getD l 2 0))
-        (left-settle (bookOfWords l) p noFile low (book-long l) mo figures x 0 g
-        (moved (λ z d. fileAnswer z d (settle mo figures)) x a) (moved (λ z d. fileLeft z d (settle mo figures)) g b) (sym c)))
+        (settle-stored mo figures x 0 a b (sym c)))
 
   -- a refused call writes nothing, and an accepted one what it changed
   module _ where
@@ -265,7 +257,8 @@ module _ (l : List ℕ) (p : ℕ) (w : WellFormed l) (low : p ≤ 63) where
         let is : g ≡ withMonths f (set (f .totals) (mo % 16) T) =
         c
         ∙ go .1
-        ∙ cond-true (accepted (settleAnswer f t mo figures)) (withTotals f (withTotal (f .totals) mo (sumOf figures)) (callsSettled f t mo figures)) f own
+        ∙ cond-true (accepted (settleAnswer f t mo figures))
+        (withTotals f (withTotal (f .totals) mo (sumOf figures)) (callsSettled f t mo figures)) f own
         ∙ ap (withTotals f (set (f .totals) (mo % 16) T)) same
         ∙ (λ i. record {
           admitted = f .admitted;
@@ -296,13 +289,15 @@ module _ (l : List ℕ) (p : ℕ) (w : WellFormed l) (low : p ≤ 63) where
     given-recorded m mo figures x ok n g b c r good number none stored back =
         let z = getD (g .totals) (mo % 16) noTotal in
         let put = total-put l m p (w .canonical) (w .long) low (mo % 16) z (omega arith) back stored in
-        given-settled m f (withMonths f (set (f .totals) (mo % 16) z)) t refl refl put mo figures x b (month-left mo figures x ok n g b c r good number none ∙ c) (sym number ∙ none)
+        given-settled m (withMonths f (set (f .totals) (mo % 16) z)) put mo figures x b
+        (month-left mo figures x ok n g b c r good number none ∙ c) (sym number ∙ none)
 
     -- one that called leaves its file, and the count
     pub given-called : (m : List ℕ) (mo : ℕ) (figures : List ℤ) (x : Answer) (g : File) (k : ℕ)
         → x ≡ fileAnswer f t (settle mo figures) → g ≡ fileLeft f t (settle mo figures) → k ≡ cond (isCalled x) 1 0 → Put l (place p) g m
         → GivenWords l (on p (settle mo figures)) x (set m 2 (getD l 2 0 + k))
-    given-called m mo figures x g k b c number put = given-settle m f g t refl refl put mo figures x k b c number
+    given-called m mo figures x g k b c number put =
+        both m g put (settle mo figures) x (getD l 2 0 + k) (settle-stored m g put mo figures x k b c number)
 
     -- an annual run leaves the next amount
     pub given-no-run : (r : AnnualRun) (n : ℕ) → annualSays r ≡ fileAnswer f t annualRun → r ≡ AnnualRun.Refused n
@@ -311,44 +306,42 @@ module _ (l : List ℕ) (p : ℕ) (w : WellFormed l) (low : p ≤ 63) where
 
     pub given-run : (m : List ℕ) (r : AnnualRun) (a n : ℕ) → annualSays r ≡ fileAnswer f t annualRun → r ≡ AnnualRun.Amount a n
         → m ≡ written l (place p + 5) (1 ∷ a ∷ []) → GivenWords l (on p annualRun) (annual a n) m
-    unfolding fileAnswer fileAfter annualAnswer annualFile
+    unfolding fileAnswer fileAfter callsAdded annualAnswer annualFile
     given-run m r a n said e stored =
         let b : annual a n ≡ fileAnswer f t annualRun = ap annualSays (sym e) ∙ said in
         let go = after annualRun (annual a n) true b refl refl in
         let own = behind-admitted f (annualAnswer f t) (go .0) in
         let amount : a ≡ annualAmountOf f t = ap amountIn (b ∙ is-behind f (annualAnswer f t) (go .0) ∙ decide-accepted _ _ own) in
-        given-annual m f (withNext f (setTo a)) t refl refl (next-put l m p (w .canonical) (w .long) low a stored)
-        (annual a n) b
+        given-none m (withNext f (setTo a)) (next-put l m p (w .canonical) (w .long) low a stored) annualRun (annual a n) (λ f t. refl) b
         (ap (λ (y : ℕ). withNext f (setTo y)) amount
         ∙ sym (go .1 ∙ cond-true (accepted (annualAnswer f t)) (withNext f (setTo (annualAmountOf f t))) f own))
 
   -- whether it is admitted, by its word
   module _ (a : Bool) (ea : a ≡ flagOf (getD l (place p + 1) 0)) where
-    flag-is : a ≡ getD (bookOfWords l .files) p noFile .admitted
-    unfolding fileOfWords
-    flag-is = ea ∙ ap (λ (z : File). z .admitted) (sym (book-file l p low))
+    flag-is : a ≡ fileAt (bookOfWords l) p .admitted
+    flag-is = there-admitted l p a low ea
 
     pub given-already : (role : ℕ) → a ≡ true → GivenWords l (on p (admit role)) (refused 3) l
     given-already role h =
         nothing-written l (on p (admit role)) (refused 3) w
-        (gave-admitted-already (bookOfWords l) p noFile low (book-long l) role (sym flag-is ∙ h))
+        (gave-admitted-already (bookOfWords l) p low role (sym flag-is ∙ h))
 
     pub given-no-role : (role : ℕ) → a ≡ false → 5 < role → GivenWords l (on p (admit role)) (refused 4) l
     given-no-role role h k =
         nothing-written l (on p (admit role)) (refused 4) w
-        (gave-no-role (bookOfWords l) p noFile low (book-long l) role (sym flag-is ∙ h) k)
+        (gave-no-role (bookOfWords l) p low role (sym flag-is ∙ h) k)
 
     pub given-admit : (m : List ℕ) (g : File) (t role n : ℕ) → t ≡ todayIn l → Put l (place p) g m → a ≡ false → role ≤ 5
         → g ≡ admittedFile t role → n ≡ getD l 2 0 + g .count → GivenWords l (on p (admit role)) done (set m 2 n)
     unfolding bookOfWords
     given-admit m g t role n q put h k b e =
-        both m (fileIn l p) g t refl q put (admit role) done n
+        both m g put (admit role) done n
         (subst (λ (z : ℕ). Given (bookOfWords l) (on p (admit role)) done (storedIn (bookOfWords l) p g z)) (sym e)
-        (left-admit (bookOfWords l) p noFile low (book-long l) role g (sym flag-is ∙ h) k (b ∙ ap (λ (d : ℕ). admittedFile d role) q)))
+        (left-admit (bookOfWords l) p low role g (sym flag-is ∙ h) k (b ∙ ap (λ (d : ℕ). admittedFile d role) q)))
 
     -- the statement
     pub given-unknown : a ≡ false → Given (bookOfWords l) (statement p) (refused 2) (bookOfWords l)
-    given-unknown h = unknown-statement (bookOfWords l) p noFile low (book-long l) (sym flag-is ∙ h)
+    given-unknown h = unknown-statement (bookOfWords l) p low (sym flag-is ∙ h)
 
     pub given-statement : a ≡ true → (t c n : ℕ) → t ≡ todayIn l → c ≡ coverOn t (slotsOfWords (wordsAt l (place p))) → n ≡ getD l (place p + 3) 0 - c
         → Given (bookOfWords l) (statement p)
@@ -362,7 +355,8 @@ module _ (l : List ℕ) (p : ℕ) (w : WellFormed l) (low : p ≤ 63) where
         (bookOfWords l)
     unfolding bookOfWords fileOfWords statementOf coverOf shortfallOf
     given-statement h t c n q ec en =
-        let covered : c ≡ coverOn (todayIn l) (slotsOfWords (wordsAt l (place p))) = ec ∙ ap (λ (d : ℕ). coverOn d (slotsOfWords (wordsAt l (place p)))) q in
+        let slots = slotsOfWords (wordsAt l (place p)) in
+        let covered : c ≡ coverOn (todayIn l) slots = ec ∙ ap (λ (d : ℕ). coverOn d slots) q in
         let st : Statement =
         record {
           firm = getD l (place p + 3) 0;
@@ -371,7 +365,7 @@ module _ (l : List ℕ) (p : ℕ) (w : WellFormed l) (low : p ≤ 63) where
           charged = getD l (place p + 7) 0;
           accrued = getD l (place p + 8) 0;
         } in
-        gave-statement (bookOfWords l) p noFile low (book-long l) st (sym flag-is ∙ h)
+        gave-statement (bookOfWords l) p low st (sym flag-is ∙ h)
         ((λ i. record {
           firm = getD l (place p + 3) 0;
           cover = covered i;
@@ -379,7 +373,7 @@ module _ (l : List ℕ) (p : ℕ) (w : WellFormed l) (low : p ≤ 63) where
           charged = getD l (place p + 7) 0;
           accrued = getD l (place p + 8) 0;
         })
-        ∙ ap (λ (z : File). statementOf z (todayIn l)) (sym (book-file l p low)))
+        ∙ ap (λ (z : File). statementOf z (todayIn l)) (sym (file-there l p low)))
 
   -- its positions are sound
   pub slots-sound : All (λ (z : Slot). SoundPosition (z .position)) (slotsOfWords (wordsAt l (place p)))
@@ -407,22 +401,6 @@ answer-read l p a f t x e q h = h ∙ (λ i. fileAnswer (e i) (q i) a)
 pub left-read : (l : List ℕ) (p : ℕ) (a : Act) (f g : File) (t : ℕ) → f ≡ fileIn l p → t ≡ todayIn l → g ≡ fileLeft f t a
     → g ≡ fileLeft (fileIn l p) (todayIn l) a
 left-read l p a f g t e q h = h ∙ (λ i. fileLeft (e i) (q i) a)
-
--- ---- what is read of a file
-
-pub none-admitted : (l : List ℕ) (p : ℕ) → 63 < p → false ≡ fileAt (bookOfWords l) p .admitted
-none-admitted l p h = sym (ap (λ (z : File). z .admitted) (none-there l p h))
-
-pub there-admitted : (l : List ℕ) (p : ℕ) (r : Bool) → p ≤ 63 → r ≡ flagOf (getD l (place p + 1) 0) → r ≡ fileAt (bookOfWords l) p .admitted
-unfolding fileOfWords
-there-admitted l p r h e = e ∙ sym (ap (λ (z : File). z .admitted) (file-there l p h))
-
-pub none-role : (l : List ℕ) (p : ℕ) → 63 < p → 0 ≡ fileAt (bookOfWords l) p .role
-none-role l p h = sym (ap (λ (z : File). z .role) (none-there l p h))
-
-pub there-role : (l : List ℕ) (p : ℕ) → p ≤ 63 → getD l (place p + 2) 0 ≡ fileAt (bookOfWords l) p .role
-unfolding fileOfWords
-there-role l p h = sym (ap (λ (z : File). z .role) (file-there l p h))
 
 -- ---- a fresh book
 

@@ -4,14 +4,14 @@ use Prim.Native.Nat.{ℕ, zero, suc, _+_, _-_, _*_, _≤_, _<_, min}
 use native.Mathlib.Nat.{add-zero}
 use native.Mathlib.Omega.{arith}
 use mathlib.Core.Path.{_≡_, refl, sym, ap, subst, _∙_}
-use mathlib.Core.Bool.{Bool, true, false, cond, not, _||_}
+use mathlib.Core.Bool.{Bool, true, cond, not, _||_}
 use mathlib.Core.List.{List, [], _∷_}
-use borrow.Author.Tests.{ltb-false}
+use borrow.Author.Tests.{ltb-false, not-false}
 use lib.Dec.{ltb}
 use lib.IntN.{ℤ}
 use lib.ListN.{length, getD, set, replicate, length-append, length-set, length-map, length-replicate}
 use Rattle.laws.specs.Lists.{All, all-default, all-set, all-replicate, all-map}
-use Rattle.laws.specs.Cases.{split, clash, cond-true, cond-false, or-first, or-second}
+use Rattle.laws.specs.Cases.{split, clash, cond-true, by-test}
 use Rattle.file.specs.declared.File.{File}
 use Rattle.file.specs.Answer.{Answer, refused, done, daysOpened, Cause, decide, accepted}
 use Rattle.file.specs.Admit.{noFile, admittedFile}
@@ -34,6 +34,7 @@ use Rattle.book.specs.Account.{openDay, openDays, answer, applied, step,
 use Rattle.book.specs.Reading.Decisions.{cause}
 use Rattle.book.specs.Reached.{Reached}
 use Rattle.book.proofs.Participant.Decide.{decide-accepted}
+use Rattle.book.proofs.History.Advances.{days-fit}
 
 -- A participant's file in it.
 pub sound-file : (b : Book) (p : ℕ) → SoundBook b → Sound (b .today .0) (fileAt b p)
@@ -60,9 +61,7 @@ sound-later t f h s =
 pub sound-opened : (t : ℕ) (f : File) → suc t ≤ 29219 → Sound t f → Sound (suc t) (openedIfAdmitted (suc t) f)
 unfolding openedIfAdmitted
 sound-opened t f h s =
-    split (f .admitted)
-    (λ e. rw (cond-true (f .admitted) (openedFile f (suc t)) f e) (opened-sound f t s h))
-    (λ e. rw (cond-false (f .admitted) (openedFile f (suc t)) f e) (sound-later t f h s))
+    by-test (f .admitted) (openedFile f (suc t)) f (Sound (suc t)) (λ e. opened-sound f t s h) (λ e. sound-later t f h s)
 
 -- ---- the open calls of all files
 
@@ -119,20 +118,11 @@ behind-number p x e = through (cause 1 (ltb 63 p) ∷ []) x e
 
 is-admitted : (f : File) (x : Answer) → accepted (ifAdmitted f x) ≡ true → f .admitted ≡ true
 unfolding ifAdmitted
-is-admitted f x e = not-not (f .admitted) (none-holds (cause 2 (not (f .admitted)) ∷ []) x e .0)
-  where
-    not-not : (b : Bool) → not b ≡ false → b ≡ true
-    not-not true e = refl
-    not-not false e = sym e
+is-admitted f x e = not-false (f .admitted) (none-holds (cause 2 (not (f .admitted)) ∷ []) x e .0)
 
 pub behind-admitted : (f : File) (x : Answer) → accepted (ifAdmitted f x) ≡ true → accepted x ≡ true
 unfolding ifAdmitted
 behind-admitted f x e = through (cause 2 (not (f .admitted)) ∷ []) x e
-
--- What both files have, either has.
-either : (P : File → Type 0) (c : Bool) (f g : File) → P f → P g → P (cond c f g)
-either P true f g p q = p
-either P false f g p q = q
 
 -- The file that an accepted call leaves is admitted, and has as many more open calls as were made.
 module _ (f : File) (t : ℕ) (s : Sound t f) (blank : BlankUnlessAdmitted f) where
@@ -140,7 +130,7 @@ module _ (f : File) (t : ℕ) (s : Sound t f) (blank : BlankUnlessAdmitted f) wh
   Grown n g = (g .admitted ≡ true) × (f .count + n ≤ g .count)
 
   kept : (c : Bool) (g : File) → f .admitted ≡ true → g .admitted ≡ f .admitted → g .count ≡ f .count → Grown 0 (cond c g f)
-  kept c g known e q = either (Grown 0) c g f (e ∙ known, omega arith) (known, omega arith)
+  kept c g known e q = by-test c g f (Grown 0) (λ yes. (e ∙ known, omega arith)) (λ no. (known, omega arith))
 
   settled-count : (m : ℕ) (figures : List ℤ) → length (callsSettled f t m figures) ≡ f .count + cond (settlementCalls f t m figures) 1 0
   unfolding callsSettled
@@ -179,9 +169,7 @@ after-sound f t annualRun h s = annual-sound f t s
 blank-opened : (d : ℕ) (f : File) → BlankUnlessAdmitted f → BlankUnlessAdmitted (openedIfAdmitted d f)
 unfolding openedIfAdmitted openedFile
 blank-opened d f blank =
-    split (f .admitted)
-    (λ e. rw (cond-true (f .admitted) (openedFile f d) f e) (λ n. clash e n))
-    (λ e. rw (cond-false (f .admitted) (openedFile f d) f e) blank)
+    by-test (f .admitted) (openedFile f d) f BlankUnlessAdmitted (λ e n. clash e n) (λ e. blank)
 
 day-sound : (b : Book) → suc (b .today .0) ≤ 29219 → SoundBook b → SoundBook (openDay b)
 unfolding openDay
@@ -204,14 +192,12 @@ days-sound zero b h s = s
 days-sound (suc n) b h s = days-sound n (openDay b) (omega arith) (day-sound b (omega arith) s)
 
 -- The days that an accepted advance opens.
-within : (b : Book) (day budget : ℕ) → accepted (answer b (advance day budget)) ≡ true → b .today .0 ≤ 29219
+within : (b : Book) (day budget : ℕ) → accepted (answer b (advance day budget)) ≡ true
     → b .today .0 + min budget (day - b .today .0) ≤ 29219
 unfolding answer
-within b day budget e le =
-    let none = none-holds (cause 17 (ltb 29219 day || ltb day (b .today .0)) ∷ []) (daysOpened (min budget (day - b .today .0))) e in
-    let low = ltb-false 29219 day (or-first (ltb 29219 day) (ltb day (b .today .0)) (none .0)) in
-    let high = ltb-false day (b .today .0) (or-second (ltb 29219 day) (ltb day (b .today .0)) (none .0)) in
-    omega arith
+within b day budget e =
+    let t = b .today .0 in
+    days-fit day t budget (none-holds (cause 17 (ltb 29219 day || ltb day t) ∷ []) (daysOpened (min budget (day - t))) e .0)
 
 applied-sound : (b : Book) (c : Call) → accepted (answer b c) ≡ true → SoundBook b → SoundBook (applied b c)
 unfolding answer applied withFile fileAt
@@ -229,16 +215,14 @@ applied-sound b (on p a) e s =
       made = omega (arith, s .made, open-more (b .files) p (callsAdded f t a) (fileAfter f t a) (omega (arith, s .many)) (more .1));
     }
 applied-sound b (advance day budget) e s =
-    days-sound (min budget (day - b .today .0)) b (within b day budget e (s .day)) s
+    days-sound (min budget (day - b .today .0)) b (within b day budget e) s
 applied-sound b (statement p) e s = s
 applied-sound b callsMade e s = s
 
 pub step-sound : (b : Book) (c : Call) → SoundBook b → SoundBook (step b c)
 unfolding step
 step-sound b c s =
-    split (accepted (answer b c))
-    (λ e. rw (cond-true (accepted (answer b c)) (applied b c) b e) (applied-sound b c e s))
-    (λ e. rw (cond-false (accepted (answer b c)) (applied b c) b e) s)
+    by-test (accepted (answer b c)) (applied b c) b SoundBook (λ e. applied-sound b c e s) (λ e. s)
 
 run-sound : (s : ℕ) (calls : List Call) → s ≤ 29219 → SoundBook (run s calls)
 unfolding run

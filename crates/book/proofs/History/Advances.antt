@@ -1,19 +1,37 @@
--- An advance equals any advances that open the same days.
+-- Days opened in turn: an advance equals any advances that open the same days, and stays within the calendar.
 -- Assumes nothing.
 use Prim.Native.Nat.{ℕ, zero, suc, _+_, _-_, _≤_, min}
 use native.Mathlib.Omega.{arith}
 use mathlib.Core.Path.{_≡_, refl, sym, ap, _∙_}
-use mathlib.Core.Bool.{Bool, true, false, cond}
+use mathlib.Core.Bool.{false, _||_}
 use mathlib.Core.List.{List, [], _∷_}
-use Rattle.laws.specs.Cases.{split, cond-true, cond-false}
+use borrow.Author.Tests.{ltb-false}
+use lib.Dec.{ltb}
+use Rattle.laws.specs.Cases.{split, cond-true, cond-false, or-first, or-second}
 use Rattle.file.specs.Answer.{accepted}
 use Rattle.layout.specs.Book.{Book}
 use Rattle.book.specs.Call.{Call, on, advance, statement, callsMade}
 use Rattle.book.specs.Account.{openDay, openDays, answer, applied, step}
 use Rattle.book.specs.Life.{after, Advances, SameDays}
 
+-- Where cause 17 doesn't hold, the day is one of the calendar and not before today, and so are the days that are opened.
+pub not-outside : (day t : ℕ) → (ltb 29219 day || ltb day t) ≡ false → (day ≤ 29219) × (t ≤ day)
+not-outside day t e = (
+  ltb-false 29219 day (or-first (ltb 29219 day) (ltb day t) e),
+  ltb-false day t (or-second (ltb 29219 day) (ltb day t) e),
+)
+
+pub days-fit : (day t budget : ℕ) → (ltb 29219 day || ltb day t) ≡ false → t + min budget (day - t) ≤ 29219
+days-fit day t budget e = let within = not-outside day t e in omega (arith, within .0, within .1)
+
+-- The last of the days that are opened in turn.
+pub openDays-last : (n : ℕ) (b : Book) → openDays (suc n) b ≡ openDay (openDays n b)
+unfolding openDays
+openDays-last zero b = refl
+openDays-last (suc n) b = openDays-last n (openDay b)
+
 -- Days opened in two turns.
-pub openDays-sum : (m n : ℕ) (b : Book) → openDays n (openDays m b) ≡ openDays (m + n) b
+openDays-sum : (m n : ℕ) (b : Book) → openDays n (openDays m b) ≡ openDays (m + n) b
 unfolding openDays
 openDays-sum zero n b = let e : n ≡ 0 + n = omega arith in ap (λ (k : ℕ). openDays k b) e
 openDays-sum (suc m) n b =
@@ -21,7 +39,7 @@ openDays-sum (suc m) n b =
     openDays-sum m n (openDay b) ∙ ap (λ (k : ℕ). openDays k b) e
 
 -- The day that opening n days leads to.
-pub openDays-today : (n : ℕ) (b : Book) → openDays n b .today .0 ≡ b .today .0 + n
+openDays-today : (n : ℕ) (b : Book) → openDays n b .today .0 ≡ b .today .0 + n
 unfolding openDays openDay
 openDays-today zero b = omega arith
 openDays-today (suc n) b = let e = openDays-today n (openDay b) in omega arith

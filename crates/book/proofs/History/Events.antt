@@ -1,20 +1,38 @@
 -- Each participant's part of the events of a list of calls is lawful, and today is the same in all of them.
 -- Assumes nothing.
-use Prim.Native.Nat.{ℕ, zero, suc, _+_, _-_, _≤_, _<_, min}
+use Prim.Native.Nat.{ℕ, zero, suc, _+_, _-_, _≤_, min}
 use native.Mathlib.Omega.{arith}
 use mathlib.Core.Path.{_≡_, refl, sym, ap, subst, _∙_}
-use mathlib.Core.Bool.{Bool, true, false, cond, _||_}
+use mathlib.Core.Bool.{true, _||_}
 use mathlib.Core.List.{List, [], _∷_}
-use borrow.Author.Tests.{eqb-true, ltb-false}
+use borrow.Author.Tests.{eqb-true, eqb-false}
 use lib.Dec.{eqb, ltb}
-use Rattle.laws.specs.Cases.{split, cond-true, cond-false}
-use Rattle.file.specs.Answer.{Answer, daysOpened, decide, accepted}
+use Rattle.laws.specs.Cases.{by-test}
+use Rattle.file.specs.Answer.{daysOpened, accepted}
 use Rattle.book.specs.Call.{Act, Call, on, advance, statement, callsMade}
 use Rattle.book.specs.Reading.Events as E
-use Rattle.book.specs.Reading.Events.{Event, did, Own, dayOpened, act, mine, todayOf, todayIn, withDays}
-use Rattle.book.specs.Reading.Decisions.{cause, ownCauses, ownAnswer, ownStatement, decision, withCall, eventsOf}
-use Rattle.book.proofs.Participant.Lawful.{NoneHolds, Lawful}
+use Rattle.book.specs.Reading.Events.{Event, did, Own, act, mine, todayOf, withDays}
+use Rattle.book.specs.Reading.Decisions.{cause, ownCauses, ownAnswer, decision, withCall, eventsOf}
+use Rattle.book.proofs.Participant.Lawful.{todayIn, NoneHolds, Lawful}
 use Rattle.file.specs.DecideLaws.{none-holds}
+use Rattle.book.proofs.History.Advances.{days-fit}
+
+-- What holds of every participant's part after a call of participant q: of q's with the call added, and of each other's as it was.
+pub mine-did : (P : ℕ → List Own → Type 0) (d q p : ℕ) (a : Act) (events : List Event) → P q (act d a ∷ mine q events)
+    → ((q ≡ p → ⊥) → P p (mine p events)) → P p (mine p (did d q a ∷ events))
+unfolding mine
+mine-did P d q p a events named other =
+    by-test (eqb q p) (act d a ∷ mine p events) (mine p events) (P p)
+    (λ e. subst (λ (k : ℕ). P k (act d a ∷ mine k events)) (eqb-true q p e) named)
+    (λ e. other (eqb-false q p e))
+
+-- So q's part has one more act, and every other's is as it was.
+pub mine-named : (d q : ℕ) (a : Act) (events : List Event) → act d a ∷ mine q events ≡ mine q (did d q a ∷ events)
+mine-named d q a events = mine-did (λ k own. act d a ∷ mine k events ≡ own) d q q a events refl (λ ne. absurd (ne refl))
+
+pub mine-other : (d q p : ℕ) (a : Act) (events : List Event) → (p ≡ q → ⊥) → mine p events ≡ mine p (did d q a ∷ events)
+mine-other d q p a events ne =
+    mine-did (λ k own. (k ≡ q → ⊥) → mine k events ≡ own) d q p a events (λ n. absurd (n refl)) (λ m n. refl) ne
 
 -- Today, by the events and by each participant's part.
 pub today-mine : (s p : ℕ) (events : List Event) → todayIn s (mine p events) ≡ todayOf s events
@@ -22,9 +40,7 @@ unfolding mine todayOf todayIn
 today-mine s p [] = refl
 today-mine s p (E.opened d ∷ events) = refl
 today-mine s p (did d q a ∷ events) =
-    split (eqb q p)
-    (λ e. ap (todayIn s) (cond-true (eqb q p) (act d a ∷ mine p events) (mine p events) e) ∙ today-mine s p events)
-    (λ e. ap (todayIn s) (cond-false (eqb q p) (act d a ∷ mine p events) (mine p events) e) ∙ today-mine s p events)
+    mine-did (λ k own. todayIn s own ≡ todayOf s events) d q p a events (today-mine s q events) (λ ne. today-mine s p events)
 
 -- The day after n more were opened.
 pub today-days : (s n : ℕ) (events : List Event) → todayOf s (withDays n (todayOf s events) events) ≡ todayOf s events + n
@@ -56,38 +72,16 @@ lawful-days s (suc n) events lw le =
 -- .. with one more call accepted.
 pub lawful-did : (s q : ℕ) (a : Act) (events : List Event) → LawfulAll s events
     → NoneHolds (ownCauses (todayOf s events) (mine q events) a) → LawfulAll s (did (todayOf s events) q a ∷ events)
-unfolding mine
 lawful-did s q a events lw none p =
-    split (eqb q p)
-    (λ e. rw (cond-true (eqb q p) (act (todayOf s events) a ∷ mine p events) (mine p events) e)
-    (sym (today-mine s p events), subst (λ (k : ℕ). NoneHolds (ownCauses (todayOf s events) (mine k events) a)) (eqb-true q p e) none, lw p))
-    (λ e. rw (cond-false (eqb q p) (act (todayOf s events) a ∷ mine p events) (mine p events) e) (lw p))
-
--- The two halves of a disjunction that fails.
-or-false : (x y : Bool) → (x || y) ≡ false → (x ≡ false) × (y ≡ false)
-or-false true y e = absurd (mathlib.Core.Bool.true≢false e)
-or-false false y e = (refl, e)
+    mine-did (λ k own. Lawful s own) (todayOf s events) q p a events (sym (today-mine s q events), none, lw q) (λ ne. lw p)
 
 -- The days that an accepted advance opens stay within the calendar.
 pub days-within : (s day budget : ℕ) (events : List Event) → accepted (decision s events (advance day budget)) ≡ true
-    → todayOf s events ≤ 29219 → todayOf s events + min budget (day - todayOf s events) ≤ 29219
+    → todayOf s events + min budget (day - todayOf s events) ≤ 29219
 unfolding decision
-days-within s day budget events e le =
-    let none = none-holds (cause 17 (ltb 29219 day || ltb day (todayOf s events)) ∷ []) (daysOpened (min budget (day - todayOf s events))) e in
-    let both = or-false (ltb 29219 day) (ltb day (todayOf s events)) (none .0) in
-    let low = ltb-false 29219 day (both .0) in
-    let high = ltb-false day (todayOf s events) (both .1) in
-    omega arith
-
--- Today lies within the calendar.
-pub today-within : (s : ℕ) (own : List Own) → Lawful s own → todayIn s own ≤ 29219
-unfolding todayIn
-today-within s [] lw = lw
-today-within s (dayOpened d ∷ own) lw = lw .1
-today-within s (act d a ∷ own) lw = today-within s own (lw .2)
-
-pub today-ends : (s : ℕ) (events : List Event) → LawfulAll s events → todayOf s events ≤ 29219
-today-ends s events lw = rw (today-mine s 0 events) at (today-within s (mine 0 events) (lw 0))
+days-within s day budget events e =
+    let t = todayOf s events in
+    days-fit day t budget (none-holds (cause 17 (ltb 29219 day || ltb day t) ∷ []) (daysOpened (min budget (day - t))) e .0)
 
 -- .. with an accepted call's events.
 pub lawful-call : (s : ℕ) (events : List Event) (c : Call) → LawfulAll s events → accepted (decision s events c) ≡ true
@@ -97,7 +91,7 @@ lawful-call s events (on p a) lw e =
     lawful-did s p a events lw
     (none-holds (cause 1 (ltb 63 p) ∷ ownCauses (todayOf s events) (mine p events) a) (ownAnswer (todayOf s events) (mine p events) a) e .1)
 lawful-call s events (advance day budget) lw e =
-    lawful-days s (min budget (day - todayOf s events)) events lw (days-within s day budget events e (today-ends s events lw))
+    lawful-days s (min budget (day - todayOf s events)) events lw (days-within s day budget events e)
 lawful-call s events (statement p) lw e = lw
 lawful-call s events callsMade lw e = lw
 
@@ -106,7 +100,7 @@ pub lawful-events : (s : ℕ) (calls : List Call) → s ≤ 29219 → LawfulAll 
 unfolding eventsOf mine
 lawful-events s [] le = λ p. le
 lawful-events s (c ∷ calls) le =
-    split (accepted (decision s (eventsOf s calls) c))
-    (λ e. rw (cond-true (accepted (decision s (eventsOf s calls) c)) (withCall s (eventsOf s calls) c) (eventsOf s calls) e)
-    (lawful-call s (eventsOf s calls) c (lawful-events s calls le) e))
-    (λ e. rw (cond-false (accepted (decision s (eventsOf s calls) c)) (withCall s (eventsOf s calls) c) (eventsOf s calls) e) (lawful-events s calls le))
+    let events = eventsOf s calls in
+    by-test (accepted (decision s events c)) (withCall s events c) events (LawfulAll s)
+    (λ e. lawful-call s events c (lawful-events s calls le) e)
+    (λ e. lawful-events s calls le)

@@ -1,92 +1,121 @@
--- The claim about every list of calls from a fresh book on any day of the calendar, with nothing assumed: what is shown of each call, put
--- together.
+-- The claim about every list of calls from a fresh book on any day of the calendar, with nothing assumed.
 -- Assumes nothing.
-use Prim.Native.Nat.{ℕ, suc, _+_, _≤_}
-use mathlib.Core.Path.{_≡_, refl}
+use Prim.Native.Nat.{ℕ, _≤_, _<_}
+use mathlib.Core.Path.{_≡_, refl, sym, ap, ap₂, subst, subst₂, _∙_}
 use mathlib.Core.List.{List, [], _∷_}
-use lib.ListN.{length}
-use Rattle.file.specs.Answer.{Answer, refused, decide}
+use Rattle.laws.specs.Cases.{by-test}
+use Rattle.file.specs.declared.File.{File}
+use Rattle.file.specs.Answer.{Answer, accepted}
 use Rattle.layout.specs.Book.{Book}
-use Rattle.book.specs.Call.{Act, admit, lodge, release, settle, annualRun, Call}
-use Rattle.book.specs.Account.{fileAnswer, fileAfter, callsAdded, answer, step}
-use Rattle.book.specs.Reading.Events.{Own, act, todayIn}
-use Rattle.book.specs.Reading.Calls.{callsIn}
-use Rattle.book.specs.Reading.Decisions.{ownCauses, ownAnswer}
-use Rattle.book.specs.Kept.{fileIn}
-use Rattle.book.proofs.Participant.Lawful.{NoneHolds, Lawful}
-use Rattle.book.specs.Life.{Life}
-use Rattle.book.specs.Reached.{Reached, Given}
-use Rattle.book.proofs.Participant.Cover.{cover-is}
-use Rattle.book.proofs.Participant.Admitting.{admit-answer, admit-file, admit-calls}
-use Rattle.book.proofs.Participant.Lodging.{lodging-answers, lodging-leaves}
-use Rattle.book.proofs.Participant.Releasing.{releasing-answers, releasing-leaves}
-use Rattle.book.proofs.Participant.Settling.{settle-answer, settle-file, settle-calls}
-use Rattle.book.proofs.Participant.Annual.{annual-answer, annual-file, annual-calls}
-use Rattle.book.proofs.Participant.Opening.{day-opened}
-use Rattle.book.proofs.Participant.Statements.{statement-is}
-use Rattle.book.proofs.Participant.Shortfalls.{shortfall-not-higher, newly-admitted}
+use Rattle.book.specs.Call.{Call}
+use Rattle.book.specs.Account.{fileAt, answer, step, run}
+use Rattle.book.specs.Reading.Events.{Event, Own, dayOpened, act, mine, todayOf}
+use Rattle.book.specs.Reading.Decisions.{callsBelow, decision, withCall, eventsOf}
+use Rattle.book.specs.Kept.{fileIn, bookIn}
+use Rattle.book.specs.Life.{answersOf, decisionsOf, ReadsAs, ChargedRight, EachDay, NoneHigher, EachCall, Life}
+use Rattle.book.specs.Reached.{Given}
+use Rattle.book.proofs.Participant.Lawful.{Lawful}
 use Rattle.book.proofs.Participant.DayCharged.{day-counted, day-charged}
-use Rattle.book.proofs.History.Lift.{OnePart}
-use Rattle.book.proofs.History.Whole as Whole
+use Rattle.book.proofs.History.Events.{LawfulAll, lawful-events}
+use Rattle.book.proofs.History.Lift.{file-at, part, run-is, decided}
+use Rattle.book.proofs.History.Openings.{each-opening}
+use Rattle.book.proofs.History.Higher.{call-higher, same-events}
 
--- Each call's answer.
-answer-act : (s : ℕ) (own : List Own) → Lawful s own → (a : Act)
-    → fileAnswer (fileIn (todayIn s own) own) (todayIn s own) a
-    ≡ decide refused (ownCauses (todayIn s own) own a) (ownAnswer (todayIn s own) own a)
-answer-act s own lw (admit role) = admit-answer (todayIn s own) own role
-answer-act s own lw (lodge k h) = lodging-answers (todayIn s own) k h own
-answer-act s own lw (release k a) = releasing-answers s k a own lw
-answer-act s own lw (settle m figures) = settle-answer cover-is s own m figures lw
-answer-act s own lw annualRun = annual-answer s own lw
+-- The answers of a list are the reading's decisions.
+answers-are : (s : ℕ) (calls : List Call) → s ≤ 29219 → answersOf s calls ≡ decisionsOf s calls
+unfolding answersOf decisionsOf
+answers-are s [] h = refl
+answers-are s (c ∷ calls) h = ap₂ _∷_ (decided s calls h c) (answers-are s calls h)
 
--- The file that each accepted call leaves.
-after-act : (s : ℕ) (own : List Own) → Lawful s own → (a : Act) → NoneHolds (ownCauses (todayIn s own) own a)
-    → fileAfter (fileIn (todayIn s own) own) (todayIn s own) a ≡ fileIn (todayIn s own) (act (todayIn s own) a ∷ own)
-after-act s own lw (admit role) none = admit-file s own role lw none
-after-act s own lw (lodge k h) none = lodging-leaves s k h own lw none
-after-act s own lw (release k a) none = releasing-leaves s k a own lw none
-after-act s own lw (settle m figures) none = settle-file cover-is s own m figures lw none
-after-act s own lw annualRun none = annual-file s own lw none
+-- A file of the readings reads as they say.
+file-reads : (s p : ℕ) (events : List Event) → LawfulAll s events
+    → ReadsAs (todayOf s events) (fileIn (todayOf s events) (mine p events)) (mine p events)
+unfolding fileIn
+file-reads s p events lw =
+    record { admitted = refl; role = refl; firm = refl; cover = part s events lw p .cover; charged = refl; accrued = refl }
 
--- The calls that each adds.
-calls-act : (s : ℕ) (own : List Own) → Lawful s own → (a : Act) → NoneHolds (ownCauses (todayIn s own) own a)
-    → callsAdded (fileIn (todayIn s own) own) (todayIn s own) a + length (callsIn own)
-    ≡ length (callsIn (act (todayIn s own) a ∷ own))
-unfolding callsAdded callsIn
-calls-act s own lw (admit role) none = admit-calls s own role lw none
-calls-act s own lw (lodge k h) none = native.Mathlib.Nat.zero-add (length (callsIn own))
-calls-act s own lw (release k a) none = native.Mathlib.Nat.zero-add (length (callsIn own))
-calls-act s own lw (settle m figures) none = settle-calls cover-is s own m figures lw
-calls-act s own lw annualRun none = annual-calls (todayIn s own) own
+-- So does each file of the book that a list of calls leads to.
+figures-are : (s : ℕ) (calls : List Call) → s ≤ 29219 → (p : ℕ) → p < 64
+    → ReadsAs (todayOf s (eventsOf s calls)) (fileAt (run s calls) p) (mine p (eventsOf s calls))
+figures-are s calls h p k =
+    let events = eventsOf s calls in
+    subst (λ (f : File). ReadsAs (todayOf s events) f (mine p events))
+    (sym (ap (λ (b : Book). fileAt b p) (run-is s calls h) ∙ file-at s p events k))
+    (file-reads s p events (lawful-events s calls h))
 
--- What is shown of one participant.
-one : OnePart
-one =
-    record {
-      answer-act = answer-act;
-      after-act = after-act;
-      calls-act = calls-act;
-      open-day = day-opened cover-is;
-      stated-is = statement-is;
-    }
+-- Each day of a lawful part was charged right.
+each-day : (s : ℕ) (own : List Own) → Lawful s own → EachDay own
+each-day s [] lw = tt
+each-day s (dayOpened d ∷ own) lw = (
+  (λ e. subst (λ (k : ℕ). ChargedRight k own) (sym (lw .0))
+      (record { charged = day-counted s own (lw .2) e; accrued = day-charged s own (lw .2) e })),
+  each-day s own (lw .2),
+)
+each-day s (act d a ∷ own) lw = each-day s own (lw .2)
 
-parts : Whole.Parts
-parts =
-    record {
-      one = one;
-      cover = cover-is;
-      rise =
-          record {
-            kept = shortfall-not-higher;
-            begun = λ s own role lw e. newly-admitted s role own lw e;
-          };
-      charged = λ s own lw e h. record { charged = day-counted s own lw e; accrued = day-charged s own lw e };
-    }
+-- One call that opened no day, after a list of calls.
+call-none-higher : (s : ℕ) (calls : List Call) (c : Call) → s ≤ 29219
+    → todayOf s (eventsOf s (c ∷ calls)) ≡ todayOf s (eventsOf s calls)
+    → NoneHigher (bookIn s (eventsOf s calls)) (bookIn s (eventsOf s (c ∷ calls)))
+unfolding eventsOf
+call-none-higher s calls c h =
+    let events = eventsOf s calls in
+    let lw = lawful-events s calls h in
+    by-test (accepted (decision s events c)) (withCall s events c) events
+    (λ x. todayOf s x ≡ todayOf s events → NoneHigher (bookIn s events) (bookIn s x))
+    (call-higher s events c lw)
+    (λ e same. same-events s events lw)
+
+-- Today.
+today-is : (s : ℕ) (calls : List Call) → s ≤ 29219 → run s calls .today .0 ≡ todayOf s (eventsOf s calls)
+unfolding bookIn
+today-is s calls h = ap (λ (b : Book). b .today .0) (run-is s calls h)
+
+-- Each call of a list that opened no day.
+each-call : (s : ℕ) (calls : List Call) → s ≤ 29219 → EachCall s calls
+each-call s [] h = tt
+each-call s (c ∷ calls) h = (
+  (λ same.
+      subst₂ NoneHigher
+      (sym (run-is s calls h))
+      (sym (run-is s (c ∷ calls) h))
+      (call-none-higher s calls c h (sym (today-is s (c ∷ calls) h) ∙ same ∙ today-is s calls h))),
+  each-call s calls h,
+)
+
+-- The count of calls made.
+made-is : (s : ℕ) (calls : List Call) → s ≤ 29219 → run s calls .made ≡ callsBelow 64 (eventsOf s calls)
+unfolding bookIn
+made-is s calls h = ap (λ (b : Book). b .made) (run-is s calls h)
 
 -- Demand 3: for every list of calls from a fresh book on any day, refused ones included.
 pub life : (s : ℕ) (calls : List Call) → s ≤ 29219 → Life s calls
-life s calls h = Whole.whole parts s calls h
+life s calls h =
+    record {
+      answers = answers-are s calls h;
+      kept = run-is s calls h;
+      figures = figures-are s calls h;
+      days = λ p. each-day s (mine p (eventsOf s calls)) (lawful-events s calls h p);
+      openings = each-opening s calls;
+      noneHigher = each-call s calls h;
+      made = made-is s calls h;
+      today = today-is s calls h;
+    }
 
 -- What a public call gives, from its two equations.
 pub given : (b : Book) (c : Call) (x : Answer) (b′ : Book) → x ≡ answer b c → b′ ≡ step b c → Given b c x b′
-given b c x b′ answered left = Whole.given parts b c x b′ answered left
+unfolding run
+given b c x b′ answered left =
+    record {
+      answered = answered;
+      left = left;
+      reached = λ r.
+          record {
+            start = r .start;
+            within = r .within;
+            calls = c ∷ r .calls;
+            leads = ap (λ (k : Book). step k c) (r .leads) ∙ sym left;
+          };
+      decided = λ s calls h leads. answered ∙ ap (λ (k : Book). answer k c) (sym leads) ∙ decided s calls h c;
+      reads = λ s calls h leads. left ∙ ap (λ (k : Book). step k c) (sym leads) ∙ run-is s (c ∷ calls) h;
+    }

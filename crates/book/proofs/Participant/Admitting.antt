@@ -1,11 +1,10 @@
 -- An admission: the file's answer is the reading's decision, and an accepted one leaves the file of the readings.
 -- Assumes nothing.
-use Prim.Native.Nat.{ℕ, _+_, _≤_}
+use Prim.Native.Nat.{ℕ, _+_}
 use mathlib.Core.Path.{_≡_, refl, sym, ap, _∙_}
-use mathlib.Core.Bool.{Bool, true, false, cond}
+use mathlib.Core.Bool.{true, false}
 use mathlib.Core.List.{List, [], _∷_}
 use native.Mathlib.Omega.{arith}
-use borrow.Author.Tests.{le-leb}
 use lib.Dec.{ltb}
 use lib.ListN.{length, replicate}
 use Rattle.laws.specs.Lists.{table}
@@ -13,34 +12,30 @@ use Rattle.manual.specs.Minimum.{minimumOf}
 use Rattle.file.specs.declared.Position.the-variants.{Empty}
 use Rattle.file.specs.Answer.{refused, decide}
 use Rattle.file.specs.Position.{slotOf}
-use Rattle.file.specs.Calls.{largest, callOf, keep, inPlaces}
+use Rattle.file.specs.Calls.{keep, inPlaces}
 use Rattle.file.specs.Totals.{noTotal}
 use Rattle.file.specs.Fields.{unset}
 use Rattle.file.specs.Admit.{callsOfAdmission, admittedFile}
 use Rattle.book.specs.Account.{fileAnswer, fileAfter, callsAdded}
 use Rattle.book.specs.Call.{admit}
-use Rattle.book.specs.Reading.Events.{Own, act, todayIn, admittedIn, roleIn}
+use Rattle.book.specs.Reading.Events.{Own, act, admittedIn, roleIn}
 use Rattle.book.specs.Reading.Holdings.{lastLodged, releasedSince, leftAt, positionIn}
 use Rattle.book.specs.Reading.Months.{nextIn}
-use Rattle.book.specs.Reading.Calls.{baseIn, firmFrom, callsIn, firmIn, openOn, openIn}
+use Rattle.book.specs.Reading.Calls.{callsIn, openOn, openIn}
 use Rattle.book.specs.Reading.Charges.{chargedIn, accruedIn}
 use Rattle.book.specs.Reading.Decisions.{ownCauses, ownAnswer}
 use Rattle.book.specs.Kept.{ringIn, fileIn}
-use Rattle.book.proofs.Participant.Lawful.{NoneHolds, Lawful}
-use Rattle.book.proofs.Participant.Charges.{firm-behind, charged-act, accrued-act}
+use Rattle.book.proofs.Participant.Lawful.{todayIn, NoneHolds, Lawful}
+use Rattle.book.proofs.Participant.Charges.{charged-act, accrued-act}
 use Rattle.book.proofs.Participant.Blank.{blank-calls, blank-next, blank-slots, blank-totals, blank-charged, blank-accrued}
+use Rattle.book.proofs.Participant.OpenCalls.{open-behind}
+use Rattle.book.proofs.Participant.Shortfalls.{newly-admitted}
 
 -- (1) Its answer, from any history.
 pub admit-answer : (t : ℕ) (own : List Own) (role : ℕ)
     → fileAnswer (fileIn t own) t (admit role) ≡ decide refused (ownCauses t own (admit role)) (ownAnswer t own (admit role))
 unfolding fileAnswer fileIn ownCauses ownAnswer
 admit-answer t own role = refl
-
--- A call whose last free day isn't before t is open on t.
-open-alone : (t : ℕ) (b : Bool) (e l : ℕ) → t ≤ l → openOn t (cond b (callOf e l ∷ []) []) ≡ cond b (callOf e l ∷ []) []
-unfolding openOn keep
-open-alone t true e l h = rw (le-leb t l h)
-open-alone t false e l h = refl
 
 -- What an accepted admission finds and leaves.
 module _ (s : ℕ) (own : List Own) (role : ℕ) (lw : Lawful s own) (none : NoneHolds (ownCauses (todayIn s own) own (admit role))) where
@@ -52,18 +47,11 @@ module _ (s : ℕ) (own : List Own) (role : ℕ) (lw : Lawful s own) (none : Non
   unfolding callsIn callsOfAdmission
   made = rw (blank-calls s own lw unadmitted)
 
-  free : firmIn (todayIn s own) (act (todayIn s own) (admit role) ∷ own) ≡ 0
-  unfolding firmIn baseIn callsIn firmFrom keep largest
-  free =
-      rw (blank-calls s own lw unadmitted)
-      (firm-behind (todayIn s own) (record { from = todayIn s own; amount = 0 }) []
-      (ltb 0 (minimumOf role)) (minimumOf role) (todayIn s own + 10) (omega arith))
-
   opens : openIn (todayIn s own) (act (todayIn s own) (admit role) ∷ own) ≡ callsOfAdmission (todayIn s own) role
-  unfolding openIn callsOfAdmission
+  unfolding openIn callsOfAdmission openOn keep
   opens =
       ap (openOn (todayIn s own)) made
-      ∙ open-alone (todayIn s own) (ltb 0 (minimumOf role)) (minimumOf role) (todayIn s own + 10) (omega arith)
+      ∙ open-behind (todayIn s own) [] (ltb 0 (minimumOf role)) (minimumOf role) (todayIn s own + 10) (omega arith)
 
   slots : table 8 (λ k. slotOf (positionIn (todayIn s own) k (act (todayIn s own) (admit role) ∷ own))) ≡ replicate 8 (slotOf Empty)
   unfolding positionIn leftAt lastLodged releasedSince
@@ -91,7 +79,7 @@ module _ (s : ℕ) (own : List Own) (role : ℕ) (lw : Lawful s own) (none : Non
       record {
         admitted = true;
         role = role;
-        firm = free i;
+        firm = newly-admitted s role own lw unadmitted i;
         slots = slots i;
         calls = inPlaces (opens i);
         count = length (opens i);

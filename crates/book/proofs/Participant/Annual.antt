@@ -1,10 +1,9 @@
 -- An annual run: the file's answer is the reading's decision, and an accepted one leaves the file of the readings.
 -- Assumes nothing.
-use Prim.Native.Nat.{ℕ, _+_}
+use Prim.Native.Nat.{ℕ}
 use mathlib.Core.Path.{_≡_, refl, sym, ap, _∙_}
 use mathlib.Core.Bool.{true}
 use mathlib.Core.List.{List, _∷_}
-use native.Mathlib.Omega.{arith}
 use lib.ListN.{length}
 use Rattle.laws.specs.Lists.{table}
 use Rattle.laws.specs.Cases.{cond-true}
@@ -14,15 +13,15 @@ use Rattle.file.specs.Position.{slotOf}
 use Rattle.file.specs.Calls.{inPlaces}
 use Rattle.file.specs.Fields.{setTo, withNext}
 use Rattle.file.specs.Annual.{annualAmountOf, annualAnswer, annualFile}
-use Rattle.book.specs.Account.{ifAdmitted, fileAnswer, fileAfter, callsAdded}
+use Rattle.book.specs.Account.{ifAdmitted, fileAnswer, fileAfter}
 use Rattle.book.specs.Call.{annualRun}
-use Rattle.book.specs.Reading.Events.{Own, act, todayIn, admittedIn, roleIn}
+use Rattle.book.specs.Reading.Events.{Own, act, admittedIn, roleIn}
 use Rattle.book.specs.Reading.Holdings.{lastLodged, releasedSince, leftAt, positionIn}
 use Rattle.book.specs.Reading.Months.{nextIn, annualIn}
 use Rattle.book.specs.Reading.Calls.{baseIn, callsIn, firmIn, openIn}
 use Rattle.book.specs.Reading.Decisions.{ownCauses, ownAnswer}
 use Rattle.book.specs.Kept.{ringIn, fileIn}
-use Rattle.book.proofs.Participant.Lawful.{NoneHolds, Lawful}
+use Rattle.book.proofs.Participant.Lawful.{todayIn, NoneHolds, Lawful}
 use Rattle.book.proofs.Participant.Charges.{charged-act, accrued-act}
 use Rattle.book.proofs.Participant.Ring.{annual-totals}
 
@@ -70,9 +69,3 @@ module _ (s : ℕ) (own : List Own) (lw : Lawful s own) where
         (fileIn (todayIn s own) own)
         taken
         ∙ set-next
-
--- (3) It makes no call.
-pub annual-calls : (t : ℕ) (own : List Own)
-    → callsAdded (fileIn t own) t annualRun + length (callsIn own) ≡ length (callsIn (act t annualRun ∷ own))
-unfolding callsAdded callsIn
-annual-calls t own = omega arith

@@ -12,10 +12,10 @@ use Rattle.calendar.specs.Civil.{isFirstOctober}
 use Rattle.file.specs.declared.OpenCall.{OpenCall}
 use Rattle.file.specs.Calls.{largest, amountsOf, keep, endsAt}
 use Rattle.book.specs.Call.{admit, lodge, release, settle, annualRun}
-use Rattle.book.specs.Reading.Events.{Own, dayOpened, act, todayIn}
+use Rattle.book.specs.Reading.Events.{Own, dayOpened, act}
 use Rattle.book.specs.Reading.Months.{nextIn}
 use Rattle.book.specs.Reading.Calls.{baseIn, countsFrom, firmFrom, callsIn, firmIn, openIn}
-use Rattle.book.proofs.Participant.Lawful.{Lawful}
+use Rattle.book.proofs.Participant.Lawful.{todayIn, Lawful}
 use Rattle.book.proofs.Participant.Keep.{keep-none, largest-max}
 use Rattle.book.proofs.Participant.OpenCallsNextDay.{endingIn-next}
 

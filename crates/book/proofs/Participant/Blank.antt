@@ -1,13 +1,13 @@
 -- Before the admission everything is blank: every call but an admission had cause 2, so there is none.
 -- Assumes nothing.
 use Prim.Native.Nat.{ℕ}
-use mathlib.Core.Path.{_≡_, refl, sym, ap, _∙_}
-use mathlib.Core.Bool.{Bool, true, false, cond, _&&_, true≢false}
+use mathlib.Core.Path.{_≡_, refl, ap}
+use mathlib.Core.Bool.{false, _&&_}
 use mathlib.Core.List.{List, [], _∷_}
-use native.Mathlib.Omega.{arith}
 use borrow.Author.Tests.{not-false}
 use lib.Dec.{leb}
 use lib.ListN.{length, replicate}
+use Rattle.laws.specs.Cases.{clash, by-test}
 use Rattle.laws.specs.Lists.{table}
 use Rattle.laws.specs.Tabulated.{table-ext}
 use Rattle.calendar.specs.Civil.{isFirstOctober}
@@ -20,9 +20,9 @@ use Rattle.file.specs.Totals.{noTotal}
 use Rattle.file.specs.Admit.{noFile}
 use Rattle.book.specs.Call.{Act, admit, lodge, release, settle, annualRun}
 use Rattle.book.specs.Reading.Events.{Own, dayOpened, act, admittedIn, roleIn}
-use Rattle.book.specs.Reading.Holdings.{lastLodged, leftAt, positionIn, lodgedOn, coverIn}
+use Rattle.book.specs.Reading.Holdings.{lastLodged, leftAt, positionIn}
 use Rattle.book.specs.Reading.Months.{nextIn}
-use Rattle.book.specs.Reading.Calls.{Base, baseIn, firmFrom, callsIn, firmIn, openOn, openIn}
+use Rattle.book.specs.Reading.Calls.{baseIn, firmFrom, callsIn, firmIn, openOn, openIn}
 use Rattle.book.specs.Reading.Charges.{countShort, sumCharges, chargedIn, accruedIn}
 use Rattle.book.specs.Reading.Decisions.{ownCauses}
 use Rattle.book.specs.Kept.{ringIn, fileIn}
@@ -38,11 +38,11 @@ DaysOnly (act d a ∷ own) = ⊥
 -- A call without an admission had cause 2.
 unadmitted : (t : ℕ) (own : List Own) (a : Act) → admittedIn (act t a ∷ own) ≡ false → NoneHolds (ownCauses t own a) → ⊥
 unfolding admittedIn ownCauses
-unadmitted t own (admit role) e h = true≢false e
-unadmitted t own (lodge k p) e h = true≢false (sym (not-false (admittedIn own) (h .0)) ∙ e)
-unadmitted t own (release k a) e h = true≢false (sym (not-false (admittedIn own) (h .0)) ∙ e)
-unadmitted t own (settle m figures) e h = true≢false (sym (not-false (admittedIn own) (h .0)) ∙ e)
-unadmitted t own annualRun e h = true≢false (sym (not-false (admittedIn own) (h .0)) ∙ e)
+unadmitted t own (admit role) e h = clash refl e
+unadmitted t own (lodge k p) e h = clash (not-false (admittedIn own) (h .0)) e
+unadmitted t own (release k a) e h = clash (not-false (admittedIn own) (h .0)) e
+unadmitted t own (settle m figures) e h = clash (not-false (admittedIn own) (h .0)) e
+unadmitted t own annualRun e h = clash (not-false (admittedIn own) (h .0)) e
 
 -- Before the admission there are days only.
 pub days-only : (s : ℕ) (own : List Own) → Lawful s own → admittedIn own ≡ false → DaysOnly own
@@ -63,14 +63,11 @@ calls-none [] h = refl
 calls-none (dayOpened d ∷ own) h = calls-none own h
 calls-none (act d a ∷ own) h = absurd h
 
-either-same : {A : Type 0} (b : Bool) (x y : A) → y ≡ x → cond b x y ≡ x
-either-same true x y e = refl
-either-same false x y e = e
-
 next-none : (own : List Own) → DaysOnly own → nextIn own ≡ unset
 unfolding nextIn
 next-none [] h = refl
-next-none (dayOpened d ∷ own) h = either-same (isFirstOctober d) unset (nextIn own) (next-none own h)
+next-none (dayOpened d ∷ own) h =
+    by-test (isFirstOctober d) unset (nextIn own) (λ n. n ≡ unset) (λ yes. refl) (λ no. next-none own h)
 next-none (act d a ∷ own) h = absurd h
 
 ring-none : (own : List Own) (k : ℕ) → DaysOnly own → ringIn own k ≡ noTotal
@@ -85,24 +82,14 @@ lodged-none k [] h = refl
 lodged-none k (dayOpened d ∷ own) h = lodged-none k own h
 lodged-none k (act d a ∷ own) h = absurd h
 
-cover-none : (d : ℕ) (own : List Own) → DaysOnly own → lodgedOn d own ≡ 0
-unfolding lodgedOn
-cover-none d [] h = refl
-cover-none d (dayOpened e ∷ own) h = cover-none d own h
-cover-none d (act e a ∷ own) h = absurd h
-
-base-either : (b : Bool) (e a : ℕ) (base : Base) → a ≡ 0 → base .amount ≡ 0
-    → (cond b (record { from = e; amount = a }) base) .amount ≡ 0
-base-either true e a base z h = z
-base-either false e a base z h = h
-
 base-none : (d : ℕ) (own : List Own) → DaysOnly own → baseIn d own .amount ≡ 0
 unfolding baseIn
 base-none d [] h = refl
 base-none d (dayOpened e ∷ own) h =
-    base-either (leb e d && (isFirstOctober e && nextIn own .set)) e (nextIn own .amount) (baseIn d own)
-    (ap (λ (n : NextAmount). n .amount) (next-none own h))
-    (base-none d own h)
+    by-test (leb e d && (isFirstOctober e && nextIn own .set)) (record { from = e; amount = nextIn own .amount }) (baseIn d own)
+    (λ b. b .amount ≡ 0)
+    (λ yes. ap (λ (n : NextAmount). n .amount) (next-none own h))
+    (λ no. base-none d own h)
 base-none d (act e a ∷ own) h = absurd h
 
 -- The readings before the admission.
@@ -122,10 +109,6 @@ module _ (s : ℕ) (own : List Own) (lw : Lawful s own) (e : admittedIn own ≡ 
   pub blank-position : (t k : ℕ) → positionIn t k own ≡ Empty
   unfolding positionIn leftAt emptiedOn
   blank-position t k = rw (lodged-none k own (days-only s own lw e))
-
-  pub blank-cover : (d : ℕ) → coverIn d own ≡ 0
-  unfolding coverIn
-  blank-cover d = let z : lodgedOn d own ≡ 0 = cover-none d own (days-only s own lw e) in omega arith
 
   pub blank-firm : (d : ℕ) → firmIn d own ≡ 0
   unfolding firmIn firmFrom keep largest

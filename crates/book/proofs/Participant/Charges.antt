@@ -1,39 +1,39 @@
 -- A call changes no opening shortfall of a day opened before it: the days charged and the accrued charge stay as they were.
 -- Assumes nothing.
 use Prim.Native.Nat.{ℕ, _+_, _-_, _≤_}
-use mathlib.Core.Path.{_≡_, refl, sym, ap, _∙_}
-use mathlib.Core.Bool.{Bool, true, false, cond, _&&_, true≢false}
-use mathlib.Core.List.{List, [], _∷_, _++_}
+use mathlib.Core.Path.{_≡_, refl, ap}
+use mathlib.Core.Bool.{Bool, true, false, cond, _&&_}
+use mathlib.Core.List.{List, [], _∷_, _++_, append-nil}
 use native.Mathlib.Omega.{arith}
 use borrow.Author.Tests.{le-ltb}
 use lib.Dec.{leb, ltb}
 use lib.IntN.{ℤ, natAbs}
 use Rattle.laws.specs.Lists.{All}
-use Rattle.laws.specs.Cases.{split, cond-false}
+use Rattle.laws.specs.Cases.{split, clash, cond-false, by-test}
 use Rattle.laws.specs.Prefixes.{all-weaker}
 use Rattle.manual.specs.Figures.{sumOf}
 use Rattle.file.specs.declared.OpenCall.{OpenCall}
 use Rattle.file.specs.Calls.{largest, amountsOf, callOf, keep}
+use Rattle.file.specs.CallLaws.{keep-same}
 use Rattle.book.specs.Call.{Act, admit, lodge, release, settle, annualRun}
-use Rattle.book.specs.Reading.Events.{Own, dayOpened, act, todayIn, admittedIn}
+use Rattle.book.specs.Reading.Events.{Own, dayOpened, act, admittedIn}
 use Rattle.book.specs.Reading.Holdings.{coverIn}
 use Rattle.book.specs.Reading.Calls.{Base, baseIn, countsFrom, firmFrom, callsIn, calledIn, firmIn}
 use Rattle.book.specs.Reading.Charges.{before, openingShortfall, daysSince, countShort, sumCharges, chargedIn, accruedIn}
 use Rattle.book.specs.Reading.Decisions.{ownCauses}
-use Rattle.book.proofs.Participant.Lawful.{NoneHolds, Lawful}
+use Rattle.book.proofs.Participant.Lawful.{todayIn, NoneHolds, Lawful}
 
 -- The days opened since the admission are not after today.
-at-most : (b : Bool) (d : ℕ) (days : List ℕ) → All (λ (e : ℕ). e ≤ d) days → All (λ (e : ℕ). e ≤ d) (cond b (d ∷ days) [])
-at-most true d days h = (omega arith, h)
-at-most false d days h = tt
-
 pub days-past : (s : ℕ) (own : List Own) → Lawful s own → All (λ (e : ℕ). e ≤ todayIn s own) (daysSince own)
 unfolding daysSince todayIn
 days-past s [] lw = tt
 days-past s (dayOpened d ∷ own) lw =
-    at-most (admittedIn own) d (daysSince own)
-    (all-weaker (λ (e : ℕ). e ≤ todayIn s own) (λ (e : ℕ). e ≤ d) (λ e h. omega (arith, lw .0)) (daysSince own)
-    (days-past s own (lw .2)))
+    by-test (admittedIn own) (d ∷ daysSince own) [] (All (λ (e : ℕ). e ≤ d))
+    (λ yes. (
+      omega arith,
+      all-weaker (λ (e : ℕ). e ≤ todayIn s own) (λ (e : ℕ). e ≤ d) (λ e h. omega (arith, lw .0)) (daysSince own) (days-past s own (lw .2)),
+    ))
+    (λ no. tt)
 days-past s (act d a ∷ own) lw = days-past s own (lw .2)
 
 -- Before the admission no day counts as opened since it.
@@ -41,7 +41,7 @@ pub days-none : (own : List Own) → admittedIn own ≡ false → daysSince own 
 unfolding daysSince admittedIn
 days-none [] e = refl
 days-none (dayOpened d ∷ own) e = cond-false (admittedIn own) (d ∷ daysSince own) [] e
-days-none (act d (admit role) ∷ own) e = absurd (true≢false e)
+days-none (act d (admit role) ∷ own) e = clash refl e
 days-none (act d (lodge k h) ∷ own) e = days-none own e
 days-none (act d (release k a) ∷ own) e = days-none own e
 days-none (act d (settle m figures) ∷ own) e = days-none own e
@@ -50,18 +50,12 @@ days-none (act d annualRun ∷ own) e = days-none own e
 -- A call that fails the test, behind a list of calls, is not kept.
 pub keep-behind : (test : OpenCall → Bool) (made : List OpenCall) (b : Bool) (c : OpenCall) → test c ≡ false
     → keep test (made ++ cond b (c ∷ []) []) ≡ keep test made
-unfolding keep
-keep-behind test [] true c e = rw e
-keep-behind test [] false c e = refl
-keep-behind test (x ∷ made) b c e = rw (keep-behind test made b c e)
+keep-behind test made true c e = keep-same test made c e
+keep-behind test made false c e = ap (keep test) (append-nil made)
 
 -- A call whose last free day is d or later doesn't count for the firm amount on d.
 late-call : (r d l : ℕ) → d ≤ l → leb r l && ltb l d ≡ false
-late-call r d l h = rw (le-ltb l d h) (never (leb r l))
-  where
-    never : (b : Bool) → b && false ≡ false
-    never true = refl
-    never false = refl
+late-call r d l h = rw (le-ltb l d h) (split (leb r l) (λ e. rw e) (λ e. rw e))
 
 pub firm-behind : (d : ℕ) (base : Base) (made : List OpenCall) (b : Bool) (e l : ℕ) → d ≤ l
     → firmFrom d base (made ++ cond b (callOf e l ∷ []) []) ≡ firmFrom d base made
@@ -101,7 +95,7 @@ shortfall-same d t a own e = ap (λ (f : ℕ). f - coverIn d (before d own)) e
 firm-same : (d t : ℕ) (a : Act) (own : List Own) → d ≤ t → admittedIn own ≡ true → NoneHolds (ownCauses t own a)
     → firmIn d (act t a ∷ own) ≡ firmIn d own
 unfolding ownCauses firmIn baseIn callsIn
-firm-same d t (admit role) own h e none = absurd (true≢false (sym e ∙ none .0))
+firm-same d t (admit role) own h e none = clash e (none .0)
 firm-same d t (lodge k p) own h e none = refl
 firm-same d t (release k a) own h e none = refl
 firm-same d t (settle m figures) own h e none = firm-settled d t m figures own (omega arith)

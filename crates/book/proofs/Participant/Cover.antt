@@ -13,11 +13,10 @@ use Rattle.laws.specs.Tabulated.{sumBelow, sumBelow-ext, sumBelow-change}
 use Rattle.file.specs.declared.Position.{Position}
 use Rattle.file.specs.Position.{inForce, countsOn, coverOn, filled, notReleasable, slotOf}
 use Rattle.book.specs.Call.{admit, lodge, release, settle, annualRun}
-use Rattle.book.specs.Reading.Events.{Own, dayOpened, act, todayIn}
+use Rattle.book.specs.Reading.Events.{Own, dayOpened, act}
 use Rattle.book.specs.Reading.Holdings.{lastLodged, releasedSince, less, leftAt, positionIn, lodgedOn, releasedOn, coverIn}
 use Rattle.book.specs.Reading.Decisions.{ownCauses}
-use Rattle.book.proofs.Participant.Lawful.{Lawful}
-use Rattle.book.proofs.Participant.CoverIs.{CoverIs}
+use Rattle.book.proofs.Participant.Lawful.{todayIn, Lawful}
 use Rattle.book.proofs.Participant.Positions.{emptied-counts, unfilled-today, less-nothing-counts, release-takes}
 
 -- The cover of a table of slots is the sum of what they count for.
@@ -133,5 +132,6 @@ cover-of-positions t d own h =
     (λ k b. emptied-counts t d (leftAt k own) h)
 
 -- So they count for the lodgings less the releases.
-pub cover-is : CoverIs
+pub cover-is : (s d : ℕ) (own : List Own) → Lawful s own → todayIn s own ≤ d
+    → coverOn d (table 8 (λ k. slotOf (positionIn (todayIn s own) k own))) ≡ coverIn d own
 cover-is s d own lw h = cover-of-positions (todayIn s own) d own h ∙ cover-left s d own lw h

@@ -10,11 +10,11 @@ use lib.Dec.{eqb}
 use borrow.Author.Tests.{eq-eqb, ne-eqb}
 use Rattle.laws.specs.Prefixes.{all-weaker}
 use Rattle.manual.specs.Charge.{dayCharge}
-use Rattle.book.specs.Reading.Events.{Own, dayOpened, todayIn, admittedIn}
+use Rattle.book.specs.Reading.Events.{Own, dayOpened, admittedIn}
 use Rattle.book.specs.Reading.Holdings.{coverIn}
 use Rattle.book.specs.Reading.Calls.{firmIn}
 use Rattle.book.specs.Reading.Charges.{before, openingShortfall, daysSince, countShort, sumCharges, chargedIn, accruedIn}
-use Rattle.book.proofs.Participant.Lawful.{Lawful}
+use Rattle.book.proofs.Participant.Lawful.{todayIn, Lawful}
 use Rattle.book.proofs.Participant.Bases.{nextDay, withNextDay, firm-before}
 use Rattle.book.proofs.Participant.Charges.{Agree, days-past, count-same, sum-same}
 

@@ -2,13 +2,18 @@
 -- Assumes nothing.
 use Prim.Native.Nat.{ℕ, suc, _≤_}
 use mathlib.Core.Path.{_≡_}
-use mathlib.Core.Bool.{Bool, false}
+use mathlib.Core.Bool.{false}
 use mathlib.Core.List.{List, [], _∷_}
 use Rattle.laws.specs.Lists.{All}
 use Rattle.file.specs.Answer.{Cause}
-use Rattle.book.specs.Call.{Act}
-use Rattle.book.specs.Reading.Events.{Own, dayOpened, act, todayIn}
+use Rattle.book.specs.Reading.Events.{Own, dayOpened, act}
 use Rattle.book.specs.Reading.Decisions.{ownCauses}
+
+-- Today, by one participant's part.
+unfoldable pub todayIn : ℕ → List Own → ℕ
+todayIn s [] = s
+todayIn s (dayOpened d ∷ own) = d
+todayIn s (act d a ∷ own) = todayIn s own
 
 -- None of the causes holds.
 abbrev pub NoneHolds : List Cause → Type 0

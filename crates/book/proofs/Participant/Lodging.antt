@@ -15,13 +15,13 @@ use Rattle.file.specs.Fields.{withSlots}
 use Rattle.file.specs.Lodge.{lodgeAnswer, lodgedFile}
 use Rattle.book.specs.Account.{ifAdmitted, fileAnswer, fileAfter}
 use Rattle.book.specs.Call.{lodge}
-use Rattle.book.specs.Reading.Events.{Own, act, todayIn, admittedIn, roleIn}
+use Rattle.book.specs.Reading.Events.{Own, act, admittedIn, roleIn}
 use Rattle.book.specs.Reading.Holdings.{leftAt, positionIn}
 use Rattle.book.specs.Reading.Months.{nextIn}
 use Rattle.book.specs.Reading.Calls.{baseIn, callsIn, firmIn, openIn}
 use Rattle.book.specs.Reading.Decisions.{cause, ownCauses, ownAnswer}
 use Rattle.book.specs.Kept.{ringIn, fileIn}
-use Rattle.book.proofs.Participant.Lawful.{NoneHolds, Lawful}
+use Rattle.book.proofs.Participant.Lawful.{todayIn, NoneHolds, Lawful}
 use Rattle.book.proofs.Participant.Decide.{decide-none, decide-first, decide-same}
 use Rattle.book.proofs.Participant.Positions.{lodged-stands}
 use Rattle.book.proofs.Participant.Slots.{slotsIn, position-at, with-slots-of}

@@ -22,14 +22,14 @@ use Rattle.file.specs.Fields.{unset}
 use Rattle.file.specs.Opening.{slotsOpened, callsOpened, firmRaised, takesEffect, firmOpened, nextOpened, shortfallOpened, openedFile}
 use Rattle.book.specs.Account.{openedIfAdmitted}
 use Rattle.book.specs.Call.{admit, lodge, release, settle, annualRun}
-use Rattle.book.specs.Reading.Events.{Own, dayOpened, act, todayIn, admittedIn, roleIn}
+use Rattle.book.specs.Reading.Events.{Own, dayOpened, act, admittedIn, roleIn}
 use Rattle.book.specs.Reading.Holdings.{lastLodged, releasedSince, leftAt, positionIn, lodgedOn, releasedOn, coverIn}
 use Rattle.book.specs.Reading.Months.{nextIn}
 use Rattle.book.specs.Reading.Calls.{firmIn, openIn}
 use Rattle.book.specs.Reading.Charges.{chargedIn, accruedIn}
 use Rattle.book.specs.Kept.{ringIn, fileIn}
-use Rattle.book.proofs.Participant.Lawful.{Lawful}
-use Rattle.book.proofs.Participant.CoverIs.{CoverIs}
+use Rattle.book.proofs.Participant.Lawful.{todayIn, Lawful}
+use Rattle.book.proofs.Participant.Cover.{cover-is}
 use Rattle.book.proofs.Participant.Blank.{blank-file}
 use Rattle.book.proofs.Participant.OpenCalls.{open-calls}
 use Rattle.book.proofs.Participant.Bases.{nextDay, withNextDay, firm-effect, firm-raised}
@@ -93,36 +93,36 @@ firm-opened s own lw =
     (λ e. rw (e, open-calls t own) (sym (firm-raised s own lw e)))
 
 -- The cover of the positions on the next day, and so the shortfall at its opening.
-pub cover-opened : CoverIs → (s : ℕ) (own : List Own) → Lawful s own → nextDay s own ≤ 29219
+pub cover-opened : (s : ℕ) (own : List Own) → Lawful s own → nextDay s own ≤ 29219
     → coverOn (nextDay s own) (slotsOpened (fileIn (todayIn s own) own) (nextDay s own))
     ≡ coverIn (nextDay s own) own
 unfolding todayIn coverIn lodgedOn releasedOn
-cover-opened cover-is s own lw h =
+cover-opened s own lw h =
     let t = todayIn s own in
     ap (coverOn (suc t)) (slots-opened t own) ∙ cover-is s (suc t) (dayOpened (suc t) ∷ own) (refl, h, lw) (omega arith)
 
-pub shortfall-read : CoverIs → (s : ℕ) (own : List Own) → Lawful s own → nextDay s own ≤ 29219
+pub shortfall-read : (s : ℕ) (own : List Own) → Lawful s own → nextDay s own ≤ 29219
     → shortfallOpened (fileIn (todayIn s own) own) (nextDay s own)
     ≡ firmIn (nextDay s own) (withNextDay s own) - coverIn (nextDay s own) own
 unfolding shortfallOpened
-shortfall-read cover-is s own lw h = rw (firm-opened s own lw, cover-opened cover-is s own lw h)
+shortfall-read s own lw h = rw (firm-opened s own lw, cover-opened s own lw h)
 
 -- The days charged and the accrued charge on the next day.
-pub charged-read : CoverIs → (s : ℕ) (own : List Own) → Lawful s own → nextDay s own ≤ 29219 → admittedIn own ≡ true
+pub charged-read : (s : ℕ) (own : List Own) → Lawful s own → nextDay s own ≤ 29219 → admittedIn own ≡ true
     → chargedIn own + cond (eqb (shortfallOpened (fileIn (todayIn s own) own) (nextDay s own)) 0) 0 1
     ≡ chargedIn (withNextDay s own)
-charged-read cover-is s own lw h e = rw (shortfall-read cover-is s own lw h) (sym (charged-opened s own lw e))
+charged-read s own lw h e = rw (shortfall-read s own lw h) (sym (charged-opened s own lw e))
 
-pub accrued-read : CoverIs → (s : ℕ) (own : List Own) → Lawful s own → nextDay s own ≤ 29219 → admittedIn own ≡ true
+pub accrued-read : (s : ℕ) (own : List Own) → Lawful s own → nextDay s own ≤ 29219 → admittedIn own ≡ true
     → accruedIn own + dayCharge (shortfallOpened (fileIn (todayIn s own) own) (nextDay s own))
     ≡ accruedIn (withNextDay s own)
-accrued-read cover-is s own lw h e = rw (shortfall-read cover-is s own lw h) (sym (accrued-opened s own lw e))
+accrued-read s own lw h e = rw (shortfall-read s own lw h) (sym (accrued-opened s own lw e))
 
 -- An admitted participant's file: opening the next day, field by field.
-pub opened-admitted : CoverIs → (s : ℕ) (own : List Own) → Lawful s own → nextDay s own ≤ 29219 → admittedIn own ≡ true
+pub opened-admitted : (s : ℕ) (own : List Own) → Lawful s own → nextDay s own ≤ 29219 → admittedIn own ≡ true
     → openedFile (fileIn (todayIn s own) own) (nextDay s own) ≡ fileIn (nextDay s own) (withNextDay s own)
 unfolding openedFile fileIn admittedIn roleIn ringIn
-opened-admitted cover-is s own lw h e =
+opened-admitted s own lw h e =
     let t = todayIn s own in
     λ i.
     record {
@@ -134,8 +134,8 @@ opened-admitted cover-is s own lw h e =
       count = length (calls-opened t own i);
       next = next-opened t own i;
       totals = table 16 (ringIn own);
-      charged = charged-read cover-is s own lw h e i;
-      accrued = accrued-read cover-is s own lw h e i;
+      charged = charged-read s own lw h e i;
+      accrued = accrued-read s own lw h e i;
     }
 
 -- One that isn't admitted stays blank.
@@ -147,11 +147,11 @@ opened-blank s own lw h e =
     blank-file s (dayOpened (suc t) ∷ own) (refl, h, lw) e (suc t) ∙ sym (blank-file s own lw e t)
 
 -- Opening the next day: the file of the readings today leads to the file of the readings on that day.
-pub day-opened : CoverIs → (s : ℕ) (own : List Own) → Lawful s own → nextDay s own ≤ 29219
+pub day-opened : (s : ℕ) (own : List Own) → Lawful s own → nextDay s own ≤ 29219
     → openedIfAdmitted (nextDay s own) (fileIn (todayIn s own) own) ≡ fileIn (nextDay s own) (withNextDay s own)
 unfolding openedIfAdmitted fileIn
-day-opened cover-is s own lw h =
+day-opened s own lw h =
     let t = todayIn s own in
     split (admittedIn own)
-    (λ e. cond-true (admittedIn own) (openedFile (fileIn t own) (suc t)) (fileIn t own) e ∙ opened-admitted cover-is s own lw h e)
+    (λ e. cond-true (admittedIn own) (openedFile (fileIn t own) (suc t)) (fileIn t own) e ∙ opened-admitted s own lw h e)
     (λ e. cond-false (admittedIn own) (openedFile (fileIn t own) (suc t)) (fileIn t own) e ∙ sym (opened-blank s own lw h e))

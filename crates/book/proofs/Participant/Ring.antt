@@ -20,26 +20,21 @@ use Rattle.file.specs.Settle.{outsideMonths}
 use Rattle.file.specs.Totals.{Total, none, total, noTotal, totalOf, totalHere, totalAt, totalsFrom}
 use Rattle.file.specs.Annual.{annualTotals}
 use Rattle.book.specs.Call.{admit, lodge, release, settle, annualRun}
-use Rattle.book.specs.Reading.Events.{Own, dayOpened, act, todayIn}
+use Rattle.book.specs.Reading.Events.{Own, dayOpened, act}
 use Rattle.book.specs.Reading.Months.{totalIn, yearsTotals}
 use Rattle.book.specs.Reading.Decisions.{ownCauses}
 use Rattle.book.specs.Kept.{ringIn, fileIn}
-use Rattle.book.proofs.Participant.Lawful.{NoneHolds, Lawful}
+use Rattle.book.proofs.Participant.Lawful.{todayIn, NoneHolds, Lawful}
 
 -- A settled month is at least two and at most fourteen before the day's.
-settled-before : (d n : ℕ) (figures : List ℤ) (own : List Own) → NoneHolds (ownCauses d own (settle n figures)) → n + 2 ≤ monthOf d
+settled-within : (d n : ℕ) (figures : List ℤ) (own : List Own) → NoneHolds (ownCauses d own (settle n figures))
+    → (n + 2 ≤ monthOf d) × (monthOf d ≤ n + 14)
 unfolding ownCauses outsideMonths
-settled-before d n figures own h =
-    leb-true (n + 2) (monthOf d)
-    (and-right (leb (monthOf d) (n + 14)) (leb (n + 2) (monthOf d))
-    (not-false (leb (monthOf d) (n + 14) && leb (n + 2) (monthOf d)) (h .1 .0)))
-
-settled-after : (d n : ℕ) (figures : List ℤ) (own : List Own) → NoneHolds (ownCauses d own (settle n figures)) → monthOf d ≤ n + 14
-unfolding ownCauses outsideMonths
-settled-after d n figures own h =
-    leb-true (monthOf d) (n + 14)
-    (and-left (leb (monthOf d) (n + 14)) (leb (n + 2) (monthOf d))
-    (not-false (leb (monthOf d) (n + 14) && leb (n + 2) (monthOf d)) (h .1 .0)))
+settled-within d n figures own h =
+    let both = not-false (leb (monthOf d) (n + 14) && leb (n + 2) (monthOf d)) (h .1 .0) in (
+      leb-true (n + 2) (monthOf d) (and-right (leb (monthOf d) (n + 14)) (leb (n + 2) (monthOf d)) both),
+      leb-true (monthOf d) (n + 14) (and-left (leb (monthOf d) (n + 14)) (leb (n + 2) (monthOf d)) both),
+    )
 
 -- A month has no total before it can be settled.
 pub no-total-yet : (s : ℕ) (own : List Own) (m : ℕ) → Lawful s own → monthOf (todayIn s own) < m + 2
@@ -53,7 +48,7 @@ no-total-yet s (act d (lodge k p) ∷ own) m lw h = no-total-yet s own m (lw .2)
 no-total-yet s (act d (release k a) ∷ own) m lw h = no-total-yet s own m (lw .2) h
 no-total-yet s (act d (settle n figures) ∷ own) m lw h =
     cond-false (eqb n m) (total (sumOf figures)) (totalIn own m)
-    (ne-eqb n m (λ e. omega (arith, settled-before d n figures own (lw .1), ap monthOf (lw .0))))
+    (ne-eqb n m (λ e. omega (arith, settled-within d n figures own (lw .1) .0, ap monthOf (lw .0))))
     ∙ no-total-yet s own m (lw .2) h
 no-total-yet s (act d annualRun ∷ own) m lw h = no-total-yet s own m (lw .2) h
 
@@ -104,9 +99,9 @@ place-says s (act d (lodge k p) ∷ own) m lw h = place-says s own m (lw .2) h
 place-says s (act d (release k a) ∷ own) m lw h = place-says s own m (lw .2) h
 place-says s (act d (settle n figures) ∷ own) m lw h =
     let e : monthOf d ≡ monthOf (todayIn s own) = ap monthOf (lw .0) in
-    let b : n + 2 ≤ monthOf d = settled-before d n figures own (lw .1) in
+    let b : n + 2 ≤ monthOf d = settled-within d n figures own (lw .1) .0 in
     place-settled n m (sumOf figures) (ringIn own (m % 16)) (totalIn own m) (place-says s own m (lw .2) h)
-    (λ ne q. no-total-yet s own m (lw .2) (omega (arith, apart n m q (omega arith) ne, settled-after d n figures own (lw .1))))
+    (λ ne q. no-total-yet s own m (lw .2) (omega (arith, apart n m q (omega arith) ne, settled-within d n figures own (lw .1) .1)))
 place-says s (act d annualRun ∷ own) m lw h = place-says s own m (lw .2) h
 
 -- The ring law.

@@ -1,12 +1,10 @@
 -- A settlement: the file's answer is the reading's decision, and an accepted one leaves the file of the readings.
 -- Assumes nothing.
-use Prim.Native.Nat.{ℕ, _+_, _-_, _%_, _≤_}
-use mathlib.Core.Path.{_≡_, refl, sym, _∙_}
+use Prim.Native.Nat.{ℕ, _+_, _%_}
+use mathlib.Core.Path.{_≡_, refl, sym}
 use mathlib.Core.Bool.{Bool, true, false, cond, _&&_}
-use mathlib.Core.List.{List, [], _∷_, _++_, append-nil}
+use mathlib.Core.List.{List, [], _∷_, _++_}
 use native.Mathlib.Omega.{arith}
-use native.Mathlib.Nat.{le-refl}
-use borrow.Author.Tests.{le-leb}
 use lib.Dec.{leb}
 use lib.IntN.{ℤ, natAbs}
 use lib.ListN.{length, length-append}
@@ -15,40 +13,27 @@ use Rattle.laws.specs.Tabulated.{set-table}
 use Rattle.calendar.specs.Civil.{monthOf}
 use Rattle.manual.specs.declared.Check.{Check}
 use Rattle.manual.specs.declared.Check.the-variants as Checks
-use Rattle.manual.specs.Check.{callIsMade, checked}
+use Rattle.manual.specs.Check.{checked}
 use Rattle.manual.specs.Figures.{sumOf, wrongCount, outOfRange}
 use Rattle.file.specs.declared.OpenCall.{OpenCall}
-use Rattle.file.specs.Answer.{refused, called, covered, recorded, decide, accepted}
+use Rattle.file.specs.Answer.{refused, recorded, decide, accepted}
 use Rattle.file.specs.Position.{slotOf}
-use Rattle.file.specs.Calls.{amountsOf, callOf, keep, inPlaces}
+use Rattle.file.specs.Calls.{amountsOf, callOf, inPlaces}
 use Rattle.file.specs.Totals.{totalOf, withTotal}
-use Rattle.file.specs.Fields.{coverOf, withTotals}
+use Rattle.file.specs.Fields.{withTotals}
 use Rattle.file.specs.Settle.{outsideMonths, checkDue, deposited, settlementCalls, checkSays, settledAnswer, settleAnswer, callsSettled, settledFile}
 use Rattle.book.specs.Account.{ifAdmitted, fileAnswer, fileAfter, callsAdded}
 use Rattle.book.specs.Call.{settle}
-use Rattle.book.specs.Reading.Events.{Own, act, todayIn, admittedIn, roleIn}
+use Rattle.book.specs.Reading.Events.{Own, act, admittedIn, roleIn}
 use Rattle.book.specs.Reading.Holdings.{lastLodged, releasedSince, leftAt, positionIn, coverIn}
 use Rattle.book.specs.Reading.Months.{nextIn}
-use Rattle.book.specs.Reading.Calls.{callsIn, calledIn, firmIn, openOn, openIn}
+use Rattle.book.specs.Reading.Calls.{callsIn, calledIn, firmIn, openIn}
 use Rattle.book.specs.Reading.Decisions.{cause, settlementAnswer, ownCauses, ownAnswer}
 use Rattle.book.specs.Kept.{ringIn, fileIn}
-use Rattle.book.proofs.Participant.Lawful.{NoneHolds, Lawful}
-use Rattle.book.proofs.Participant.CoverIs.{CoverIs}
-use Rattle.book.proofs.Participant.OpenCalls.{open-calls}
-use Rattle.file.specs.CallLaws.{keep-append}
+use Rattle.book.proofs.Participant.Lawful.{todayIn, NoneHolds, Lawful}
+use Rattle.book.proofs.Participant.OpenCalls.{open-calls, open-behind}
+use Rattle.book.proofs.Participant.Statements.{cover-of-file}
 use Rattle.book.proofs.Participant.Charges.{firm-settled, charged-act, accrued-act}
-
--- A call that passes the test, behind a list of calls, is kept behind those kept.
-keep-last : (test : OpenCall → Bool) (made : List OpenCall) (c : OpenCall) → test c ≡ true
-    → keep test (made ++ (c ∷ [])) ≡ keep test made ++ (c ∷ [])
-keep-last test made c e = keep-append test made (c ∷ []) ∙ (unfold keep in rw e)
-
--- So a call that is made behind others, and whose last free day isn't before t, is the last of those open on t.
-open-behind : (t : ℕ) (made : List OpenCall) (b : Bool) (e l : ℕ) → t ≤ l
-    → openOn t (made ++ cond b (callOf e l ∷ []) []) ≡ cond b (openOn t made ++ (callOf e l ∷ [])) (openOn t made)
-unfolding openOn
-open-behind t made true e l h = keep-last (λ (c : OpenCall). leb t (c .last .0)) made (callOf e l) (le-leb t l h)
-open-behind t made false e l h = rw (append-nil made)
 
 -- One call more, or none.
 length-behind : (made : List OpenCall) (b : Bool) (c : OpenCall) → cond b 1 0 + length made ≡ length (made ++ cond b (c ∷ []) [])
@@ -61,11 +46,11 @@ no-refusal true x last (Checks.Call e asked) = refl
 no-refusal true x last Checks.Covered = refl
 no-refusal false x last c = refl
 
-module _ (coverIs : CoverIs) (s : ℕ) (own : List Own) (m : ℕ) (figures : List ℤ) (lw : Lawful s own) where
+module _ (s : ℕ) (own : List Own) (m : ℕ) (figures : List ℤ) (lw : Lawful s own) where
   -- D, and whether it calls, are the reading's.
   deposit : deposited (fileIn (todayIn s own) own) (todayIn s own) ≡ coverIn (todayIn s own) own
-  unfolding deposited coverOf fileIn
-  deposit = coverIs s (todayIn s own) own lw (le-refl (todayIn s own))
+  unfolding deposited
+  deposit = cover-of-file s own lw
 
   calls-same : settlementCalls (fileIn (todayIn s own) own) (todayIn s own) m figures
       ≡ calledIn (todayIn s own) m figures own (callsIn own)

@@ -2,21 +2,22 @@
 -- Assumes nothing.
 use Prim.Native.Nat.{ℕ, _+_, _-_, _≤_}
 use native.Mathlib.Omega.{arith}
-use mathlib.Core.Path.{_≡_, refl, sym, ap, _∙_}
-use mathlib.Core.Bool.{true, false, true≢false}
+use mathlib.Core.Path.{_≡_, refl, ap, _∙_}
+use mathlib.Core.Bool.{true, false}
 use mathlib.Core.List.{List, _∷_}
 use lib.Dec.{ltb}
 use lib.IntN.{ℤ}
 use borrow.Author.Tests.{ltb-false}
+use Rattle.laws.specs.Cases.{clash}
 use Rattle.manual.specs.Minimum.{minimumOf}
 use Rattle.file.specs.declared.Position.{Position}
 use Rattle.file.specs.Calls.{largest, keep}
 use Rattle.book.specs.Call.{Act, admit, lodge, release, settle, annualRun}
-use Rattle.book.specs.Reading.Events.{Own, act, todayIn, admittedIn}
+use Rattle.book.specs.Reading.Events.{Own, act, admittedIn}
 use Rattle.book.specs.Reading.Holdings.{lodgedOn, releasedOn, coverIn}
 use Rattle.book.specs.Reading.Calls.{Base, baseIn, firmFrom, callsIn, firmIn}
 use Rattle.book.specs.Reading.Decisions.{coverLeft, mustStay, ownCauses}
-use Rattle.book.proofs.Participant.Lawful.{NoneHolds, Lawful}
+use Rattle.book.proofs.Participant.Lawful.{todayIn, NoneHolds, Lawful}
 use Rattle.book.proofs.Participant.Charges.{firm-behind, firm-settled}
 use Rattle.book.proofs.Participant.Blank.{blank-calls}
 
@@ -57,10 +58,9 @@ annual-raises-none t own = omega arith
 -- A call that opened no day left no admitted participant's shortfall higher.
 pub shortfall-not-higher : (s : ℕ) (own : List Own) (a : Act) → Lawful s own → admittedIn own ≡ true
     → NoneHolds (ownCauses (todayIn s own) own a)
-    → firmIn (todayIn s own) (act (todayIn s own) a ∷ own) - coverIn (todayIn s own) (act (todayIn s own) a ∷ own)
-    ≤ firmIn (todayIn s own) own - coverIn (todayIn s own) own
+    → shortfallIn (todayIn s own) (act (todayIn s own) a ∷ own) ≤ shortfallIn (todayIn s own) own
 unfolding ownCauses
-shortfall-not-higher s own (admit role) lw admitted none = absurd (true≢false (sym admitted ∙ none .0))
+shortfall-not-higher s own (admit role) lw admitted none = clash admitted (none .0)
 shortfall-not-higher s own (lodge k h) lw admitted none = lodging-raises-none (todayIn s own) k h own
 shortfall-not-higher s own (release k a) lw admitted none =
     omega (arith, release-leaves-none (todayIn s own) k a own (none .1 .1 .1 .1 .1 .0))
@@ -78,8 +78,12 @@ newly-admitted s role own lw out =
     firm-behind t base (callsIn own) (ltb 0 (minimumOf role)) (minimumOf role) (t + 10) (omega arith)
     ∙ ap (firmFrom t base) (blank-calls s own lw out)
 
--- So it begins with no shortfall.
-pub newly-admitted-none : (s role : ℕ) (own : List Own) → Lawful s own → admittedIn own ≡ false
-    → firmIn (todayIn s own) (act (todayIn s own) (admit role) ∷ own) - coverIn (todayIn s own) (act (todayIn s own) (admit role) ∷ own)
-    ≡ 0
-newly-admitted-none s role own lw out = omega (arith, newly-admitted s role own lw out)
+-- So a participant that a call made an admitted one begins with no shortfall.
+pub begun-with-none : (s : ℕ) (own : List Own) (a : Act) → Lawful s own → admittedIn own ≡ false
+    → admittedIn (act (todayIn s own) a ∷ own) ≡ true → shortfallIn (todayIn s own) (act (todayIn s own) a ∷ own) ≡ 0
+unfolding admittedIn
+begun-with-none s own (admit role) lw out now = omega (arith, newly-admitted s role own lw out)
+begun-with-none s own (lodge k h) lw out now = clash now out
+begun-with-none s own (release k a) lw out now = clash now out
+begun-with-none s own (settle m figures) lw out now = clash now out
+begun-with-none s own annualRun lw out now = clash now out

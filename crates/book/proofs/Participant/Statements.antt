@@ -7,13 +7,13 @@ use mathlib.Core.List.{List}
 use Rattle.file.specs.Answer.{stated, statementSays}
 use Rattle.file.specs.Fields.{coverOf, shortfallOf}
 use Rattle.file.specs.Statement.{statementOf}
-use Rattle.book.specs.Reading.Events.{Own, todayIn}
+use Rattle.book.specs.Reading.Events.{Own}
 use Rattle.book.specs.Reading.Holdings.{coverIn}
 use Rattle.book.specs.Reading.Calls.{firmIn}
 use Rattle.book.specs.Reading.Charges.{chargedIn, accruedIn}
 use Rattle.book.specs.Reading.Decisions.{ownStatement}
 use Rattle.book.specs.Kept.{fileIn}
-use Rattle.book.proofs.Participant.Lawful.{Lawful}
+use Rattle.book.proofs.Participant.Lawful.{todayIn, Lawful}
 use Rattle.book.proofs.Participant.Cover.{cover-is}
 
 -- The cover today of the file of the readings.

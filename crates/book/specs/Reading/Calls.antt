@@ -1,7 +1,7 @@
 -- The calls made, the firm amount and the open calls, read from a participant's calls and the days opened.
 -- Assumes nothing.
 use Prim.Native.Nat.{ℕ, _+_}
-use mathlib.Core.Bool.{Bool, true, false, cond, _&&_}
+use mathlib.Core.Bool.{Bool, cond, _&&_}
 use mathlib.Core.List.{List, [], _∷_, _++_}
 use lib.Dec.{leb, ltb}
 use lib.IntN.{ℤ, natAbs}
@@ -12,7 +12,7 @@ use Rattle.manual.specs.Figures.{sumOf}
 use Rattle.file.specs.declared.OpenCall.{OpenCall}
 use Rattle.file.specs.Calls.{largest, amountsOf, callOf, keep}
 use Rattle.file.specs.Settle.{checkDue}
-use Rattle.book.specs.Call.{Act, admit, lodge, release, settle, annualRun}
+use Rattle.book.specs.Call.{admit, lodge, release, settle, annualRun}
 use Rattle.book.specs.Reading.Events.{Own, dayOpened, act}
 use Rattle.book.specs.Reading.Holdings.{coverIn}
 use Rattle.book.specs.Reading.Months.{nextIn}

@@ -1,7 +1,7 @@
 -- The shortfalls at the openings, the days charged and the accrued charge.
 -- Assumes nothing.
 use Prim.Native.Nat.{ℕ, _+_, _-_}
-use mathlib.Core.Bool.{Bool, cond}
+use mathlib.Core.Bool.{cond}
 use mathlib.Core.List.{List, [], _∷_}
 use lib.Dec.{eqb}
 use Rattle.manual.specs.Charge.{dayCharge}

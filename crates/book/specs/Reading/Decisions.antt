@@ -10,8 +10,7 @@ use lib.IntN.{ℤ}
 use Rattle.calendar.specs.Civil.{monthOf, inAnnualDays}
 use Rattle.manual.specs.Check.{checked}
 use Rattle.manual.specs.Figures.{sumOf, wrongCount, outOfRange}
-use Rattle.file.specs.declared.Position.{Position}
-use Rattle.file.specs.Answer.{Answer, refused, Cause, done, called, covered, recorded, annual, daysOpened, stated, counted, decide, accepted}
+use Rattle.file.specs.Answer.{Answer, refused, Cause, done, recorded, annual, daysOpened, stated, counted, decide, accepted}
 use Rattle.file.specs.Position.{amountOf, filled, notReleasable, outsideAmounts, againstDays}
 use Rattle.file.specs.Calls.{largest, amountsOf}
 use Rattle.file.specs.Settle.{outsideMonths, checkDue, checkSays}

@@ -29,12 +29,6 @@ todayOf s [] = s
 todayOf s (opened d ∷ events) = d
 todayOf s (did d p a ∷ events) = todayOf s events
 
--- Today, by one participant's part.
-unfoldable pub todayIn : ℕ → List Own → ℕ
-todayIn s [] = s
-todayIn s (dayOpened d ∷ own) = d
-todayIn s (act d a ∷ own) = todayIn s own
-
 -- The events with the n days after day t opened in turn.
 unfoldable pub withDays : ℕ → ℕ → List Event → List Event
 withDays zero t events = events

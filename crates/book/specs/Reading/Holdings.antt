@@ -1,13 +1,13 @@
 -- Positions and cover, read from a participant's lodgings and releases.
 -- Assumes nothing.
 use Prim.Native.Nat.{ℕ, _+_, _-_}
-use mathlib.Core.Bool.{Bool, cond}
+use mathlib.Core.Bool.{cond}
 use mathlib.Core.List.{List, [], _∷_}
 use lib.Dec.{leb, eqb}
 use Rattle.file.specs.declared.Position.{Position}
 use Rattle.file.specs.declared.Position.the-variants.{Empty, Cash, Letter}
 use Rattle.file.specs.Position.{inForce, countsOn, emptiedOn}
-use Rattle.book.specs.Call.{Act, admit, lodge, release, settle, annualRun}
+use Rattle.book.specs.Call.{admit, lodge, release, settle, annualRun}
 use Rattle.book.specs.Reading.Events.{Own, dayOpened, act}
 
 -- "what was last lodged there": at place k.

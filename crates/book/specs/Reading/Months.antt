@@ -1,7 +1,7 @@
 -- Month totals and the next amount, read from a participant's settlements and annual runs.
 -- Assumes nothing.
 use Prim.Native.Nat.{ℕ}
-use mathlib.Core.Bool.{Bool, cond}
+use mathlib.Core.Bool.{cond}
 use mathlib.Core.List.{List, [], _∷_}
 use lib.Dec.{eqb}
 use lib.IntN.{ℤ}
@@ -11,7 +11,7 @@ use Rattle.manual.specs.Figures.{sumOf}
 use Rattle.file.specs.declared.NextAmount.{NextAmount}
 use Rattle.file.specs.Fields.{unset, setTo}
 use Rattle.file.specs.Totals.{Total, none, total, yearTotals}
-use Rattle.book.specs.Call.{Act, admit, lodge, release, settle, annualRun}
+use Rattle.book.specs.Call.{admit, lodge, release, settle, annualRun}
 use Rattle.book.specs.Reading.Events.{Own, dayOpened, act, roleIn}
 
 -- "A month's total is that of its last accepted settlement."

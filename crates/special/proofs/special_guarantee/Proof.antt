@@ -4,7 +4,8 @@
 use borrow.Author.Needs.{needs}
 use mathlib.Core.Path.{sym, _∙_}
 use denote.Ref.{now}
-use Rattle.special.proofs.Decided.{Passed, refused-19, refused-11, medium-in-range, low-in-range, refused-18, kept-medium, kept-low, amounts, accepted}
+use Rattle.special.proofs.Decided.{Passed, refused-19, refused-11, refused-18, accepted}
+use Rattle.special.proofs.Decided.{medium-in-range, low-in-range, kept-medium, kept-low, amounts}
 use Rattle.special.proofs.special_guarantee.Statement.{statement}
 use Rattle.special.proofs.special_guarantee.Tie as tie
 
@@ -23,7 +24,8 @@ returns-2 c =
     (sym (c .before .out-of-range .ensures) ∙ c .if2 .taken)
 
 -- after the second test the causes 19 and 11 do not hold
-passed : (c : tie.Else2) → let a = c .before .before .before .before .before .args in Passed (now (a .medium)) (now (a .low)) (now (a .marks)) (now (a .zero-medium)) (now (a .zero-low)) (now (a .excess-medium)) (now (a .excess-low))
+passed : (c : tie.Else2) → let a = c .before .before .before .before .before .args in
+    Passed (now (a .medium)) (now (a .low)) (now (a .marks)) (now (a .zero-medium)) (now (a .zero-low)) (now (a .excess-medium)) (now (a .excess-low))
 passed c =
     record {
       lengths = sym (c .before .before .before .wrong-lengths .ensures) ∙ c .before .before .if1 .left;

@@ -1,4 +1,5 @@
--- `answering::guarantee::marks_of` meets its contract: the loop's invariant is that the numbers so far are marks at the front. The measure is how many are left.
+-- `answering::guarantee::marks_of` meets its contract: the loop's invariant is that the numbers so far are marks at the front. The measure is how
+-- many are left.
 -- Assumes nothing.
 use Prim.Native.Nat.{_≤_, _-_}
 use mathlib.Core.Path.{_≡_, refl}

@@ -26,7 +26,8 @@ guarantee-shown-requires : tie.Need-guarantee-shown-requires
 guarantee-shown-requires c κs = search needs
 
 returns-2 : tie.Need-returns-2
-returns-2 c = lists-are _ _ _ _ _ _ _ _ _ _ (c .before .before .before .marks-of .ensures) (c .before .special-guarantee .ensures) (c .guarantee-shown .ensures)
+returns-2 c = lists-are _ _ _ _ _ _ _ _ _ _ (c .before .before .before .marks-of .ensures) (c .before .special-guarantee .ensures)
+    (c .guarantee-shown .ensures)
 
 pub of-lists-spec : {M : Type 1} → statement M
 of-lists-spec =

@@ -68,7 +68,8 @@ is-uncovered-requires c κs =
       search needs,
       search needs,
       search needs,
-      releasable-here (now (given .words)) (given .participant) (given .position) (given .amount) (c .before .before .before .before .before .before .slot-at .result)
+      releasable-here (now (given .words)) (given .participant) (given .position) (given .amount)
+          (c .before .before .before .before .before .before .slot-at .result)
           (c .before .not-releasable .result)
           (search needs)
           (search needs)

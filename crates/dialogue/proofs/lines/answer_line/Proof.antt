@@ -44,17 +44,14 @@ same-length-4 c = search needs
 
 returns : tie.Need-returns
 returns c =
-    let start = c .before .before .before .before .before .before .before .before .before .before .before .before .before .before .before .before .before .before .before .before .before .before .before .before .before .before in
+    let added = c .before .before .before .before .before .before in
+    let kept = added .before .before .before .before .before .before in
+    let applied = kept .before .before .before in
+    let asked = applied .before .before .before .before .before in
+    let start = asked .before .before .before .before .before .before in
     let fits : length (start .args .numbers .now) ≤ 18446744073709551615 = omega (arith, start .good) in
-    let asked = c .before .before .before .before .before .before .before .before .before .before .before .before .before .before .before .before .before .before .before .before .ask in
-    let number = c .before .before .before .before .before .before .before .before .before .before .before .before .before .before .before .before .next-number in
-    let applied = c .before .before .before .before .before .before .before .before .before .before .before .before .before .before .before .apply in
-    let kept = c .before .before .before .before .before .before .before .before .before .before .before .before .is-kept in
-    let added = c .before .before .before .before .before .before .put-added in
-    let refused = c .before .is-refusal in
-    let further = c .next-place in
-    line-taken _ _ _ _ _ _ _ _ _ _ _ _ _ _ _ _ _ _ _ _ _ _ (asked .ensures) (number .ensures) (applied .ensures) (kept .ensures) refl (added .ensures)
-    (refused .ensures) (further .ensures) fits
+    line-taken _ _ _ _ _ _ _ _ _ _ _ _ _ _ _ _ _ _ _ _ _ _ (asked .ask .ensures) (applied .before .next-number .ensures) (applied .apply .ensures)
+    (kept .is-kept .ensures) refl (added .put-added .ensures) (c .before .is-refusal .ensures) (c .next-place .ensures) fits
 
 pub answer-line-spec : {M : Type 1} → statement M
 answer-line-spec =

@@ -44,8 +44,10 @@ same-length-4 c = search needs
 
 returns : tie.Need-returns Inv-loop μ-loop
 returns c =
-    let inv = c .before .before .before .loop .inv in
-    ((inv .4, inv .5 .within, inv .5 .inJournal, inv .5 .inAnswers, inv .1, inv .2), stopped _ _ _ _ _ _ _ _ _ _ _ (inv .5) (c .before .goes-on .ensures) (not-true _ (c .if1 .taken)))
+    let inv = c .before .before .before .loop .inv in (
+      (inv .4, inv .5 .within, inv .5 .inJournal, inv .5 .inAnswers, inv .1, inv .2),
+      stopped _ _ _ _ _ _ _ _ _ _ _ (inv .5) (c .before .goes-on .ensures) (not-true _ (c .if1 .taken)),
+    )
 
 add-next : tie.Need-add-next Inv-loop μ-loop
 add-next c = search needs

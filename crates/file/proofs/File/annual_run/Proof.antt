@@ -2,9 +2,6 @@
 -- months P − 14 to P − 3, and the amount is theirs.
 -- Assumes nothing.
 use borrow.Author.Needs.{needs}
-use Prim.Native.Nat.{ℕ, _≤_}
-use mathlib.Core.Path.{subst⁻¹}
-use Rattle.calendar.specs.Laws.{monthOf-le}
 use Rattle.file.proofs.Windows.{window-months, window-inside, window-count, run-refused, run-done}
 use Rattle.file.proofs.File.annual_run.Statement.{statement}
 use Rattle.file.proofs.File.annual_run.Tie as tie
@@ -18,20 +15,14 @@ returns c = run-refused _ _ _ (c .before .in-annual-days .ensures) (c .if1 .take
 month-of-requires : tie.Need-month-of-requires
 month-of-requires c κs = search needs
 
-earlier-requires : tie.Need-earlier-requires
-earlier-requires c κs = search needs
+months-before-requires : tie.Need-months-before-requires
+months-before-requires c κs = search needs
 
-earlier-requires-2 : tie.Need-earlier-requires-2
-earlier-requires-2 c κs = search needs
-
-sub-window : tie.Need-sub-window
-sub-window c = search needs
+months-before-requires-2 : tie.Need-months-before-requires-2
+months-before-requires-2 c κs = search needs
 
 window-requires : tie.Need-window-requires
-window-requires c κs =
-    let m = c .before .before .before in
-    window-months _ _ _ (subst⁻¹ (λ (p : ℕ). p ≤ 960) (m .month-of .ensures) (monthOf-le (m .before .before .before .args .today .0)))
-    (c .before .before .earlier .ensures) (c .before .earlier2 .ensures)
+window-requires c κs = window-months _ _ _ (c .before .before .months-before .ensures) (c .before .months-before2 .ensures)
 
 array-share-prefix-recorded : tie.Need-array-share-prefix-recorded
 array-share-prefix-recorded c = window-inside _ _ (c .before .window .ensures)
@@ -48,7 +39,7 @@ returns-2 c =
     let e = w .before .before in
     let m = e .before .before in
     run-done _ _ _ _ _ _ _ _ (m .before .before .in-annual-days .ensures) (m .before .if1 .left) (m .month-of .ensures)
-    (e .before .earlier .ensures) (e .earlier2 .ensures) (w .window .ensures) (c .annual-amount .ensures)
+    (e .before .months-before .ensures) (e .months-before2 .ensures) (w .window .ensures) (c .annual-amount .ensures)
 
 pub annual-run-spec : {M : Type 1} → statement M
 annual-run-spec =
@@ -57,9 +48,8 @@ annual-run-spec =
     in-annual-days-requires
     returns
     month-of-requires
-    earlier-requires
-    earlier-requires-2
-    sub-window
+    months-before-requires
+    months-before-requires-2
     window-requires
     array-share-prefix-recorded
     slice-aggregate-annual-amount

@@ -12,7 +12,9 @@ use Rattle.file.proofs.File.opened.Statement.{statement}
 use Rattle.file.proofs.File.opened.Tie as tie
 
 -- the shortfall that the day is charged for
-short : (c : tie.After-less-cover) → let a = c .before .before .before .before .before .before .before .before in c .less-cover .result ≡ shortfallOpened (a .args .self) (a .args .day .0)
+short : (c : tie.After-less-cover)
+    → let a = c .before .before .before .before .before .before .before .before in
+    c .less-cover .result ≡ shortfallOpened (a .args .self) (a .args .day .0)
 short c = search (file-shortfall, needs)
 
 emptied-slots-requires : tie.Need-emptied-slots-requires

@@ -6,13 +6,13 @@ use mathlib.Core.Path.{_≡_, _∙_, ap}
 use mathlib.Core.Bool.{false}
 use Rattle.calendar.specs.Civil.{monthOf}
 use Rattle.file.specs.Settle.{outsideMonths, checkDue}
-use Rattle.file.proofs.Settling.{settles-outside, settles-figures, inside-months, figures-summed}
+use Rattle.file.proofs.Settling.{settles-outside, settles-figures, months-asked, figures-summed}
 use Rattle.file.proofs.File.settle.Statement.{statement}
 use Rattle.file.proofs.File.settle.Tie as tie
 
 -- where the figures were summed, the month is inside its range
-inside : (c : tie.After-sum-figures) → outsideMonths (monthOf (c .before .before .before .before .args .today .0)) (c .before .before .before .before .args .month .0) ≡ false
-inside c = inside-months _ _ _ _ (c .before .before .before .month-of .ensures) (c .before .before .outside-months .ensures) (c .before .if1 .left)
+inside : (c : tie.After-sum-figures) → let a = c .before .before .before .before .args in outsideMonths (monthOf (a .today .0)) (a .month .0) ≡ false
+inside c = months-asked _ _ _ _ _ (c .before .before .before .month-of .ensures) (c .before .before .outside-months .ensures) (c .before .if1 .left)
 
 month-of-requires : tie.Need-month-of-requires
 month-of-requires c κs = search needs
@@ -21,7 +21,9 @@ outside-months-requires : tie.Need-outside-months-requires
 outside-months-requires c κs = search needs
 
 returns : tie.Need-returns
-returns c = settles-outside _ _ _ _ _ _ (c .before .before .month-of .ensures) (c .before .outside-months .ensures) (c .if1 .taken)
+returns c =
+    settles-outside _ _ _ _
+    (months-asked _ _ _ _ _ (c .before .before .month-of .ensures) (c .before .outside-months .ensures) (c .if1 .taken))
 
 sum-figures-requires : tie.Need-sum-figures-requires
 sum-figures-requires c κs = search needs

@@ -1,10 +1,9 @@
--- `file::annual::window` meets its contract. The loop's invariant: what was found are the recorded totals of the first i months. The measure is
--- the number of months left.
+-- `file::annual::window` meets its contract. The loop's invariant: what was found are the recorded totals of the window's months before those
+-- that are left. The measure is the number of months left.
 -- Assumes nothing.
 use borrow.Author.Needs.{needs}
 use Prim.Native.Nat.{_≤_, _-_}
 use mathlib.Core.Path.{_≡_}
-use native.Mathlib.Omega.{arith}
 use lib.ListN.{length}
 use Rattle.laws.specs.Lists.{length-unmap}
 use Rattle.file.specs.Totals.{totalAt, totalsFrom}
@@ -14,19 +13,24 @@ use Rattle.file.proofs.annual.window.Statement.{statement}
 use Rattle.file.proofs.annual.window.Tie as tie
 
 abbrev Inv-loop : tie.InvT-loop
-Inv-loop first months totals found₀ i₀ found i = (i ≤ months) × (length totals ≡ 16) × (found ≡ recordedIn (totalsFrom (totalAt totals) first i))
+Inv-loop end totals found₀ left₀ found left =
+    (left ≤ left₀) × (left₀ ≤ 12) × (left₀ ≤ end .0) × (length totals ≡ 16)
+    × (found ≡ recordedIn (totalsFrom (totalAt totals) (end .0 - left₀) (left₀ - left)))
 
 abbrev μ-loop : tie.MeasureT-loop
-μ-loop first months totals found₀ i₀ found i = months - i
+μ-loop end totals found₀ left₀ found left = left
+
+months-between-requires : tie.Need-months-between-requires Inv-loop μ-loop
+months-between-requires c κs = search needs
 
 loop-holds : tie.Need-loop-holds Inv-loop μ-loop
-loop-holds c = (search needs, search (length-unmap, needs), window-none (c .args .t1) (c .args .first))
+loop-holds c = (search needs, search needs, search needs, search (length-unmap, needs), window-none _ _ _)
 
-add-month : tie.Need-add-month Inv-loop μ-loop
-add-month c = omega (arith, c .before .before .pre .0, c .before .before .pre .1)
+months-before-requires : tie.Need-months-before-requires Inv-loop μ-loop
+months-before-requires c κs = search needs
 
-cast-at : tie.Need-cast-at Inv-loop μ-loop
-cast-at c = search needs
+ring-place-requires : tie.Need-ring-place-requires Inv-loop μ-loop
+ring-place-requires c κs = search needs
 
 mul-place : tie.Need-mul-place Inv-loop μ-loop
 mul-place c = search needs
@@ -37,14 +41,21 @@ array-copy-out-place c = search needs
 with-month-requires : tie.Need-with-month-requires Inv-loop μ-loop
 with-month-requires c κs = search (window-short, needs)
 
-add-i : tie.Need-add-i Inv-loop μ-loop
-add-i c = search needs
+sub-left : tie.Need-sub-left Inv-loop μ-loop
+sub-left c = search needs
 
 loop-less : tie.Need-loop-less Inv-loop μ-loop
 loop-less c = search needs
 
 loop-again : tie.Need-loop-again Inv-loop μ-loop
-loop-again c = (search needs, search needs, window-next _ _ _ _ _ (c .before .before .before .loop .inv .2) (c .with-month .ensures))
+loop-again c =
+    let l = c .before .before .before .before .before .loop in (
+      search needs,
+      search needs,
+      search needs,
+      search needs,
+      window-next _ _ _ _ _ _ _ _ (search needs) (l .inv .0) (l .inv .2) (search needs) (search needs) (l .inv .4) (c .with-month .ensures),
+    )
 
 returns : tie.Need-returns Inv-loop μ-loop
 returns c = search (window-all, needs)
@@ -55,13 +66,14 @@ window-spec =
     (tie.spec
     Inv-loop
     μ-loop
+    months-between-requires
     loop-holds
-    add-month
-    cast-at
+    months-before-requires
+    ring-place-requires
     mul-place
     array-copy-out-place
     with-month-requires
-    add-i
+    sub-left
     loop-less
     loop-again
     returns)

@@ -37,7 +37,11 @@ loop-less : tie.Need-loop-less Inv-loop μ-loop
 loop-less c = search needs
 
 loop-again : tie.Need-loop-again Inv-loop μ-loop
-loop-again c = (search needs, search needs, left-next _ _ _ _ _ _ _ _ (c .before .before .before .loop .inv .2) (c .before .before .before .loop .inv .1) (c .before .before .loop-test .taken) (c .before .before .before .before .pre .0) (c .with-call .ensures))
+loop-again c =
+    let l = c .before .before .before in
+    let i = l .loop .inv in
+    let k = c .before .before .loop-test .taken in
+    (search needs, search needs, left-next _ _ _ _ _ _ _ _ (i .2) (i .1) k (l .before .pre .0) (c .with-call .ensures))
 
 returns : tie.Need-returns Inv-loop μ-loop
 returns c = search (left-all, needs)

@@ -55,7 +55,9 @@ loop-again c =
     )
 
 returns : tie.Need-returns Inv-loop μ-loop
-returns c = slots-all _ _ (c .before .before .args .day .0) (c .before .loop .i) (c .before .loop .inv .1) (c .loop-test .left) (c .before .loop .inv .2)
+returns c =
+    let l = c .before .loop in
+    slots-all _ _ (c .before .before .args .day .0) (l .i) (l .inv .1) (c .loop-test .left) (l .inv .2)
 
 pub emptied-slots-spec : {M : Type 1} → statement M
 emptied-slots-spec =

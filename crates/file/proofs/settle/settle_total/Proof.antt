@@ -2,7 +2,7 @@
 -- the check calls. The places behind the open calls hold zeros, which change no check.
 -- Assumes nothing.
 use borrow.Author.Needs.{needs}
-use mathlib.Core.Path.{_∙_}
+use mathlib.Core.Path.{sym, _∙_}
 use mir.Facts.{toZ-ofZ}
 use borrow.Author.Tests.{not-true, not-false}
 use Rattle.file.proofs.Settling.{settles-recorded, settles-covered, settles-fifth, settles-called}
@@ -14,9 +14,12 @@ with-total-requires c κs = search needs
 
 returns : tie.Need-returns
 returns c =
-    let a = c .before .before .before in
+    let w = c .before in
+    let a = w .before .before in
     λ figures h n r i.
-    settles-recorded _ _ _ (a .pre .0) figures n r i _ _ _ (a .pre .1) (not-true _ (c .if1 .taken)) (toZ-ofZ (a .fits .total) ∙ h) (c .before .with-total .ensures)
+    settles-recorded _ _ _ figures _ _
+    record { sound = a .pre .0; month = i; number = n; range = r; sum = toZ-ofZ (a .fits .total) ∙ h; ring = w .with-total .ensures }
+    (sym (a .pre .1) ∙ not-true _ (c .if1 .taken))
 
 amounts-requires : tie.Need-amounts-requires
 amounts-requires c κs = search needs
@@ -43,7 +46,9 @@ returns-2 c =
     let w = v .before .before .before .before .before in
     let a = w .before .before in
     λ figures h n r i.
-    settles-fifth _ _ _ (a .pre .0) figures n r i _ _ _ _ _ (a .pre .1) (not-false _ (v .before .before .before .before .if1 .left)) (toZ-ofZ (a .fits .total) ∙ h)
+    settles-fifth _ _ _ figures _ _
+    record { sound = a .pre .0; month = i; number = n; range = r; sum = toZ-ofZ (a .fits .total) ∙ h; ring = w .with-total .ensures }
+    _ _ _ (sym (a .pre .1) ∙ not-false _ (v .before .before .before .before .if1 .left))
     (v .cover .ensures) (v .before .amounts .ensures) (k .check .ensures) _ _ (c .before .before .amount .given .1) (c .if2 .taken)
 
 add-t31 : tie.Need-add-t31
@@ -65,8 +70,10 @@ returns-3 c =
     let w = v .before .before .before .before .before in
     let a = w .before .before in
     λ figures h n r i.
-    settles-covered _ _ _ (a .pre .0) figures n r i _ _ _ _ _ (a .pre .1) (not-false _ (v .before .before .before .before .if1 .left)) (toZ-ofZ (a .fits .total) ∙ h)
-    (v .cover .ensures) (v .before .amounts .ensures) (k .check .ensures) _ (c .enum-told .given .1) (w .with-total .ensures)
+    settles-covered _ _ _ figures _ _
+    record { sound = a .pre .0; month = i; number = n; range = r; sum = toZ-ofZ (a .fits .total) ∙ h; ring = w .with-total .ensures }
+    _ _ _ (sym (a .pre .1) ∙ not-false _ (v .before .before .before .before .if1 .left))
+    (v .cover .ensures) (v .before .amounts .ensures) (k .check .ensures) (c .enum-told .given .1)
 
 returns-4 : tie.Need-returns-4
 returns-4 c =
@@ -75,8 +82,10 @@ returns-4 c =
     let w = v .before .before .before .before .before in
     let a = w .before .before in
     λ figures h n r i.
-    settles-called _ _ _ (a .pre .0) figures n r i _ _ _ _ _ (a .pre .1) (not-false _ (v .before .before .before .before .if1 .left)) (toZ-ofZ (a .fits .total) ∙ h)
-    (v .cover .ensures) (v .before .amounts .ensures) (k .check .ensures) _ _ (c .before .before .before .amount .given .1) _ (c .before .if2 .left) (w .with-total .ensures)
+    settles-called _ _ _ figures _ _
+    record { sound = a .pre .0; month = i; number = n; range = r; sum = toZ-ofZ (a .fits .total) ∙ h; ring = w .with-total .ensures }
+    _ _ _ (sym (a .pre .1) ∙ not-false _ (v .before .before .before .before .if1 .left))
+    (v .cover .ensures) (v .before .amounts .ensures) (k .check .ensures) _ _ (c .before .before .before .amount .given .1) (c .before .if2 .left)
 
 pub settle-total-spec : {M : Type 1} → statement M
 settle-total-spec =

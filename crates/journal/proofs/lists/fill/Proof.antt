@@ -10,7 +10,10 @@ use Rattle.journal.proofs.lists.fill.Statement.{statement}
 use Rattle.journal.proofs.lists.fill.Tie as tie
 
 abbrev Inv-loop : tie.InvT-loop
-Inv-loop s count marks numbers₀ from at₀ i₀ k₀ numbers at i k = (k ≤ count) × Filling (numbersOf marks (length numbers₀ - from) count (leftAt s at₀)) (numbersOf marks (length numbers₀ - i) (count - k) (leftAt s at)) numbers₀ from numbers i
+Inv-loop s count marks numbers₀ from at₀ i₀ k₀ numbers at i k =
+    (k ≤ count)
+    × Filling (numbersOf marks (length numbers₀ - from) count (leftAt s at₀))
+    (numbersOf marks (length numbers₀ - i) (count - k) (leftAt s at)) numbers₀ from numbers i
 
 abbrev μ-loop : tie.MeasureT-loop
 μ-loop s count marks numbers₀ from at₀ i₀ k₀ numbers at i k = count - k

@@ -12,7 +12,10 @@ use Rattle.journal.proofs.lists.lists.Statement.{statement}
 use Rattle.journal.proofs.lists.lists.Tie as tie
 
 abbrev Inv-loop : tie.InvT-loop
-Inv-loop s numbers₀ lengths₀ at₀ end₀ i₀ numbers lengths at end i = (i ≤ 7) × (length lengths₀ ≡ 7) × Listing (listsOf areMarks (length numbers₀) (leftAt s at₀)) (listsOf (drop i areMarks) (length numbers₀ - end) (leftAt s at)) numbers₀ numbers end lengths₀ lengths i
+Inv-loop s numbers₀ lengths₀ at₀ end₀ i₀ numbers lengths at end i =
+    (i ≤ 7) × (length lengths₀ ≡ 7)
+    × Listing (listsOf areMarks (length numbers₀) (leftAt s at₀))
+    (listsOf (drop i areMarks) (length numbers₀ - end) (leftAt s at)) numbers₀ numbers end lengths₀ lengths i
 
 abbrev μ-loop : tie.MeasureT-loop
 μ-loop s numbers₀ lengths₀ at₀ end₀ i₀ numbers lengths at end i = 7 - i

@@ -11,7 +11,8 @@ use Rattle.layout.proofs.files.cover_at.Statement.{statement}
 use Rattle.layout.proofs.files.cover_at.Tie as tie
 
 abbrev Inv-loop : tie.InvT-loop
-Inv-loop words at day sum₀ k₀ sum k = (k ≤ 8) × (sum + coverOn (day .0) (drop k (slotsOfWords (wordsAt words at))) ≡ coverOn (day .0) (slotsOfWords (wordsAt words at)))
+Inv-loop words at day sum₀ k₀ sum k =
+    (k ≤ 8) × (sum + coverOn (day .0) (drop k (slotsOfWords (wordsAt words at))) ≡ coverOn (day .0) (slotsOfWords (wordsAt words at)))
 
 abbrev μ-loop : tie.MeasureT-loop
 μ-loop words at day sum₀ k₀ sum k = 8 - k

@@ -11,7 +11,8 @@ use Rattle.layout.proofs.files.put_totals.Statement.{statement}
 use Rattle.layout.proofs.files.put_totals.Tie as tie
 
 abbrev Inv-loop : tie.InvT-loop
-Inv-loop words₀ at totals i₀ words i = (i ≤ 16) × (length totals ≡ 16) × (length words ≡ length words₀) × SoFar totalWords TotalBack totals words₀ at i words
+Inv-loop words₀ at totals i₀ words i =
+    (i ≤ 16) × (length totals ≡ 16) × (length words ≡ length words₀) × SoFar totalWords TotalBack totals words₀ at i words
 
 abbrev μ-loop : tie.MeasureT-loop
 μ-loop words₀ at totals i₀ words i = 16 - i

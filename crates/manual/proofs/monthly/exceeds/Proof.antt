@@ -2,7 +2,8 @@
 -- Assumes nothing.
 use borrow.Author.Needs.{needs}
 use Rattle.laws.specs.Integers.{cast-fits}
-use Rattle.manual.proofs.Machine.{below-zero, from-zero, cast-from-zero}
+use Rattle.laws.specs.Magnitudes.{natural-above}
+use Rattle.manual.proofs.Machine.{below-zero, from-zero}
 use Rattle.manual.proofs.monthly.exceeds.Statement.{statement}
 use Rattle.manual.proofs.monthly.exceeds.Tie as tie
 
@@ -10,7 +11,7 @@ returns : tie.Need-returns
 returns c = search (below-zero, needs)
 
 cast-result : tie.Need-cast-result
-cast-result c = (search (cast-from-zero, needs), search (cast-fits, needs))
+cast-result c = (search (natural-above, needs), search (cast-fits, needs))
 
 returns-2 : tie.Need-returns-2
 returns-2 c = search (from-zero, needs)

@@ -13,7 +13,9 @@ use Rattle.printing.proofs.calls.put_lists.Statement.{statement}
 use Rattle.printing.proofs.calls.put_lists.Tie as tie
 
 abbrev Inv-loop : tie.InvT-loop
-Inv-loop out₀ at lengths numbers p₀ k₀ i₀ out p k i = (i ≤ length lengths) × (k ≤ length numbers) × (length out ≡ length out₀) × Putting (spaced (listWords (cut lengths numbers))) (spaced (listWords (cut (drop i lengths) (drop k numbers)))) out₀ at p out
+Inv-loop out₀ at lengths numbers p₀ k₀ i₀ out p k i =
+    (i ≤ length lengths) × (k ≤ length numbers) × (length out ≡ length out₀)
+    × Putting (spaced (listWords (cut lengths numbers))) (spaced (listWords (cut (drop i lengths) (drop k numbers)))) out₀ at p out
 
 abbrev μ-loop : tie.MeasureT-loop
 μ-loop out₀ at lengths numbers p₀ k₀ i₀ out p k i = length lengths - i

@@ -13,7 +13,8 @@ use Rattle.printing.proofs.spaced.put_integers.Statement.{statement}
 use Rattle.printing.proofs.spaced.put_integers.Tie as tie
 
 abbrev Inv-loop : tie.InvT-loop
-Inv-loop out₀ at values p₀ i₀ out p i = (i ≤ length values) × (length out ≡ length out₀) × Putting (spaced (map integer values)) (spaced (map integer (drop i values))) out₀ at p out
+Inv-loop out₀ at values p₀ i₀ out p i =
+    (i ≤ length values) × (length out ≡ length out₀) × Putting (spaced (map integer values)) (spaced (map integer (drop i values))) out₀ at p out
 
 abbrev μ-loop : tie.MeasureT-loop
 μ-loop out₀ at values p₀ i₀ out p i = length values - i

@@ -54,7 +54,12 @@ slice-aggregate-take-last-4 : tie.Need-slice-aggregate-take-last-4
 slice-aggregate-take-last-4 c = search needs
 
 take-last-requires : tie.Need-take-last-requires
-take-last-requires c κs = (c .before .before .before .before .before .before .before .before .before .before .before .before .before .take-parts .ensures .0 .0, omega (arith, c .before .before .before .before .before .before .before .before .before .before .before .before .before .take-parts .ensures .0 .1, c .before .before .before .before .before .before .before .before .before .before .before .before .before .take-parts .kept), omega (arith, c .before .before .before .before .before .before .before .before .before .before .before .before .before .take-parts .kept, c .before .before .before .before .before .before .before .before .before .before .before .before .before .before .before .before .before .before .before .before .large-buffer2 .ensures), omega (arith, c .before .before .before .before .before .before .before .before .before .before .before .before .before .take-parts .kept, c .before .before .before .before .before .before .before .before .before .before .before .before .before .before .before .before .before .before .before .large-buffer3 .ensures))
+take-last-requires c κs =
+    let parts = c .before .before .before .before .before .before .before .before .before .before .before .before .before in
+    let taken = parts .take-parts in
+    let second = parts .before .before .before .before .before .before .before .large-buffer2 .ensures in
+    let third = parts .before .before .before .before .before .before .large-buffer3 .ensures in
+    (taken .ensures .0 .0, omega (arith, taken .ensures .0 .1, taken .kept), omega (arith, taken .kept, second), omega (arith, taken .kept, third))
 
 goes-on-requires-2 : tie.Need-goes-on-requires-2
 goes-on-requires-2 c κs = search needs

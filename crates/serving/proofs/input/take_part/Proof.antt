@@ -17,13 +17,20 @@ drain-requires : tie.Need-drain-requires
 drain-requires c κs = search needs
 
 move-down-requires : tie.Need-move-down-requires
-move-down-requires c κs = (omega (arith, simp length-take at (c .before .before .before .before .before .before .before .before .before .before .drain .ensures .0 .1)), c .before .before .before .before .before .before .before .before .before .before .before .before .before .before .before .before .before .before .before .before .before .pre .1)
+move-down-requires c κs =
+    let drained = c .before .before .before .before .before .before .before .before .before .before in
+    let start = drained .before .before .before .before .before .before .before .before .before .before .before in
+    (omega (arith, simp length-take at (drained .drain .ensures .0 .1)), start .pre .1)
 
 behind-part-requires : tie.Need-behind-part-requires
 behind-part-requires c κs = search needs
 
 staying-requires : tie.Need-staying-requires
-staying-requires c κs = omega (arith, c .before .before .before .move-down .kept, c .before .before .before .before .before .before .before .before .before .before .before .before .before .before .before .before .before .before .before .before .before .before .before .before .before .pre .2)
+staying-requires c κs =
+    let moved = c .before .before .before in
+    let drained = moved .before .before .before .before .before .before .before .before .before .before .before in
+    let start = drained .before .before .before .before .before .before .before .before .before .before .before in
+    omega (arith, moved .move-down .kept, start .pre .2)
 
 same-length : tie.Need-same-length
 same-length c = search needs
@@ -41,7 +48,14 @@ same-length-5 : tie.Need-same-length-5
 same-length-5 c = search needs
 
 returns : tie.Need-returns
-returns c = ((c .before .before .before .before .before .before .before .before .before .before .before .before .before .before .before .drain .ensures .0 .0, omega (arith, c .staying .ensures .0, c .before .before .before .before .move-down .kept)), part-taken _ _ _ _ _ _ _ _ _ _ _ _ (c .before .before .before .before .before .before .before .before .before .before .before .before .before .before .before .before .before .before .before .before .before .before .before .before .before .before .pre .1) (c .before .before .before .before .before .before .before .before .before .before .before .before .before .before .before .drain .ensures .1 .0) (c .before .before .before .before .move-down .ensures) (c .before .behind-part .ensures) (omega (arith, c .before .before .before .before .move-down .kept)) (c .staying .ensures .1))
+returns c =
+    let moved = c .before .before .before .before in
+    let drained = moved .before .before .before .before .before .before .before .before .before .before .before in
+    let start = drained .before .before .before .before .before .before .before .before .before .before .before in (
+      (drained .drain .ensures .0 .0, omega (arith, c .staying .ensures .0, moved .move-down .kept)),
+      part-taken _ _ _ _ _ _ _ _ _ _ _ _ (start .pre .1) (drained .drain .ensures .1 .0) (moved .move-down .ensures) (c .before .behind-part .ensures)
+          (omega (arith, moved .move-down .kept)) (c .staying .ensures .1),
+    )
 
 pub take-part-spec : {M : Type 1} → statement M
 take-part-spec =

@@ -94,16 +94,18 @@ take-part-requires c κs = search needs
 
 loop-less : tie.Need-loop-less Inv-loop μ-loop
 loop-less c =
-    let test = c .before .before .before .before .before .before .before .before .before .before .before .before .before .before .before .before .before .before .before .before .before .before .before .before .before in
+    let part = c .before .before .before .before .before .before .before .before .before .before in
+    let test = part .before .before .before .before .before .before .before .before .before .before .before .before .before .before .before in
     omega (arith, test .loop-test, test .before .loop .inv)
 
 loop-again : tie.Need-loop-again Inv-loop μ-loop
 loop-again c =
-    let taken = c .before .before .before .before .before .before .before .before .before .before .take-part in
-    let got = c .before .before .before .before .before .before .before .before .before .before .before .before .before .before .before .before .before .before .before .before .before .before .read-more in
-    let test = c .before .before .before .before .before .before .before .before .before .before .before .before .before .before .before .before .before .before .before .before .before .before .before .before .before in
-    let on = c .before .before .before .before .before .before .before .before .before .before .before .before .before .before .before .before .before .before .before .before .before .before .before .before .goes-on in
-    let more = c .before .before .before .before .before .before .before .before .before .before .before .before .before .before .before .before .before .before .before in
+    let part = c .before .before .before .before .before .before .before .before .before .before in
+    let more = part .before .before .before .before .before .before .before .before .before in
+    let taken = part .take-part in
+    let got = more .before .before .before .read-more in
+    let on = more .before .before .before .before .before .goes-on in
+    let test = more .before .before .before .before .before .before in
     let inv = test .before .loop .inv in (
       omega (arith, test .loop-test),
       omega (arith, taken .ensures .0 .1, taken .kept),

@@ -42,9 +42,9 @@ take-some-requires c κs = search needs
 
 same-length : tie.Need-same-length Inv-loop μ-loop
 same-length c =
-    let left = c .before .before .before .before .before .before .before .before .before .before .before .take-some .ensures .0 .0 in
-    let start = c .before .before .before .before .before .before .before .before .before .before .before .before .before .before .before .before .before .before .before .before .before .before .before .before .before in
-    left .long ∙ sym (start .pre .0 .long)
+    let taken = c .before .before .before .before .before .before .before .before .before .before .before in
+    let start = taken .before .before .before .before .before .before .before .before .before .before .before .before .before .before in
+    taken .take-some .ensures .0 .0 .long ∙ sym (start .pre .0 .long)
 
 same-length-2 : tie.Need-same-length-2 Inv-loop μ-loop
 same-length-2 c = search needs
@@ -57,8 +57,9 @@ same-length-4 c = search needs
 
 returns : tie.Need-returns Inv-loop μ-loop
 returns c =
-    let inv = c .before .before .before .before .before .before .before .before .before .before .before .before .before .before .before .before .before .loop .inv in
-    let some = c .before .before .before .before .before .before .before .before .before .before .before .take-some .ensures in (
+    let taken = c .before .before .before .before .before .before .before .before .before .before .before in
+    let some = taken .take-some .ensures in
+    let inv = taken .before .before .before .before .before .before .loop .inv in (
       (some .0 .0, inv .4 .within),
       (
         drained _ _ _ _ _ _ _ _ _ _ (inv .4) (some .1 .0) (inv .0) (c .if1 .taken),
@@ -68,19 +69,23 @@ returns c =
 
 add-start : tie.Need-add-start Inv-loop μ-loop
 add-start c =
-    let d = c .before .before .before .before .before .before .before .before .before .before .before .before .before .before .before .before .before .loop .inv .4 in
-    let within = within-input _ _ _ _ _ _ _ _ _ d (c .before .before .before .before .before .before .before .before .before .before .before .take-some .ensures .1 .0) in
-    let start = c .before .before .before .before .before .before .before .before .before .before .before .before .before .before .before .before .before .before .before .before .before .before .before .before .before in
+    let taken = c .before .before .before .before .before .before .before .before .before .before .before in
+    let turn = taken .before .before .before .before .before .before in
+    let start = turn .before .before .before .before .before .before .before .before in
+    let within = within-input _ _ _ _ _ _ _ _ _ (turn .loop .inv .4) (taken .take-some .ensures .1 .0) in
     omega (arith, within, start .good)
 
 loop-less : tie.Need-loop-less Inv-loop μ-loop
 loop-less c =
-    fewer-left _ _ _ _ _ _ _ _ _ _ (c .before .before .before .before .before .before .before .before .before .before .before .before .before .before .before .before .before .loop .inv .4) (c .before .before .before .before .before .before .before .before .before .before .before .take-some .ensures .1 .0) (c .if1 .left)
+    let taken = c .before .before .before .before .before .before .before .before .before .before .before in
+    let inv = taken .before .before .before .before .before .before .loop .inv in
+    fewer-left _ _ _ _ _ _ _ _ _ _ (inv .4) (taken .take-some .ensures .1 .0) (c .if1 .left)
 
 loop-again : tie.Need-loop-again Inv-loop μ-loop
 loop-again c =
-    let inv = c .before .before .before .before .before .before .before .before .before .before .before .before .before .before .before .before .before .loop .inv in
-    let some = c .before .before .before .before .before .before .before .before .before .before .before .take-some .ensures in (
+    let taken = c .before .before .before .before .before .before .before .before .before .before .before in
+    let some = taken .take-some .ensures in
+    let inv = taken .before .before .before .before .before .before .loop .inv in (
       search needs,
       search needs,
       search needs,

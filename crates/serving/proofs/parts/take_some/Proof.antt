@@ -40,8 +40,9 @@ same-length-4 c = search needs
 
 returns : tie.Need-returns
 returns c =
-    let given = c .before .before .before .before .before .before .before .before .before .before .before .answer-lines .ensures in
-    let start = c .before .before .before .before .before .before .before .before .before .before .before .before .before .before .before .before .before .before .before .before .before in (
+    let answered = c .before .before .before .before .before .before .before .before .before .before .before in
+    let given = answered .answer-lines .ensures in
+    let start = answered .before .before .before .before .before .before .before .before .before .before in (
       search needs,
       (
         stepped _ _ _ _ _ _ _ _ _ _ (given .1) (omega (arith, given .0 .4, start .pre .1)) (omega (arith, given .0 .5, start .pre .2)),

@@ -43,7 +43,9 @@ array-share-prefix-buffer : tie.Need-array-share-prefix-buffer
 array-share-prefix-buffer c = search needs
 
 slice-aggregate-is-passed : tie.Need-slice-aggregate-is-passed
-slice-aggregate-is-passed c = simp length-take (omega (arith, c .before .before .before .before .before .before .before .before .before .before .before .take-parts .ensures .0 .1, c .before .before .before .before .before .before .before .before .before .before .before .take-parts .kept))
+slice-aggregate-is-passed c =
+    let taken = c .before .before .before .before .before .before .before .before .before .before .before .take-parts in
+    simp length-take (omega (arith, taken .ensures .0 .1, taken .kept))
 
 is-passed-requires : tie.Need-is-passed-requires
 is-passed-requires c κs = search needs

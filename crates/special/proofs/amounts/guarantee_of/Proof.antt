@@ -1,7 +1,7 @@
 -- `special::amounts::guarantee_of` meets its contract: the means and the sums are within the bounds that `amount_of` asks.
 -- Assumes nothing.
 use mathlib.Core.Path.{_∙_}
-use Rattle.special.proofs.Read.{read-of}
+use Rattle.laws.specs.Read.{read-of}
 use Rattle.special.proofs.Bounds.{bounded-same, bounded, amount-same}
 use borrow.Author.Needs.{needs}
 use Rattle.special.proofs.amounts.guarantee_of.Statement.{statement}
@@ -39,7 +39,8 @@ amount-of-requires c κs =
 returns : tie.Need-returns
 returns c =
     c .amount-of .ensures
-    ∙ amount-same (read-of _ _ (c .before .before .before .before .before .before .mean .ok) (c .before .before .before .before .before .before .mean .ensures))
+    ∙ amount-same
+    (read-of _ _ (c .before .before .before .before .before .before .mean .ok) (c .before .before .before .before .before .before .mean .ensures))
     (read-of _ _ (c .before .before .before .before .before .sum .ok) (c .before .before .before .before .before .sum .ensures))
     (read-of _ _ (c .before .before .before .before .mean2 .ok) (c .before .before .before .before .mean2 .ensures))
     (read-of _ _ (c .before .before .before .sum2 .ok) (c .before .before .before .sum2 .ensures))

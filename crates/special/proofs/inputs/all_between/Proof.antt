@@ -9,7 +9,8 @@ use mir.Facts.{toZ-ofZ}
 use mir.Syntax.{w64}
 use mir.Val.{toZ}
 use Rattle.special.specs.Ranges.{every, between}
-use Rattle.special.proofs.Walks.{passed, failed, every-ended}
+use Rattle.laws.specs.Every.{every-ended}
+use Rattle.special.proofs.Walks.{passed, failed}
 use Rattle.special.proofs.inputs.all_between.Statement.{statement}
 use Rattle.special.proofs.inputs.all_between.Tie as tie
 

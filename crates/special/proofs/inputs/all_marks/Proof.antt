@@ -7,7 +7,7 @@ use borrow.Author.Tests.{le-leb, lt-leb}
 use lib.Dec.{leb}
 use lib.ListN.{length, drop}
 use Rattle.special.specs.Ranges.{every}
-use Rattle.special.proofs.Walks.{every-passed, every-failed, every-ended}
+use Rattle.laws.specs.Every.{every-passed, every-failed, every-ended}
 use Rattle.special.proofs.inputs.all_marks.Statement.{statement}
 use Rattle.special.proofs.inputs.all_marks.Tie as tie
 

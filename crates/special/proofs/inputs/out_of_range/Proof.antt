@@ -2,7 +2,7 @@
 -- Assumes nothing.
 use mathlib.Core.Path.{_≡_}
 use mathlib.Core.Bool.{Bool, not, _&&_}
-use Rattle.special.specs.Causes.{outOfRange}
+use Rattle.special.specs.Causes.{outsideRanges}
 use borrow.Author.Needs.{needs}
 use Rattle.special.proofs.inputs.out_of_range.Statement.{statement}
 use Rattle.special.proofs.inputs.out_of_range.Tie as tie
@@ -29,11 +29,12 @@ all-marks-requires : tie.Need-all-marks-requires
 all-marks-requires c κs = search needs
 
 -- equal answers, joined, are equal
-joined : {a b c d e f g a′ b′ c′ d′ e′ f′ g′ : Bool} → a ≡ a′ → b ≡ b′ → c ≡ c′ → d ≡ d′ → e ≡ e′ → f ≡ f′ → g ≡ g′ → not (a && b && c && (d && e) && (f && g)) ≡ not (a′ && b′ && c′ && (d′ && e′) && (f′ && g′))
+joined : {a b c d e f g a′ b′ c′ d′ e′ f′ g′ : Bool} → a ≡ a′ → b ≡ b′ → c ≡ c′ → d ≡ d′ → e ≡ e′ → f ≡ f′ → g ≡ g′
+    → not (a && b && c && (d && e) && (f && g)) ≡ not (a′ && b′ && c′ && (d′ && e′) && (f′ && g′))
 joined ea eb ec ed ee ef eg = rw (ea, eb, ec, ed, ee, ef, eg)
 
 returns : tie.Need-returns
-unfolding outOfRange
+unfolding outsideRanges
 returns c =
     joined (c .before .before .before .before .before .before .all-between .ensures)
     (c .before .before .before .before .before .all-between2 .ensures) (c .all-marks .ensures)

@@ -2,7 +2,8 @@
 -- which is not negative, is divided.
 -- Assumes nothing.
 use borrow.Author.Needs.{needs}
-use Rattle.special.proofs.Rounding.{fits-flipped, fits-quotient, fits-below, floor-below, fits-above, floor-above}
+use Rattle.laws.specs.Magnitudes.{fits-flipped}
+use Rattle.special.proofs.Rounding.{fits-quotient, fits-below, floor-below, fits-above, floor-above}
 use Rattle.special.proofs.quotients.floor_div.Statement.{statement}
 use Rattle.special.proofs.quotients.floor_div.Tie as tie
 

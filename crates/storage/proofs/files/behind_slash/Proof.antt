@@ -1,5 +1,5 @@
--- `storage::files::behind_slash` meets its contract: what is left of the name gives, with the place found, what the whole name gives. The measure is what
--- is left.
+-- `storage::files::behind_slash` meets its contract: what is left of the name gives, with the place found, what the whole name gives. The measure is
+-- what is left.
 -- Assumes nothing.
 use Prim.Native.Nat.{_-_, _≤_}
 use mathlib.Core.Path.{_≡_}

@@ -35,7 +35,9 @@ loop-less c = search needs
 
 loop-again : tie.Need-loop-again Inv-loop μ-loop
 loop-again c =
-    (search needs, padded-next _ _ _ _ _ _ (c .before .before .loop .inv .1) (omega (arith, c .before .loop-test, c .before .before .loop .inv)) (c .byte-in .ensures))
+    let test = c .before in
+    let inv = test .before .loop .inv in
+    (search needs, padded-next _ _ _ _ _ _ (inv .1) (omega (arith, test .loop-test, inv)) (c .byte-in .ensures))
 
 sum-within-requires : tie.Need-sum-within-requires Inv-loop μ-loop
 sum-within-requires c κs = search needs

@@ -34,7 +34,9 @@ loop-less c = search needs
 
 loop-again : tie.Need-loop-again Inv-loop μ-loop
 loop-again c =
-    (search needs, shown-next _ _ _ _ _ _ (c .before .before .loop .inv .1) (omega (arith, c .before .loop-test, c .before .before .loop .inv)) (c .shown-at .ensures))
+    let test = c .before in
+    let inv = test .before .loop .inv in
+    (search needs, shown-next _ _ _ _ _ _ (inv .1) (omega (arith, test .loop-test, inv)) (c .shown-at .ensures))
 
 smaller-requires : tie.Need-smaller-requires Inv-loop μ-loop
 smaller-requires c κs = search needs

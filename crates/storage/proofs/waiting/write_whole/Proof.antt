@@ -1,5 +1,5 @@
--- `storage::waiting::write_whole` meets its contract, which says nothing: what is written is within the bytes, and each turn writes some. The measure is
--- what is left.
+-- `storage::waiting::write_whole` meets its contract, which says nothing: what is written is within the bytes, and each turn writes some. The measure
+-- is what is left.
 -- Assumes nothing.
 use Prim.Native.Nat.{_-_, _≤_}
 use lib.ListN.{length}

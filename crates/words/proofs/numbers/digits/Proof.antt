@@ -11,7 +11,9 @@ use Rattle.words.proofs.numbers.digits.Statement.{statement}
 use Rattle.words.proofs.numbers.digits.Tie as tie
 
 abbrev Inv-loop : tie.InvT-loop
-Inv-loop w n₀ i₀ n i = (i ≤ length w) × (n ≤ 18446744073709551615) × (min (valueFrom n (drop i w)) 18446744073709551615 ≡ min (value w) 18446744073709551615)
+Inv-loop w n₀ i₀ n i =
+    (i ≤ length w) × (n ≤ 18446744073709551615)
+    × (min (valueFrom n (drop i w)) 18446744073709551615 ≡ min (value w) 18446744073709551615)
 
 abbrev μ-loop : tie.MeasureT-loop
 μ-loop w n₀ i₀ n i = length w - i

@@ -1,0 +1,18 @@
+-- The facts at the bounds, together.
+-- Assumes nothing.
+use Rattle.figures.specs.Boundaries.{Boundaries}
+use Rattle.figures.proofs.Dates.{dates}
+use Rattle.figures.proofs.Positions.{positions}
+use Rattle.figures.proofs.Settlements.{settlements}
+use Rattle.figures.proofs.Guarantees.{guarantees}
+use Rattle.figures.proofs.Decisions.{decisions}
+
+pub boundaries : Boundaries
+boundaries =
+    record {
+      dates = dates;
+      positions = positions;
+      settlements = settlements;
+      guarantees = guarantees;
+      decisions = decisions;
+    }
