@@ -13,7 +13,7 @@ use Rattle.file.specs.Release.{releaseAnswer, releasedFile}
 use Rattle.file.specs.Settle.{settleAnswer, settledFile, settlementCalls}
 use Rattle.file.specs.Annual.{annualAnswer, annualFile}
 use Rattle.file.specs.Opening.{openedFile}
-use Rattle.file.specs.Statement.{statementOf}
+use Rattle.file.specs.Statement.{fileStatement}
 use Rattle.layout.specs.Book.{Book}
 use Rattle.book.specs.Call.{Act, admit, lodge, release, settle, annualRun, Call, on, advance, statement, callsMade}
 
@@ -100,7 +100,7 @@ answer b (advance day budget) =
     (record { number = 17; holds = ltb 29219 day || ltb day (b .today .0) } ∷ [])
     (daysOpened (daysToOpen b day budget))
 answer b (statement p) =
-    ifNumbered p (ifAdmitted (fileAt b p) (statementSays (statementOf (fileAt b p) (b .today .0))))
+    ifNumbered p (ifAdmitted (fileAt b p) (statementSays (fileStatement (fileAt b p) (b .today .0))))
 answer b callsMade = counted (b .made)
 
 -- The book that an accepted call leaves.

@@ -114,9 +114,9 @@ pub record Life (s : ℕ) (calls : List Call) : Type 0 where
   pub today : run s calls .today .0 ≡ todayOf s (eventsOf s calls)
 
 -- The book after a list of calls, the first of them first.
-unfoldable pub after : Book → List Call → Book
-after b [] = b
-after b (c ∷ calls) = after (step b c) calls
+unfoldable pub afterCalls : Book → List Call → Book
+afterCalls b [] = b
+afterCalls b (c ∷ calls) = afterCalls (step b c) calls
 
 -- A list of advances only.
 abbrev pub Advances : List Call → Type 0
@@ -128,4 +128,4 @@ Advances (callsMade ∷ calls) = ⊥
 
 -- An advance equals any advances that open the same days: from one book, two lists of advances that come to the same day leave one book.
 pub record SameDays (b : Book) (one other : List Call) : Type 0 where
-  pub same : after b one .today .0 ≡ after b other .today .0 → after b one ≡ after b other
+  pub same : afterCalls b one .today .0 ≡ afterCalls b other .today .0 → afterCalls b one ≡ afterCalls b other

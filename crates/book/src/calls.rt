@@ -19,7 +19,7 @@ ghost use mathlib.Core.Bool.{cond};
 ghost use Prim.Native.Nat.{_+_, _*_, _%_, _≤_};
 ghost use lib.ListN.{length, getD};
 ghost use Rattle.file.specs.Totals.{noTotal};
-ghost use Rattle.layout.specs.Words.{fileIn, todayIn};
+ghost use Rattle.layout.specs.Words.{fileInWords, todayIn};
 ghost use Rattle.layout.specs.Parts.{totalWords, TotalBack, written};
 ghost use Rattle.file.specs.Answer.{accepted, outcomeSays, settledSays, annualSays};
 ghost use Rattle.file.specs.Sound.{Sound};
@@ -125,8 +125,9 @@ pub fn admit(words: &mut [u64], participant: u64, role: u64) -> Outcome
 fn settle_outcome(words: &[u64], participant: u64, month: Month, figures: &[i64]) -> FileSettled
     requires { ⌜ WellFormed (now words) × (participant ≤ 63) ⌝ }
     ensures { λ r. ⌜ (settledSays (r .answer)
-        ≡ fileAnswer (fileIn (now (words .entry)) participant) (todayIn (now (words .entry))) (settle (month .0) (now (figures .entry))))
-        × (r .file ≡ fileLeft (fileIn (now (words .entry)) participant) (todayIn (now (words .entry))) (settle (month .0) (now (figures .entry)))) ⌝ }
+        ≡ fileAnswer (fileInWords (now (words .entry)) participant) (todayIn (now (words .entry))) (settle (month .0) (now (figures .entry))))
+        × (r .file
+        ≡ fileLeft (fileInWords (now (words .entry)) participant) (todayIn (now (words .entry))) (settle (month .0) (now (figures .entry)))) ⌝ }
 {
     let today = Day(number(words[1]));
     let file = file_at(words, 2 + 96 * participant as usize);
@@ -163,7 +164,7 @@ pub fn settle(words: &mut [u64], participant: u64, month: Month, figures: &[i64]
 // What an annual run on a participant's file answers.
 fn run_answer(words: &[u64], participant: u64) -> AnnualRun
     requires { ⌜ WellFormed (now words) × (participant ≤ 63) ⌝ }
-    ensures { λ r. ⌜ annualSays r ≡ fileAnswer (fileIn (now (words .entry)) participant) (todayIn (now (words .entry))) annualRun ⌝ }
+    ensures { λ r. ⌜ annualSays r ≡ fileAnswer (fileInWords (now (words .entry)) participant) (todayIn (now (words .entry))) annualRun ⌝ }
 {
     let today = Day(number(words[1]));
     let file = file_at(words, 2 + 96 * participant as usize);

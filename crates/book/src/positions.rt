@@ -26,7 +26,7 @@ ghost use Rattle.file.specs.Answer.{accepted, outcomeSays};
 ghost use Rattle.file.specs.Position.{slotOf, positionAt, notReleasable, coverOn};
 ghost use Rattle.file.specs.Sound.{SoundPosition};
 ghost use Rattle.file.specs.Release.{releaseFloor, slotsLeft};
-ghost use Rattle.layout.specs.Words.{fileIn, todayIn};
+ghost use Rattle.layout.specs.Words.{fileInWords, todayIn};
 ghost use Rattle.layout.specs.WellFormed.{WellFormed};
 ghost use Rattle.book.specs.Call.{lodge, release, on};
 ghost use Rattle.book.specs.Account.{fileAnswer};
@@ -46,7 +46,8 @@ fn is_done(answer: Outcome) -> bool
 // What a lodging answers: done, or the first of the causes 2, 5, 6, 8 and 9 that holds.
 fn lodge_answer(words: &[u64], participant: u64, position: u64, holding: Position) -> Outcome
     requires { ⌜ WellFormed (now words) × (participant ≤ 63) ⌝ }
-    ensures { λ r. ⌜ outcomeSays r ≡ fileAnswer (fileIn (now (words .entry)) participant) (todayIn (now (words .entry))) (lodge position holding) ⌝ }
+    ensures { λ r. ⌜ outcomeSays r
+        ≡ fileAnswer (fileInWords (now (words .entry)) participant) (todayIn (now (words .entry))) (lodge position holding) ⌝ }
 {
     let at = 2 + 96 * participant as usize;
     let admitted = flag(words[at + 1]);
@@ -91,7 +92,7 @@ pub fn lodge(words: &mut [u64], participant: u64, position: u64, holding: Positi
 // The cover today that would be left with another holding at a position.
 fn cover_with(words: &[u64], participant: u64, position: u64, left: Position) -> u64
     requires { ⌜ WellFormed (now words) × (participant ≤ 63) × (position ≤ 7) × SoundPosition left ⌝ }
-    ensures { λ r. ⌜ r ≡ coverOn (todayIn (now (words .entry))) (set (fileIn (now (words .entry)) participant .slots) position (slotOf left)) ⌝ }
+    ensures { λ r. ⌜ r ≡ coverOn (todayIn (now (words .entry))) (set (fileInWords (now (words .entry)) participant .slots) position (slotOf left)) ⌝ }
 {
     let mut slots = slots(words, 2 + 96 * participant as usize);
     slots[position as usize] = Slot { position: left };
@@ -101,7 +102,7 @@ fn cover_with(words: &[u64], participant: u64, position: u64, left: Position) ->
 // The cover that a release must leave.
 fn floor_of(words: &[u64], participant: u64) -> u64
     requires { ⌜ WellFormed (now words) × (participant ≤ 63) ⌝ }
-    ensures { λ r. ⌜ r ≡ releaseFloor (fileIn (now (words .entry)) participant) ⌝ }
+    ensures { λ r. ⌜ r ≡ releaseFloor (fileInWords (now (words .entry)) participant) ⌝ }
 {
     let at = 2 + 96 * participant as usize;
     let open = calls(words, at);
@@ -111,9 +112,9 @@ fn floor_of(words: &[u64], participant: u64) -> u64
 // Whether a release that has no other cause would leave too little cover.
 fn is_uncovered(words: &[u64], participant: u64, position: u64, amount: u64) -> bool
     requires { ⌜ WellFormed (now words) × (participant ≤ 63) × (position ≤ 7)
-        × (notReleasable amount (positionAt (fileIn (now words) participant .slots) position) ≡ false) ⌝ }
-    ensures { λ r. ⌜ r ≡ ltb (coverOn (todayIn (now (words .entry))) (slotsLeft (fileIn (now (words .entry)) participant) position amount))
-        (releaseFloor (fileIn (now (words .entry)) participant)) ⌝ }
+        × (notReleasable amount (positionAt (fileInWords (now words) participant .slots) position) ≡ false) ⌝ }
+    ensures { λ r. ⌜ r ≡ ltb (coverOn (todayIn (now (words .entry))) (slotsLeft (fileInWords (now (words .entry)) participant) position amount))
+        (releaseFloor (fileInWords (now (words .entry)) participant)) ⌝ }
 {
     let at = 2 + 96 * participant as usize;
     let slot = slot_at(words, at + (9 + 4 * position as usize));
@@ -125,7 +126,8 @@ fn is_uncovered(words: &[u64], participant: u64, position: u64, amount: u64) -> 
 // What a release answers: done, or the first of the causes 2, 5, 7, 8, 15 and 16 that holds.
 fn release_answer(words: &[u64], participant: u64, position: u64, amount: u64) -> Outcome
     requires { ⌜ WellFormed (now words) × (participant ≤ 63) ⌝ }
-    ensures { λ r. ⌜ outcomeSays r ≡ fileAnswer (fileIn (now (words .entry)) participant) (todayIn (now (words .entry))) (release position amount) ⌝ }
+    ensures { λ r. ⌜ outcomeSays r
+        ≡ fileAnswer (fileInWords (now (words .entry)) participant) (todayIn (now (words .entry))) (release position amount) ⌝ }
 {
     let at = 2 + 96 * participant as usize;
     let admitted = flag(words[at + 1]);
@@ -155,7 +157,7 @@ fn release_answer(words: &[u64], participant: u64, position: u64, amount: u64) -
 // Writes what a release of an amount leaves at a position, of which as much is held.
 fn put_left(words: &mut [u64], participant: u64, position: u64, amount: u64)
     requires { ⌜ WellFormed (now words) × (participant ≤ 63)
-        × (position ≤ 7) × (notReleasable amount (positionAt (fileIn (now words) participant .slots) position) ≡ false) ⌝ }
+        × (position ≤ 7) × (notReleasable amount (positionAt (fileInWords (now words) participant .slots) position) ≡ false) ⌝ }
     ensures { λ r. ⌜ SlotLeft (now (words .entry)) participant position amount (now (words .exit)) ⌝ }
 {
     let at = 2 + 96 * participant as usize;

@@ -1,8 +1,8 @@
 -- Leap years, the lengths of months and their first days, by the tests and sums of the code.
 -- Assumes nothing.
 use Prim.Native.Nat.{ℕ, suc, _+_, _*_, _/_, _%_, _≤_, _<_}
-use mathlib.Core.Path.{_≡_, refl, sym, ap, _∙_}
-use mathlib.Core.Bool.{Bool, true, false, _&&_, _||_}
+use mathlib.Core.Path.{_≡_, sym, ap, _∙_}
+use mathlib.Core.Bool.{Bool, true, false, and-true, and-false, or-false}
 use native.Mathlib.Nat.{min-eq-left, min-eq-right}
 use native.Mathlib.Omega.{arith}
 use borrow.Author.Tests.{eq-eqb, ne-eqb}
@@ -26,19 +26,11 @@ leap-hundredth y n h =
     let e : y % 4 ≡ 0 = omega arith in
     simp (eq-eqb (y % 4) 0 e, eq-eqb (y % 100) 0 h, ne-eqb (y % 400) 0 n)
 
-and-or : (a : Bool) → a ≡ (a && true || false)
-and-or true = refl
-and-or false = refl
-
 pub leap-otherwise : (y : ℕ) → (y % 400 ≡ 0 → ⊥) → (y % 100 ≡ 0 → ⊥) → eqb (y % 4) 0 ≡ leap y
 unfolding leap
-leap-otherwise y n h = simp (ne-eqb (y % 100) 0 h, ne-eqb (y % 400) 0 n) (and-or (eqb (y % 4) 0))
+leap-otherwise y n h = simp (ne-eqb (y % 100) 0 h, ne-eqb (y % 400) 0 n, or-false, and-true)
 
 -- the length of a month by its place: none past December, one day more in a leap year's February, else the table's
-and-false : (a : Bool) → (a && false) ≡ false
-and-false true = refl
-and-false false = refl
-
 other-month : (y p : ℕ) → (p ≡ 1 → ⊥) → lengthIn y p ≡ getD commonLengths p 0
 unfolding lengthIn
 other-month y p h = rw (ne-eqb p 1 h, and-false (leap y)) (omega arith)

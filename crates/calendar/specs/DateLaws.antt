@@ -2,7 +2,7 @@
 -- Assumes nothing.
 use Prim.Native.Nat.{ℕ, suc, _+_, _-_, _*_, _%_, _≤_, _<_}
 use mathlib.Core.Path.{_≡_, refl, sym, ap, _∙_}
-use mathlib.Core.Bool.{Bool, true, false, _&&_, false≢true}
+use mathlib.Core.Bool.{true, _&&_, and-eq-true-iff}
 use native.Mathlib.Omega.{arith}
 use borrow.Author.Tests.{leb-true, le-leb}
 use lib.Dec.{leb, lit≤, lit<}
@@ -26,10 +26,6 @@ pub record Exists (y m d : ℕ) : Type 0 where
   pub first : 1 ≤ d
   pub last : d ≤ lengthIn y (m - 1)
 
-and-true : (a b : Bool) → (a && b) ≡ true → (a ≡ true) × (b ≡ true)
-and-true true b e = (refl, e)
-and-true false b e = absurd (false≢true e)
-
 -- a date exists where the test of the definition passes, and the other way round
 pub exists-is : (y m d : ℕ) → Exists y m d → isDate y m d ≡ true
 unfolding isDate
@@ -46,11 +42,11 @@ exists-is y m d h =
 pub is-exists : (y m d : ℕ) → isDate y m d ≡ true → Exists y m d
 unfolding isDate
 is-exists y m d e =
-    let a = and-true (leb 2020 y && leb y 2099 && (leb 1 m && leb m 12)) (leb 1 d && leb d (lengthIn y (m - 1))) e in
-    let b = and-true (leb 2020 y && leb y 2099) (leb 1 m && leb m 12) (a .0) in
-    let f = and-true (leb 2020 y) (leb y 2099) (b .0) in
-    let g = and-true (leb 1 m) (leb m 12) (b .1) in
-    let h = and-true (leb 1 d) (leb d (lengthIn y (m - 1))) (a .1) in
+    let a = and-eq-true-iff (leb 2020 y && leb y 2099 && (leb 1 m && leb m 12)) (leb 1 d && leb d (lengthIn y (m - 1))) .0 e in
+    let b = and-eq-true-iff (leb 2020 y && leb y 2099) (leb 1 m && leb m 12) .0 (a .0) in
+    let f = and-eq-true-iff (leb 2020 y) (leb y 2099) .0 (b .0) in
+    let g = and-eq-true-iff (leb 1 m) (leb m 12) .0 (b .1) in
+    let h = and-eq-true-iff (leb 1 d) (leb d (lengthIn y (m - 1))) .0 (a .1) in
     record {
       from = leb-true 2020 y (f .0);
       to = leb-true y 2099 (f .1);

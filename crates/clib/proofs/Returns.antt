@@ -10,9 +10,10 @@ use Rattle.file.specs.Answer.{Answer, refused, counted}
 use Rattle.layout.specs.Words.{bookOfWords}
 use Rattle.layout.specs.WellFormed.{WellFormed}
 use Rattle.formed.specs.Decides.{Decides}
-use Rattle.book.specs.Call.{Call, statement, callsMade}
+use Rattle.book.specs.Call.{statement, callsMade}
 use Rattle.book.specs.InWords.{GivenWords}
 use Rattle.book.specs.Reached.{Given}
+use Rattle.book.proofs.Functions.OnWords.{nothing-written}
 use Rattle.clib.specs.declared.GuaranteeStatement.{GuaranteeStatement}
 use Rattle.clib.specs.Numbers.{statementNumbers, countNumbers, dayNumbers}
 use Rattle.clib.specs.Returned.{FormedIfBook, Returned, TodayOf, Checked}
@@ -32,15 +33,11 @@ pub book-length : {A : Type 0} (numbers : Answer → A) (l : List ℕ) (holds : 
     → length l ≡ 6147 → r ≡ numbers x → holds x m → Returned numbers l holds r m
 book-length numbers l holds r x m n e h = record { answer = x; shown = e; other = λ o. absurd (o n); given = λ k. h }
 
--- A question gives what a call gives that leaves every word.
-pub asked : (l : List ℕ) (c : Call) (x : Answer) → WellFormed l → Given (bookOfWords l) c x (bookOfWords l) → GivenWords l c x l
-asked l c x w g = record { given = g; formed = w; unchanged = λ e. refl }
-
 -- The statement.
 pub returned-statement : (l : List ℕ) (p : ℕ) (x : Answer) (r : GuaranteeStatement) → FormedIfBook l → length l ≡ 6147
     → Given (bookOfWords l) (statement p) x (bookOfWords l) → r ≡ statementNumbers x → Returned statementNumbers l (GivenWords l (statement p)) r l
 returned-statement l p x r f n g e =
-    book-length statementNumbers l (GivenWords l (statement p)) r x l n e (asked l (statement p) x (formed l f n) g)
+    book-length statementNumbers l (GivenWords l (statement p)) r x l n e (nothing-written l (statement p) x (formed l f n) g)
 
 -- The count of calls made.
 pub returned-count : (l : List ℕ) (n : ℕ) → FormedIfBook l → length l ≡ 6147
@@ -48,7 +45,7 @@ pub returned-count : (l : List ℕ) (n : ℕ) → FormedIfBook l → length l �
     → Returned countNumbers l (GivenWords l callsMade) (record { refusal = 0; count = n }) l
 returned-count l n f long g =
     book-length countNumbers l (GivenWords l callsMade) (record { refusal = 0; count = n }) (counted n) l long refl
-    (asked l callsMade (counted n) (formed l f long) g)
+    (nothing-written l callsMade (counted n) (formed l f long) g)
 
 -- Today.
 pub returned-today : (l : List ℕ) (d : Day) → length l ≡ 6147 → d ≡ bookOfWords l .today

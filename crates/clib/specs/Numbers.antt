@@ -33,38 +33,38 @@ abbrev pub settlement : ℕ → ℤ → ℕ → ℕ → Numbers
 settlement k e asked last = record { refusal = 0; kind = k; total = e; first = asked; second = last; third = 0; fourth = 0; fifth = 0 }
 
 -- The numbers of each answer. A settlement's kind is 1 called, 2 covered, 3 recorded; a value that an answer doesn't have is 0.
-abbrev pub numbersOf : Answer → Numbers
-numbersOf (refused n) = record { refusal = n; kind = 0; total = pos 0; first = 0; second = 0; third = 0; fourth = 0; fifth = 0 }
-numbersOf done = values 0 0 0 0 0
-numbersOf (called e asked last) = settlement 1 (pos e) asked last
-numbersOf (covered e) = settlement 2 e 0 0
-numbersOf (recorded e) = settlement 3 e 0 0
-numbersOf (annual a n) = values a n 0 0 0
-numbersOf (daysOpened n) = values n 0 0 0 0
-numbersOf (stated f c s d a) = values f c s d a
-numbersOf (counted n) = values n 0 0 0 0
+abbrev pub answerNumbers : Answer → Numbers
+answerNumbers (refused n) = record { refusal = n; kind = 0; total = pos 0; first = 0; second = 0; third = 0; fourth = 0; fifth = 0 }
+answerNumbers done = values 0 0 0 0 0
+answerNumbers (called e asked last) = settlement 1 (pos e) asked last
+answerNumbers (covered e) = settlement 2 e 0 0
+answerNumbers (recorded e) = settlement 3 e 0 0
+answerNumbers (annual a n) = values a n 0 0 0
+answerNumbers (daysOpened n) = values n 0 0 0 0
+answerNumbers (stated f c s d a) = values f c s d a
+answerNumbers (counted n) = values n 0 0 0 0
 
 -- What is returned for an answer that has no values.
 abbrev pub refusalOf : Answer → ℕ
-refusalOf x = numbersOf x .refusal
+refusalOf x = answerNumbers x .refusal
 
 -- For a settlement's.
 abbrev pub settledNumbers : Answer → GuaranteeSettled
 settledNumbers x =
-    let n = numbersOf x in record { refusal = n .refusal; kind = n .kind; total = n .total; asked = n .first; «last_free_day» = n .second }
+    let n = answerNumbers x in record { refusal = n .refusal; kind = n .kind; total = n .total; asked = n .first; «last_free_day» = n .second }
 
 -- For an annual run's.
 abbrev pub annualNumbers : Answer → GuaranteeAnnual
-annualNumbers x = let n = numbersOf x in record { refusal = n .refusal; amount = n .first; months = n .second }
+annualNumbers x = let n = answerNumbers x in record { refusal = n .refusal; amount = n .first; months = n .second }
 
 -- For an advance's.
 abbrev pub advancedNumbers : Answer → GuaranteeAdvanced
-advancedNumbers x = let n = numbersOf x in record { refusal = n .refusal; opened = n .first }
+advancedNumbers x = let n = answerNumbers x in record { refusal = n .refusal; opened = n .first }
 
 -- For a statement's.
 abbrev pub statementNumbers : Answer → GuaranteeStatement
 statementNumbers x =
-    let n = numbersOf x in
+    let n = answerNumbers x in
     record {
       refusal = n .refusal;
       firm = n .first;
@@ -76,15 +76,15 @@ statementNumbers x =
 
 -- For the count of calls made.
 abbrev pub countNumbers : Answer → GuaranteeCount
-countNumbers x = let n = numbersOf x in record { refusal = n .refusal; count = n .first }
+countNumbers x = let n = answerNumbers x in record { refusal = n .refusal; count = n .first }
 
 -- For today, which is the count of days since 1 January 2020.
 abbrev pub dayNumbers : Answer → GuaranteeDay
-dayNumbers x = let n = numbersOf x in record { refusal = n .refusal; day = n .first }
+dayNumbers x = let n = answerNumbers x in record { refusal = n .refusal; day = n .first }
 
 -- What a settlement's answer is within: a total is the sum of at most 16 figures within plus or minus 10^12.
 unfoldable pub SmallTotal : Answer → Type 0
-SmallTotal x = natAbs (numbersOf x .total) ≤ 16000000000000
+SmallTotal x = natAbs (answerNumbers x .total) ≤ 16000000000000
 
 -- For a special guarantee's.
 abbrev pub specialNumbers : Special → GuaranteeSpecial

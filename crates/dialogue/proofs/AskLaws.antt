@@ -2,7 +2,7 @@
 -- Assumes nothing.
 use Prim.Native.Nat.{ℕ, _-_, _≤_, _<_}
 use mathlib.Core.Path.{_≡_, refl, sym, ap, subst, _∙_}
-use mathlib.Core.Bool.{Bool, true, false, cond, _&&_}
+use mathlib.Core.Bool.{Bool, true, false, cond, _&&_, and-false, and-assoc}
 use mathlib.Core.List.{List}
 use native.Mathlib.Omega.{arith}
 use borrow.Author.Tests.{ne-eqb}
@@ -46,14 +46,14 @@ held-asks way r zs ys e =
 -- ---- the line
 
 -- What stands behind a place is all that is left.
-rest-all : (start : ℕ) (l : List ℕ) → take (length l - start) (drop start l) ≡ drop start l
-rest-all start l = take-all (length l - start) (drop start l) (omega (arith, length-drop start l))
+pub rest-all : (l : List ℕ) (start : ℕ) → take (length l - start) (drop start l) ≡ drop start l
+rest-all l start = take-all (length l - start) (drop start l) (omega (arith, length-drop start l))
 
 pub line-asked : (way : Way) (p : Place) (l : List ℕ) (e f : List ℤ) (start : ℕ) (q r : Request) → Mark (p .line) l start
     → LineIs (p .long) (p .kept) (take (length l - start) (drop start l)) e q f → r ≡ heldBack way q → LineAsked way p l e r f
 unfolding requestOf asks lineAsks textOf
 line-asked way p l e f start q r m x h =
-    let text : take (length l - start) (drop start l) ≡ drop (markLength (p .line) l) l = rest-all start l ∙ ap (λ (k : ℕ). drop k l) (m .start) in
+    let text : take (length l - start) (drop start l) ≡ drop (markLength (p .line) l) l = rest-all l start ∙ ap (λ (k : ℕ). drop k l) (m .start) in
     let y : LineIs (p .long) (p .kept) (drop (markLength (p .line) l) l) e q f = subst (λ (z : List ℕ). LineIs (p .long) (p .kept) z e q f) text x in
     let u = drop (markLength (p .line) l) l in
     let g : r ≡ heldBack way (lineRequest (p .long) (p .kept) (length e) u) = h ∙ ap (heldBack way) (y .request) in
@@ -88,16 +88,8 @@ unfolding markLength
 mark-short before l h =
     let z : getD l 2 0 ≡ 0 = List·getD-eq-default l 0 (omega arith) in
     let g : (eqb before 0 && (eqb (getD l 0 0) 239 && (eqb (getD l 1 0) 187 && eqb (getD l 2 0) 191))) ≡ false =
-    rw z (and-false (eqb before 0) _ (and-false (eqb (getD l 0 0) 239) _ (and-false (eqb (getD l 1 0) 187) _ refl))) in
+    simp (z, and-false) in
     record { start = rw g refl; within = omega arith }
-  where
-    and-false : (a b : Bool) → b ≡ false → (a && b) ≡ false
-    and-false true b e = e
-    and-false false b e = refl
-
-and-assoc : (a b c : Bool) → ((a && b) && c) ≡ (a && (b && c))
-and-assoc true b c = refl
-and-assoc false b c = refl
 
 module _ (before : ℕ) (l : List ℕ) (first : before ≤ 0) (long : 3 ≤ length l) where
   pub mark-there : ((eqb (getD l 0 0) 239 && eqb (getD l 1 0) 187) && eqb (getD l 2 0) 191) ≡ true → Mark before l 3

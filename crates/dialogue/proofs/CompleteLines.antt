@@ -45,15 +45,7 @@ abbrev pub Plain : List ℕ → Type 0
 Plain [] = Unit {0}
 Plain (b ∷ l) = (eqb b 10 ≡ false) × Plain l
 
--- No byte of what has no complete line is a newline.
-pub none-plain : (s : List ℕ) → linesIn s ≡ [] → Plain s
-unfolding linesIn
-none-plain [] e = tt
-none-plain (b ∷ s) e =
-    split (eqb b 10) (λ t. let g : ([] ∷ linesIn s) ≡ [] = rw t at e in no-cons [] (linesIn s) g)
-    (λ t. let g : ahead b (linesIn s) ≡ [] = rw t at e in (t, none-plain s (none-behind b (linesIn s) g)))
-
--- Nor is one of the rest.
+-- No byte of the rest is one.
 behind-plain : (b : ℕ) (ls : List (List ℕ)) (rest : List ℕ) → eqb b 10 ≡ false → Plain rest → Plain (behind b ls rest)
 behind-plain b [] rest t p = (t, p)
 behind-plain b (l ∷ ls) rest t p = p

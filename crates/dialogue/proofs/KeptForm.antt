@@ -1,14 +1,14 @@
 -- The numeric form of a line: it has no newline and no byte order mark.
 -- Assumes nothing.
 use Prim.Native.Nat.{ℕ}
-use mathlib.Core.Path.{_≡_, refl, ap}
-use mathlib.Core.Bool.{Bool, true, false, _&&_}
+use mathlib.Core.Path.{_≡_, refl}
+use mathlib.Core.Bool.{true, false, and-false}
 use mathlib.Core.List.{List, [], _∷_}
 use borrow.Author.Tests.{eqb-true}
 use lib.Dec.{eqb}
 use lib.IntN.{ℤ}
-use lib.ListN.{drop, getD}
-use Rattle.laws.specs.Cases.{split, clash, cond-false, and-left, and-right, and-refused}
+use lib.ListN.{getD}
+use Rattle.laws.specs.Cases.{split, clash, and-left, and-right}
 use Rattle.words.specs.Bytes.{each, control, blank}
 use Rattle.journal.specs.Grammar.{parsed}
 use Rattle.journal.specs.declared.Request.{Request}
@@ -59,17 +59,9 @@ first-byte (Request.Special n) zs = refl
 first-byte Request.Report zs = refl
 first-byte (Request.Error e) zs = refl
 
-none-marked : (t u : Bool) → u ≡ false → (t && u) ≡ false
-none-marked true u e = e
-none-marked false u e = refl
-
 unmarked : (before : ℕ) (l : List ℕ) → eqb (getD l 0 0) 239 ≡ false → textOf before l ≡ l
 unfolding textOf markLength
-unmarked before l e =
-    let t = eqb (getD l 0 0) 239 && (eqb (getD l 1 0) 187 && eqb (getD l 2 0) 191) in
-    ap (λ (k : ℕ). drop k l)
-    (cond-false (eqb before 0 && t) 3 0
-    (none-marked (eqb before 0) t (and-refused (eqb (getD l 0 0) 239) (eqb (getD l 1 0) 187 && eqb (getD l 2 0) 191) e)))
+unmarked before l e = rw (e, and-false (eqb before 0)) refl
 
 pub printed-text : (before : ℕ) (r : Request) (zs : List ℤ) → textOf before (printed r zs) ≡ printed r zs
 printed-text before r zs = unmarked before (printed r zs) (first-byte r zs)

@@ -12,10 +12,10 @@ use Rattle.laws.specs.Cases.{split}
 use Rattle.laws.specs.Lists.{All}
 use Rattle.dialogue.specs.declared.Way.{Way}
 use Rattle.dialogue.specs.Split.{ahead, linesIn}
-use Rattle.dialogue.specs.Turns.{State, after, bytesOf, journalOf, ended, afterAll, allBytes, allJournal}
-use Rattle.dialogue.specs.Whole.{stateBefore, streamAfter, streamBytes, streamJournal}
+use Rattle.dialogue.specs.Turns.{State, after, ended, afterAll}
+use Rattle.dialogue.specs.Whole.{stateBefore, streamAfter}
 use Rattle.dialogue.proofs.CompleteLines.{Plain, begun-lines}
-use Rattle.dialogue.proofs.LongLine.{knowing, after-begins, long-after, long-bytes, long-journal}
+use Rattle.dialogue.proofs.LongLine.{knowing, after-begins, long-after}
 
 -- ---- the lines of a part are shorter than it
 
@@ -40,7 +40,7 @@ lines-short (b ∷ s) =
 
 -- ---- short lines
 
-known : (long : Bool) (s : State) → s .place .long ≡ long → knowing long s ≡ s
+pub known : (long : Bool) (s : State) → s .place .long ≡ long → knowing long s ≡ s
 known long s e =
     λ i. record {
       book = s .book;
@@ -62,26 +62,6 @@ module _ (most : ℕ) (way : Way) (room : ℕ) where
       ap (λ (t : State). cond (ended way (s .place)) s (streamAfter most way room (after way room t l) ls)) (before-short most s l (h .0) e)
       ∙ ap (λ (t : State). cond (ended way (s .place)) s t) (short-state (after way room s l) ls (h .1) (after-begins way room s l))
 
-  pub short-bytes : (s : State) (ls : List (List ℕ)) → Short most ls → s .place .long ≡ false
-      → streamBytes most way room s ls ≡ allBytes way room s ls
-  unfolding streamBytes allBytes
-  short-bytes s [] h e = refl
-  short-bytes s (l ∷ ls) h e =
-      ap (λ (t : State). cond (ended way (s .place)) [] (bytesOf way room t l ++ streamBytes most way room (after way room t l) ls))
-      (before-short most s l (h .0) e)
-      ∙ ap (λ (z : List ℕ). cond (ended way (s .place)) [] (bytesOf way room s l ++ z))
-      (short-bytes (after way room s l) ls (h .1) (after-begins way room s l))
-
-  pub short-journal : (s : State) (ls : List (List ℕ)) → Short most ls → s .place .long ≡ false
-      → streamJournal most way room s ls ≡ allJournal way room s ls
-  unfolding streamJournal allJournal
-  short-journal s [] h e = refl
-  short-journal s (l ∷ ls) h e =
-      ap (λ (t : State). cond (ended way (s .place)) [] (journalOf way room t l ++ streamJournal most way room (after way room t l) ls))
-      (before-short most s l (h .0) e)
-      ∙ ap (λ (z : List ℕ). cond (ended way (s .place)) [] (journalOf way room s l ++ z))
-      (short-journal (after way room s l) ls (h .1) (after-begins way room s l))
-
   -- ---- a part, with what had begun before it, in a buffer of `most` bytes
 
   module _ (s : State) (part : List ℕ) (h : length part ≤ most) (e : s .place .long ≡ false) where
@@ -90,12 +70,6 @@ module _ (most : ℕ) (way : Way) (room : ℕ) where
 
     pub part-state : streamAfter most way room s (linesIn part) ≡ afterAll way room s (linesIn part)
     part-state = short-state s (linesIn part) lines-fit e
-
-    pub part-bytes : streamBytes most way room s (linesIn part) ≡ allBytes way room s (linesIn part)
-    part-bytes = short-bytes s (linesIn part) lines-fit e
-
-    pub part-journal : streamJournal most way room s (linesIn part) ≡ allJournal way room s (linesIn part)
-    part-journal = short-journal s (linesIn part) lines-fit e
 
   -- ---- a part behind a line that has begun and is too long: it may be taken without what has begun, with the flag set
 
@@ -122,32 +96,3 @@ module _ (most : ℕ) (way : Way) (room : ℕ) where
         (short-state (after way room (knowing true s) l) ls rest-short (after-begins way room (knowing true s) l))
         ∙ rw on refl
         ∙ ap (afterAll way room (knowing true s)) (sym e)
-
-    pub long-part-bytes : streamBytes most way room s (linesIn (r ++ b)) ≡ allBytes way room (knowing true s) (linesIn b)
-    unfolding streamBytes allBytes ended
-    long-part-bytes =
-        ap (streamBytes most way room s) (begun-lines r b l ls plain e)
-        ∙ ap (λ (z : State). cond (ended way (s .place)) [] (bytesOf way room z (r ++ l) ++ streamBytes most way room (after way room z (r ++ l)) ls))
-        too-long
-        ∙ ap (λ (z : List ℕ). cond (ended way (s .place)) [] (z ++ streamBytes most way room (after way room (knowing true s) (r ++ l)) ls))
-        (long-bytes way room s (r ++ l) l)
-        ∙ ap (λ (z : State). cond (ended way (s .place)) [] (bytesOf way room (knowing true s) l ++ streamBytes most way room z ls))
-        (long-after way room s (r ++ l) l)
-        ∙ ap (λ (z : List ℕ). cond (ended way (s .place)) [] (bytesOf way room (knowing true s) l ++ z))
-        (short-bytes (after way room (knowing true s) l) ls rest-short (after-begins way room (knowing true s) l))
-        ∙ ap (allBytes way room (knowing true s)) (sym e)
-
-    pub long-part-journal : streamJournal most way room s (linesIn (r ++ b)) ≡ allJournal way room (knowing true s) (linesIn b)
-    unfolding streamJournal allJournal ended
-    long-part-journal =
-        ap (streamJournal most way room s) (begun-lines r b l ls plain e)
-        ∙ ap
-        (λ (z : State).
-        cond (ended way (s .place)) [] (journalOf way room z (r ++ l) ++ streamJournal most way room (after way room z (r ++ l)) ls)) too-long
-        ∙ ap (λ (z : List ℕ). cond (ended way (s .place)) [] (z ++ streamJournal most way room (after way room (knowing true s) (r ++ l)) ls))
-        (long-journal way room s (r ++ l) l)
-        ∙ ap (λ (z : State). cond (ended way (s .place)) [] (journalOf way room (knowing true s) l ++ streamJournal most way room z ls))
-        (long-after way room s (r ++ l) l)
-        ∙ ap (λ (z : List ℕ). cond (ended way (s .place)) [] (journalOf way room (knowing true s) l ++ z))
-        (short-journal (after way room (knowing true s) l) ls rest-short (after-begins way room (knowing true s) l))
-        ∙ ap (allJournal way room (knowing true s)) (sym e)

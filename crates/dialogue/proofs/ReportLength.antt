@@ -1,7 +1,7 @@
 -- The most bytes of a report: the figures of well-formed words are sound, so that each column has its most bytes.
 -- Assumes nothing.
-use Prim.Native.Nat.{ℕ, zero, suc, _+_, _-_, _*_, _/_, _%_, _^_, _≤_}
-use mathlib.Core.Path.{_≡_, refl, ap, _∙_}
+use Prim.Native.Nat.{ℕ, zero, suc, _+_, _-_, _*_, _/_, _^_, _≤_}
+use mathlib.Core.Path.{_≡_, ap, _∙_}
 use mathlib.Core.Bool.{not}
 use mathlib.Core.List.{List, [], _∷_, _++_}
 use native.Mathlib.Nat.{div-le-self}
@@ -18,11 +18,11 @@ use Rattle.file.specs.Answer.{stated, decide}
 use Rattle.file.specs.Fields.{coverOf, shortfallOf}
 use Rattle.file.specs.KeepsPositions.{sound-cover}
 use Rattle.file.specs.Sound.{Sound}
-use Rattle.file.specs.Statement.{statementOf}
+use Rattle.file.specs.Statement.{fileStatement}
 use Rattle.file.specs.declared.File.{File}
 use Rattle.layout.specs.Book.{Book}
 use Rattle.layout.specs.Files.{fileOfWords, wordsAt}
-use Rattle.layout.specs.Words.{place, fileIn, bookOfWords}
+use Rattle.layout.specs.Words.{place, fileInWords, bookOfWords}
 use Rattle.layout.proofs.FileLaws.{slots-long}
 use Rattle.layout.specs.WellFormed.{SoundBook, WellFormed}
 use Rattle.book.specs.Account.{fileAt, ifNumbered, ifAdmitted, answer}
@@ -33,6 +33,8 @@ use Rattle.printing.specs.Decimals.{decimal, spaced, joined}
 use Rattle.report.specs.Columns.{padded, digits, fixed}
 use Rattle.report.specs.Dates.{datedText, dateText}
 use Rattle.report.specs.Table.{inColumns, tableLine, heading, roleText, lineOf, row, rows, admittedBelow, admittedCount, titleLine, reportText}
+use Rattle.report.proofs.ColumnLaws.{digits-count}
+use Rattle.report.proofs.TableLaws.{below-small}
 use Rattle.dialogue.specs.Said.{Small}
 use Rattle.dialogue.proofs.Lengths.{number-short}
 
@@ -42,19 +44,13 @@ padded-short : (w n : ℕ) (t : List ℕ) → w ≤ n → length t ≤ n → len
 unfolding padded
 padded-short w n t h k = simp (length-append, length-replicate) (omega arith)
 
-digits-length : (k n : ℕ) → length (digits k n) ≡ k
-unfolding digits
-digits-length zero n = refl
-digits-length (suc k) n =
-    omega (arith, length-append (digits k (n / 10)) ((48 + n % 10) ∷ []), digits-length k (n / 10))
-
 fixed-short : (k n : ℕ) → Small n → length (fixed k n) ≤ 21 + k
 unfolding fixed
 fixed-short k n h =
     omega (
       arith,
       length-append (decimal (n / 10 ^ k)) (46 ∷ digits k n),
-      digits-length k n,
+      digits-count k n,
       number-short (n / 10 ^ k) (omega (arith, div-le-self n (10 ^ k))),
     )
 
@@ -94,10 +90,10 @@ slots-word w = slots-long w
 
 slots-of : (l : List ℕ) (p : ℕ) → length (fileAt (bookOfWords l) p .slots) ≡ 8
 unfolding fileAt bookOfWords
-slots-of l p = slots-in 64 (λ k. fileIn l k) p (λ k. slots-word (wordsAt l (place k)))
+slots-of l p = slots-in 64 (λ k. fileInWords l k) p (λ k. slots-word (wordsAt l (place k)))
 
 row-short : (b : Book) (p : ℕ) → SoundBook b → length (fileAt b p .slots) ≡ 8 → Small p → length (row b p) ≤ 160
-unfolding row answer ifNumbered ifAdmitted decide lineOf statementOf shortfallOf
+unfolding row answer ifNumbered ifAdmitted decide lineOf fileStatement shortfallOf
 row-short b p r eight h =
     let s : Sound (b .today .0) (fileAt b p) = sound-file b p r in
     let c : coverOf (fileAt b p) (b .today .0) ≤ 8000000000000 = sound-cover (b .today .0) (b .today .0) (fileAt b p) s eight in
@@ -119,15 +115,9 @@ rows-short (suc n) b r eight h =
 
 -- ---- the title and the heading
 
-admitted-few : (n : ℕ) (b : Book) → admittedBelow n b ≤ n
-unfolding admittedBelow
-admitted-few zero b = omega arith
-admitted-few (suc n) b =
-    split (fileAt b n .admitted) (λ e. rw e (omega (arith, admitted-few n b))) (λ e. rw e (omega (arith, admitted-few n b)))
-
 dated-short : (d : Dated) → length (datedText d) ≤ 10
 dated-short (Dated.Date x) =
-    simp length-append (omega (arith, digits-length 4 (x .year), digits-length 2 (x .month), digits-length 2 (x .day)))
+    simp length-append (omega (arith, digits-count 4 (x .year), digits-count 2 (x .month), digits-count 2 (x .day)))
 dated-short Dated.NoDate = omega arith
 
 date-short : (d : ℕ) → length (dateText d) ≤ 10
@@ -142,7 +132,7 @@ title-short b r =
       arith,
       number-short (b .today .0) (omega (arith, r .day)),
       date-short (b .today .0),
-      number-short (admittedBelow 64 b) (omega (arith, admitted-few 64 b)),
+      number-short (admittedBelow 64 b) (omega (arith, below-small b 64)),
     ))
 
 heading-short : length heading ≤ 120

@@ -1,16 +1,14 @@
--- The lines of a whole input, cut anywhere: the state, the answers, the journal and what was asked are those of the parts.
+-- The lines of a whole input, cut anywhere: the state, the answers and the journal are those of the parts.
 -- Assumes nothing.
 use Prim.Native.Nat.{ℕ}
 use mathlib.Core.Path.{_≡_, refl, sym, ap, _∙_}
 use mathlib.Core.Bool.{true, false}
 use mathlib.Core.List.{List, [], _∷_, _++_, append-assoc}
 use Rattle.laws.specs.Cases.{split}
-use Rattle.answering.specs.Asked.{Asked}
 use Rattle.dialogue.specs.declared.Way.{Way}
 use Rattle.dialogue.specs.Split.{linesIn, restIn}
-use Rattle.dialogue.specs.Asks.{asks}
 use Rattle.dialogue.specs.Turns.{State, after, bytesOf, journalOf, ended}
-use Rattle.dialogue.specs.Whole.{placeBefore, stateBefore, streamAfter, streamBytes, streamJournal, streamAsks}
+use Rattle.dialogue.specs.Whole.{stateBefore, streamAfter, streamBytes, streamJournal}
 use Rattle.dialogue.specs.Dialogue.{Cut}
 use Rattle.dialogue.proofs.SplitLaws.{lines-cut, rest-cut}
 
@@ -31,11 +29,6 @@ module _ (most : ℕ) (way : Way) (room : ℕ) where
   unfolding streamJournal
   ended-kept s [] e = refl
   ended-kept s (l ∷ ls) e = rw e refl
-
-  pub ended-asks : (s : State) (seen : List Asked) (ls : List (List ℕ)) → ended way (s .place) ≡ true → streamAsks most way room s seen ls ≡ seen
-  unfolding streamAsks
-  ended-asks s seen [] e = refl
-  ended-asks s seen (l ∷ ls) e = rw e refl
 
   -- ---- before it, one line and then the others
 
@@ -86,14 +79,6 @@ module _ (most : ℕ) (way : Way) (room : ℕ) where
       (ap (λ (z : List ℕ). x ++ z) (kept-append t a b)
       ∙ sym (append-assoc x (streamJournal most way room t a) (streamJournal most way room (streamAfter most way room t a) b))))
 
-  pub asks-append : (s : State) (seen : List Asked) (a b : List (List ℕ))
-      → streamAsks most way room s seen (a ++ b) ≡ streamAsks most way room (streamAfter most way room s a) (streamAsks most way room s seen a) b
-  unfolding streamAfter streamAsks
-  asks-append s seen [] b = refl
-  asks-append s seen (l ∷ a) b =
-      split (ended way (s .place)) (λ e. rw e (sym (ended-asks s seen b e)))
-      (λ e. rw e (asks-append (after way room (stateBefore most s l) l) (asks way room (placeBefore most (s .place) l) l ∷ seen) a b))
-
   -- ---- an input cut anywhere
 
   pub cut-anywhere : (s : State) (a b : List ℕ) → Cut most way room s a b
@@ -104,8 +89,3 @@ module _ (most : ℕ) (way : Way) (room : ℕ) where
         journal = ap (streamJournal most way room s) (lines-cut a b) ∙ kept-append s (linesIn a) (linesIn (restIn a ++ b));
         rest = rest-cut a b;
       }
-
-  pub cut-asks : (s : State) (seen : List Asked) (a b : List ℕ)
-      → streamAsks most way room s seen (linesIn (a ++ b))
-      ≡ streamAsks most way room (streamAfter most way room s (linesIn a)) (streamAsks most way room s seen (linesIn a)) (linesIn (restIn a ++ b))
-  cut-asks s seen a b = ap (streamAsks most way room s seen) (lines-cut a b) ∙ asks-append s seen (linesIn a) (linesIn (restIn a ++ b))

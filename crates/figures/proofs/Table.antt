@@ -24,7 +24,7 @@ use Rattle.file.specs.Opening.{slotsOpened, callsOpened, firmRaised, takesEffec
 use Rattle.file.specs.Position.{countsOn, coverOn, emptiedOn, outsideAmounts}
 use Rattle.file.specs.Release.{releaseFloor, slotsLeft, releaseAnswer, releasedFile}
 use Rattle.file.specs.Settle.{outsideMonths, checkDue, deposited, settlementCalls, settledAnswer, settleAnswer, callsSettled, settledFile}
-use Rattle.file.specs.Statement.{statementOf}
+use Rattle.file.specs.Statement.{fileStatement}
 use Rattle.file.specs.Totals.{totalHere, totalAt, withTotal, totalsFrom}
 use Rattle.book.specs.Account.{freshBook, fileAt, withFile, ifNumbered, ifAdmitted, fileAnswer, fileAfter, callsAdded, openedIfAdmitted, openDay}
 use Rattle.book.specs.Account.{openDays, answer, applied, step, run}
@@ -44,7 +44,7 @@ unfolding decide every larger sumOf insert falling threeLargest meanOfThree floo
     callsOfAdmission admittedFile annualTotals annualAmountOf annualAnswer annualFile largest inPlaces keep openCalls coverOf shortfallOf
     lodgeAnswer lodgedFile slotsOpened callsOpened firmRaised takesEffect firmOpened nextOpened shortfallOpened openedFile countsOn coverOn
     emptiedOn outsideAmounts releaseFloor slotsLeft releaseAnswer releasedFile outsideMonths checkDue deposited settlementCalls
-    settledAnswer settleAnswer callsSettled settledFile statementOf totalHere totalAt withTotal totalsFrom freshBook fileAt withFile
+    settledAnswer settleAnswer callsSettled settledFile fileStatement totalHere totalAt withTotal totalsFrom freshBook fileAt withFile
     ifNumbered ifAdmitted fileAnswer fileAfter callsAdded openedIfAdmitted openDay openDays answer applied step run baseIn firmFrom openOn
     calledIn callsIn firmIn openIn before openingShortfall daysSince countShort sumCharges chargedIn accruedIn settlementAnswer ownCauses
     ownAnswer ownStatement callsBelow decision withCall eventsOf mine todayOf withDays admittedIn roleIn lastLodged releasedSince leftAt

@@ -2,12 +2,12 @@
 -- Assumes nothing.
 use Prim.Native.Nat.{ℕ}
 use mathlib.Core.Path.{_≡_}
-use mathlib.Core.Bool.{Bool, true, false, cond}
+use mathlib.Core.Bool.{true, false, cond}
 use mathlib.Core.List.{List, [], _∷_, map}
 use lib.Dec.{eqb}
 use lib.ListN.{replicate}
 use lib.IntN.{ℤ, pos, negsuc}
-use Rattle.laws.specs.Causes.{Cause, decide}
+use Rattle.laws.specs.Causes.{decide}
 use Rattle.laws.specs.Integers.{sumOf, larger}
 use Rattle.manual.specs.declared.Check.the-variants.{Call, Covered}
 use Rattle.manual.specs.Minimum.{minimumOf}
@@ -20,6 +20,7 @@ use Rattle.file.specs.Answer.{Answer, refused, done, called, covered}
 use Rattle.file.specs.Calls.{largest, amountsOf, callOf, keep}
 use Rattle.file.specs.Settle.{outsideMonths, checkDue, checkSays}
 use Rattle.file.specs.Totals.{Total, none, total, totalsFrom, yearTotals}
+use Rattle.book.specs.Reading.Decisions.{cause}
 
 -- Every month's total is its own number; and all but month 7's are recorded.
 abbrev pub byNumber : ℕ → Total
@@ -27,10 +28,6 @@ byNumber m = total (pos m)
 
 abbrev pub butMonth7 : ℕ → Total
 butMonth7 m = cond (eqb m 7) none (total (pos m))
-
--- A cause of refusal.
-abbrev pub cause : ℕ → Bool → Cause
-cause n holds = record { number = n; holds = holds }
 
 pub record Settlements : Type 0 where
   -- "P − 14 ≤ M ≤ P − 2": P is 21, October 2021

@@ -6,8 +6,8 @@ use Rattle.file.specs.declared.Statement.{Statement}
 use Rattle.file.specs.Fields.{coverOf, shortfallOf}
 
 -- The statement of a file on day t.
-unfoldable pub statementOf : File → ℕ → Statement
-statementOf f t =
+unfoldable pub fileStatement : File → ℕ → Statement
+fileStatement f t =
     record {
       firm = f .firm;
       cover = coverOf f t;

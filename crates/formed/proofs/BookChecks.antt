@@ -15,10 +15,11 @@ use Rattle.laws.specs.Lists.{table}
 use Rattle.laws.specs.Tabulated.{length-table, getD-table, map-table, all-table, table-all}
 use Rattle.file.specs.declared.File.{File}
 use Rattle.file.specs.Sound.{Sound}
-use Rattle.layout.specs.Files.{slotsOfWords, callsOfWords, totalsOfWords, fileOfWords, wordsAt, flat, fileWords}
-use Rattle.layout.specs.Words.{fileIn, todayIn, bookOfWords, bookWords}
-use Rattle.layout.specs.WellFormed.{WellFormed, SoundBook, BlankUnlessAdmitted, openIn}
+use Rattle.layout.specs.Files.{fileOfWords, wordsAt, flat, fileWords}
+use Rattle.layout.specs.Words.{fileInWords, todayIn, bookOfWords, bookWords}
+use Rattle.layout.specs.WellFormed.{WellFormed, SoundBook, BlankUnlessAdmitted, openCount}
 use Rattle.layout.proofs.Rows.{flat-length, flat-at}
+use Rattle.layout.proofs.BookLaws.{read-long}
 use Rattle.formed.specs.Decides.{Decides, Below}
 use Rattle.formed.specs.Checks.{Canonical, SoundAt, FormedFile, FileAt, CountAt, openBelow}
 use Rattle.formed.proofs.Decided.{says-no, by-order}
@@ -26,20 +27,20 @@ use Rattle.formed.proofs.Decided.{says-no, by-order}
 -- ---- the open calls
 
 -- One file more.
-open-more : (n : ℕ) (g : ℕ → File) → openIn (table (suc n) g) ≡ openIn (table n g) + g n .count
-unfolding openIn
+open-more : (n : ℕ) (g : ℕ → File) → openCount (table (suc n) g) ≡ openCount (table n g) + g n .count
+unfolding openCount
 open-more zero g = omega arith
 open-more (suc n) g = omega (arith, open-more n (λ k. g (suc k)))
 
 -- No file has no calls.
 pub open-none : (l : List ℕ) → 0 ≡ openBelow l 0
-unfolding openBelow openIn
+unfolding openBelow openCount
 open-none l = refl
 
 -- The next file's calls are added.
 pub open-turn : (l : List ℕ) (i o : ℕ) → o ≡ openBelow l i → o + getD l (2 + 96 * i + 4) 0 ≡ openBelow l (i + 1)
 unfolding openBelow fileOfWords
-open-turn l i o e = rw (add-one i) (omega (arith, open-more i (λ p. fileIn l p)))
+open-turn l i o e = rw (add-one i) (omega (arith, open-more i (λ p. fileInWords l p)))
 
 -- A file has at most four.
 count-small : (l : List ℕ) (i : ℕ) → Below 64 (CountAt l) → i < 64 → getD l (2 + 96 * i + 4) 0 ≤ 4
@@ -87,11 +88,6 @@ module _ (n : ℕ) (g : ℕ → File) (size : (p : ℕ) → length (fileWords (g
       ∙ flat-at words 96 size (λ p. Unit {0}) (table n (λ p. p)) [] i j 0 (omega (arith, length-table n (λ (p : ℕ). p))) k
       ∙ ap (λ (p : ℕ). getD (fileWords (g p)) j 0) (getD-table n (λ p. p) i 0 h)
 
--- A file has 96 words.
-file-size : (w : ℕ → ℕ) → length (fileWords (fileOfWords w)) ≡ 96
-unfolding fileWords fileOfWords slotsOfWords callsOfWords totalsOfWords flat
-file-size w = refl
-
 module _ (l : List ℕ) where
   -- The words of the book that the words stand for.
   abbrev again : List ℕ
@@ -99,19 +95,19 @@ module _ (l : List ℕ) where
 
   -- Participant p's file.
   abbrev fileHere : ℕ → File
-  fileHere p = fileIn l p
+  fileHere p = fileInWords l p
 
   -- How many they are.
   book-long : length again ≡ 6147
   unfolding bookWords bookOfWords
-  book-long = omega (arith, rows-long 64 fileHere (λ p. file-size (wordsAt l (2 + 96 * p))))
+  book-long = omega (arith, rows-long 64 fileHere (λ p. read-long (wordsAt l (2 + 96 * p))))
 
   -- What stands at place j of participant i's words.
   book-word : (i j : ℕ) → i < 64 → j < 96 → getD again (3 + (96 * i + j)) 0 ≡ getD (fileWords (fileHere i)) j 0
   unfolding bookWords bookOfWords
   book-word i j h k =
       getD-append-add (1 ∷ todayIn l ∷ getD l 2 0 ∷ []) (flat fileWords (table 64 fileHere)) (96 * i + j) 0
-      ∙ row-at 64 fileHere (λ p. file-size (wordsAt l (2 + 96 * p))) i j h k
+      ∙ row-at 64 fileHere (λ p. read-long (wordsAt l (2 + 96 * p))) i j h k
 
   -- Today stands in it as it is read.
   book-day : getD again 1 0 ≡ todayIn l

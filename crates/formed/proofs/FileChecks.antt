@@ -1,7 +1,7 @@
 -- The tests of a file's words decide whether they are a well-formed file.
 -- Assumes nothing.
 use Prim.Native.Nat.{ℕ, zero, suc, _+_, _≤_, _<_}
-use mathlib.Core.Path.{_≡_, refl, sym, ap, subst, _∙_}
+use mathlib.Core.Path.{_≡_, sym, ap, subst, _∙_}
 use mathlib.Core.Bool.{Bool, true, false, not}
 use mathlib.Core.List.{List}
 use native.Mathlib.Omega.{arith}
@@ -13,15 +13,14 @@ use Rattle.file.specs.declared.File.{File}
 use Rattle.file.specs.Admit.{noFile}
 use Rattle.file.specs.Sound.{Sound}
 use Rattle.file.specs.KeepsPositions.{none-sound}
-use Rattle.layout.specs.Parts.{zigzagOf}
-use Rattle.layout.specs.Files.{fileOfWords, wordsAt, flat, fileWords, Put}
+use Rattle.layout.specs.Files.{fileOfWords, wordsAt, fileWords, Put}
 use Rattle.layout.proofs.Written.{written-in}
 use Rattle.layout.proofs.FileLaws.{file-ext}
 use Rattle.formed.specs.Decides.{Decides, Below}
 use Rattle.formed.specs.Checks.{SameAt, Canonical, Blank, SoundAt, FormedFile}
 use Rattle.formed.proofs.Decided.{says-no, as-well}
 use Rattle.laws.specs.Places.{getD-same}
-use Rattle.layout.proofs.BookLaws.{zero-file}
+use Rattle.layout.proofs.BookLaws.{zero-file, zero-words}
 
 -- ---- the same words
 
@@ -51,11 +50,6 @@ unfolding Blank
 blank-decides l at r d = below-same l at (replicate 97 0) (λ k. 0) r (λ k h. getD-same 0 97 (k + 1)) d
 
 -- ---- a file that isn't admitted
-
--- The words of a participant that is not admitted are zeros.
-zero-words : fileWords noFile ≡ replicate 96 0
-unfolding fileWords flat zigzagOf
-zero-words = refl
 
 module _ (t : ℕ) (l : List ℕ) (at : ℕ) where
   -- The file.

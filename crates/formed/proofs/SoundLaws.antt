@@ -19,7 +19,7 @@ use Rattle.file.specs.declared.MonthTotal.{MonthTotal}
 use Rattle.file.specs.Calls.{callOf, inPlaces}
 use Rattle.file.specs.Fields.{openCalls}
 use Rattle.file.specs.Sound.{SoundCall, SoundPosition, totalBound}
-use Rattle.layout.specs.Parts.{numberOf, signedOf, slotOfWords, callOfWords, totalOfWords}
+use Rattle.layout.specs.Parts.{numberOf, signedOfWord, slotOfWords, openCallOfWords, totalOfWords}
 use Rattle.layout.specs.Files.{slotsOfWords, callsOfWords, totalsOfWords, fileOfWords, wordsAt}
 use Rattle.formed.specs.Decides.{Decides, Below}
 use Rattle.formed.specs.Checks.{SoundSlot, SoundAmounts, SlotAt, CallAt, TotalAt, SoundAt}
@@ -52,25 +52,25 @@ four-places (suc (suc (suc (suc zero)))) a b c d h p q r s = refl
 four-places (suc (suc (suc (suc (suc n))))) a b c d h p q r s = absurd (omega arith)
 
 -- A call whose words are zeros is none.
-no-call : (a d : ℕ) → (a ≡ 0) × (numberOf d ≡ 0) → callOfWords a d ≡ noCall
-unfolding callOfWords
+no-call : (a d : ℕ) → (a ≡ 0) × (numberOf d ≡ 0) → openCallOfWords a d ≡ noCall
+unfolding openCallOfWords
 no-call a d e = λ i. record { amount = e .0 i; last = record { 0 = e .1 i } }
 
 -- And the other way round.
-call-none : (a d : ℕ) → callOfWords a d ≡ noCall → (a ≡ 0) × (numberOf d ≡ 0)
-unfolding callOfWords
+call-none : (a d : ℕ) → openCallOfWords a d ≡ noCall → (a ≡ 0) × (numberOf d ≡ 0)
+unfolding openCallOfWords
 call-none a d e = (ap (λ (c : OpenCall). c .amount) e, ap (λ (c : OpenCall). c .last .0) e)
 
 -- ---- a signed number's word
 
 -- A small word is a small number.
-signed-small : (w : ℕ) → w ≤ 32000000000000 → natAbs (signedOf w) ≤ totalBound
-unfolding signedOf
+signed-small : (w : ℕ) → w ≤ 32000000000000 → natAbs (signedOfWord w) ≤ totalBound
+unfolding signedOfWord
 signed-small w h = split (eqb (w % 2) 0) (λ e. rw e (omega arith)) (λ e. rw e (omega (arith, eqb-false (w % 2) 0 e)))
 
 -- And the other way round.
-small-signed : (w : ℕ) → natAbs (signedOf w) ≤ totalBound → w ≤ 32000000000000
-unfolding signedOf
+small-signed : (w : ℕ) → natAbs (signedOfWord w) ≤ totalBound → w ≤ 32000000000000
+unfolding signedOfWord
 small-signed w h =
     split (eqb (w % 2) 0) (λ e. let g : w / 2 ≤ totalBound = rw e at h in omega (arith, eqb-true (w % 2) 0 e))
     (λ e. let g : suc (w / 2) ≤ totalBound = rw e at h in omega arith)
@@ -98,11 +98,11 @@ module _ (l : List ℕ) (at : ℕ) where
 
   -- Call k.
   abbrev callHere : ℕ → OpenCall
-  callHere k = callOfWords (w (41 + 2 * k)) (w (42 + 2 * k))
+  callHere k = openCallOfWords (w (41 + 2 * k)) (w (42 + 2 * k))
 
   -- A call, from its words.
   call-sound : (k : ℕ) → CallAt l at k → SoundCall (callHere k)
-  unfolding callOfWords
+  unfolding openCallOfWords
   call-sound k s = record { amount = s .amount; last = s .last }
 
   -- The calls, from their words.
@@ -130,7 +130,7 @@ module _ (l : List ℕ) (at : ℕ) where
 
   -- A call's words, from the call.
   place-sound : (k : ℕ) → SoundCall (callHere k) → (w 4 ≤ k → callHere k ≡ noCall) → CallAt l at k
-  unfolding callOfWords
+  unfolding openCallOfWords
   place-sound k s z = record { amount = s .amount; last = s .last; behind = λ n. call-none (w (41 + 2 * k)) (w (42 + 2 * k)) (z n) }
 
   -- Each of the calls.

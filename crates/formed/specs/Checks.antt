@@ -8,8 +8,8 @@ use Rattle.laws.specs.Lists.{table}
 use Rattle.file.specs.Sound.{Sound, SoundPosition, totalBound}
 use Rattle.layout.specs.Parts.{numberOf, positionOf}
 use Rattle.layout.specs.Files.{fileOfWords, wordsAt, fileWords}
-use Rattle.layout.specs.Words.{fileIn}
-use Rattle.layout.specs.WellFormed.{BlankUnlessAdmitted, openIn}
+use Rattle.layout.specs.Words.{fileInWords}
+use Rattle.layout.specs.WellFormed.{BlankUnlessAdmitted, openCount}
 use Rattle.formed.specs.Decides.{Below}
 
 -- The words of a slot are a sound position.
@@ -75,4 +75,4 @@ CountAt l p = getD l (2 + 96 * p + 4) 0 ≤ 4
 
 -- How many calls are open in the files of the first n participants.
 unfoldable pub openBelow : List ℕ → ℕ → ℕ
-openBelow l n = openIn (table n (λ p. fileIn l p))
+openBelow l n = openCount (table n (λ p. fileInWords l p))

@@ -1,7 +1,7 @@
 -- The counts that a call carries: a settlement has as many numbers as it says, and a special guarantee as many as its lists are long.
 -- Assumes nothing.
 use Prim.Native.Nat.{ℕ, _-_}
-use mathlib.Core.Path.{_≡_, refl, _∙_}
+use mathlib.Core.Path.{_≡_, refl, ap, _∙_}
 use mathlib.Core.Bool.{Bool}
 use mathlib.Core.List.{List, [], _∷_}
 use native.Mathlib.Omega.{arith}
@@ -9,6 +9,7 @@ use lib.Dec.{eqb}
 use lib.IntN.{ℤ}
 use lib.ListN.{length, length-append}
 use Rattle.laws.specs.Cases.{split}
+use Rattle.laws.specs.Lists.{all-default}
 use Rattle.calendar.specs.declared.Month.{Month}
 use Rattle.words.specs.Bytes.{control, some, uncommented}
 use Rattle.words.specs.Words.{words, placeIn}
@@ -20,7 +21,7 @@ use Rattle.journal.specs.Grammar.{annualOf, advanceOf, statementOf, spec
 use Rattle.journal.specs.declared.Reason.{Reason}
 use Rattle.journal.specs.declared.Request.{Request}
 use Rattle.journal.specs.declared.fields.Kind.{Kind}
-use Rattle.journal.proofs.Room.{_&_, at-place}
+use Rattle.journal.proofs.Room.{_&_}
 use Rattle.journal.proofs.ListLaws.{lists-many}
 
 -- how many numbers a call says that it has; none that has no list
@@ -143,32 +144,32 @@ lists-total (m ∷ ms) room l =
     let b = listsOf ms (room - length (a .numbers)) (a .left) in
     omega (arith, lists-total ms (room - length (a .numbers)) (a .left), length-append (a .numbers) (b .numbers))
 
-seven : (n : List ℕ) → length n ≡ 7 → total (lengthList (lengthsOf n)) ≡ total n
-seven [] e = absurd (omega arith)
-seven (a ∷ []) e = absurd (omega arith)
-seven (a ∷ b ∷ []) e = absurd (omega arith)
-seven (a ∷ b ∷ c ∷ []) e = absurd (omega arith)
-seven (a ∷ b ∷ c ∷ d ∷ []) e = absurd (omega arith)
-seven (a ∷ b ∷ c ∷ d ∷ f ∷ []) e = absurd (omega arith)
-seven (a ∷ b ∷ c ∷ d ∷ f ∷ g ∷ []) e = absurd (omega arith)
-seven (a ∷ b ∷ c ∷ d ∷ f ∷ g ∷ h ∷ []) e = refl
-seven (a ∷ b ∷ c ∷ d ∷ f ∷ g ∷ h ∷ i ∷ n) e = absurd (omega arith)
+-- the seven lengths, as a list
+pub seven-lengths : (n : List ℕ) → length n ≡ 7 → lengthList (lengthsOf n) ≡ n
+seven-lengths [] e = absurd (omega arith)
+seven-lengths (a ∷ []) e = absurd (omega arith)
+seven-lengths (a ∷ b ∷ []) e = absurd (omega arith)
+seven-lengths (a ∷ b ∷ c ∷ []) e = absurd (omega arith)
+seven-lengths (a ∷ b ∷ c ∷ d ∷ []) e = absurd (omega arith)
+seven-lengths (a ∷ b ∷ c ∷ d ∷ f ∷ []) e = absurd (omega arith)
+seven-lengths (a ∷ b ∷ c ∷ d ∷ f ∷ g ∷ []) e = absurd (omega arith)
+seven-lengths (a ∷ b ∷ c ∷ d ∷ f ∷ g ∷ h ∷ []) e = refl
+seven-lengths (a ∷ b ∷ c ∷ d ∷ f ∷ g ∷ h ∷ i ∷ n) e = absurd (omega arith)
 
 special-counted : (room : ℕ) (l : Left) → Counted (specialOf room l)
 unfolding specialOf Counted
 special-counted room l =
     let t = listsOf areMarks room l in
     closed-counted (t .left) (Request.Special (lengthsOf (t .lengths))) (t .numbers)
-    (seven (t .lengths) (lists-many areMarks room l) ∙ lists-total areMarks room l)
+    (ap total (seven-lengths (t .lengths) (lists-many areMarks room l)) ∙ lists-total areMarks room l)
 
 call-counted : (room k : ℕ) (l : Left) → Counted (namedCall room k l)
 unfolding namedCall callsOf Counted
 call-counted room k l =
-    at-place Counted (callsOf room l) k (plain (Request.Error Reason.NoCall))
+    all-default Counted (callsOf room l) k (plain (Request.Error Reason.NoCall)) (λ c. absurd c)
     (fresh-counted l & admit-counted l & lodge-counted l & release-counted l & settle-counted room l & annual-counted l
     & advance-counted l & statement-counted l & plain-counted l Request.Calls refl & special-counted room l
     & plain-counted l Request.Report refl & tt)
-    (λ c. absurd c)
 
 words-counted : (room : ℕ) (ws : List (List ℕ)) → Counted (wordsOf room ws)
 unfolding wordsOf Counted

@@ -10,8 +10,9 @@ use Rattle.words.specs.Bytes.{blank, control, digit, some, each, uncommented, s
 use Rattle.words.specs.Words.{apart, onto, words, placeIn}
 use Rattle.words.specs.Numerals.{natural, valueFrom, naturalOf, unsignedOf, negativeOf, signedOf}
 use Rattle.words.specs.Dates.{isDated, isMonthed, numbered, datedDay, numberedMonth, datedMonth, dayIn, monthIn}
-use Rattle.journal.specs.Names.{callNames, roleNames, lodgedNames, roleIn, lodgedIn, readNumber}
-use Rattle.journal.specs.Fields.{nextOf, faulted, taken, fieldOf, closed, withNumber, numbersOf, wordsLeft, figuresOf, listOf, onLists, listsOf}
+use Rattle.journal.specs.Names.{callNames, roleNames, lodgedNames, roleOfWord, lodgedIn, readNumber}
+use Rattle.journal.specs.Fields.{nextOf, faulted, taken, fieldOf, closed, withNumber, nextNumbers, wordsLeft}
+use Rattle.journal.specs.Fields.{figuresOf, listOf, onLists, listsOf}
 use Rattle.journal.specs.Grammar.{plain, freshOf, admitOf, cashOf, letterOf, lodgeOf, releaseOf}
 use Rattle.journal.specs.Grammar.{annualOf, advanceOf, statementOf, settleOf, specialOf, callsOf, namedCall, wordsOf, parsed}
 use Rattle.journal.specs.declared.Reason.{Reason}
@@ -53,9 +54,9 @@ pub examples :
     × (parsed 9 (text "special 3 1") ≡ record { request = Request.Error Reason.TooFewWords; numbers = pos 1 ∷ [] })
     × (parsed 0 (text "settlement 1") ≡ plain (Request.Error Reason.NoCall))
 unfolding parsed wordsOf namedCall callsOf uncommented some control blank words apart onto placeIn same callNames roleNames lodgedNames
-    roleIn lodgedIn natural each digit valueFrom naturalOf unsignedOf negativeOf signedOf readNumber isDated isMonthed numbered datedDay
+    roleOfWord lodgedIn natural each digit valueFrom naturalOf unsignedOf negativeOf signedOf readNumber isDated isMonthed numbered datedDay
     numberedMonth datedMonth dayIn monthIn isDate monthNumber dayOfDate firstDay lengthOf lengthIn leap nextOf faulted taken fieldOf closed
-    withNumber numbersOf wordsLeft figuresOf listOf onLists listsOf freshOf admitOf cashOf letterOf lodgeOf releaseOf annualOf advanceOf
+    withNumber nextNumbers wordsLeft figuresOf listOf onLists listsOf freshOf admitOf cashOf letterOf lodgeOf releaseOf annualOf advanceOf
     statementOf settleOf specialOf
 examples =
     (refl, refl, refl, refl, refl, refl, refl, refl, refl, refl, refl, refl, refl, refl, refl, refl, refl, refl, refl, refl, refl, refl, refl, refl)

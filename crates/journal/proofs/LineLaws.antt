@@ -13,7 +13,7 @@ use Rattle.words.specs.Bytes.{blank, control, some, uncommented}
 use Rattle.words.specs.Words.{apart, onto, words, placeIn}
 use Rattle.words.specs.Found.{NextWord}
 use Rattle.journal.specs.Names.{callNames}
-use Rattle.journal.specs.Fields.{Left, leftAt}
+use Rattle.journal.specs.Fields.{Left, restOfLine}
 use Rattle.journal.specs.Grammar.{plain, callsOf, namedCall, wordsOf, parsed}
 use Rattle.journal.specs.Steps.{ParsedIs}
 use Rattle.journal.specs.declared.Reason.{Reason}
@@ -64,8 +64,8 @@ module _ (s : List ℕ) (start end : ℕ) (x : NextWord s 0 start end) (e : List
 
   pub line-is : (start ≡ end → ⊥) → (k : ℕ) (g : List ℤ) (r : Request)
       → k ≡ placeIn (take (end - start) (drop start s)) (words callText)
-      → ParsedIs (namedCall (length e) k (leftAt s (Place.At end))) e r g → ParsedIs (wordsOf (length e) (words s)) e r g
-  unfolding wordsOf leftAt
+      → ParsedIs (namedCall (length e) k (restOfLine s (Place.At end))) e r g → ParsedIs (wordsOf (length e) (words s)) e r g
+  unfolding wordsOf restOfLine
   line-is n k g r q h =
       let f : k ≡ placeIn (take (end - start) (drop start s)) callNames = q ∙ ap (placeIn (take (end - start) (drop start s))) call-words in
       rw (a-word s 0 start end x n, ← f) h

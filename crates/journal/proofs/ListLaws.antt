@@ -21,8 +21,8 @@ use Rattle.words.specs.Words.{apart, onto, words}
 use Rattle.words.specs.Found.{NextWord}
 use Rattle.words.specs.Numerals.{unsignedOf, signedOf}
 use Rattle.journal.specs.Names.{readNumber}
-use Rattle.journal.specs.Fields.{Left, fault, faulted, faultedPlace, leftAt, wordsLeft}
-use Rattle.journal.specs.Fields.{Numbers, withNumber, numbersOf, Lists, onLists, listOf, listsOf, figuresOf, closed}
+use Rattle.journal.specs.Fields.{Left, fault, faulted, faultedPlace, restOfLine, wordsLeft}
+use Rattle.journal.specs.Fields.{Numbers, withNumber, nextNumbers, Lists, onLists, listOf, listsOf, figuresOf, closed}
 use Rattle.journal.specs.Grammar.{areMarks, lengthsOf, monthNumbered, settleOf, specialOf}
 use Rattle.journal.specs.Steps.{NextIs, FieldIs, ItemIs, FilledIs, ListedIs, ParsedIs}
 use Rattle.journal.specs.declared.Request.{Request}
@@ -82,12 +82,12 @@ pub words-fewer : (s : List ℕ) (at start end : ℕ) → NextWord s at start en
     → length (words (drop end s)) < length (words (drop at s))
 words-fewer s at start end x n = omega (arith, ap length (a-word s at start end x n))
 
-pub words-left : (s : List ℕ) (place : Place) (p k : ℕ) → place ≡ Place.At p → k ≡ length (words (drop p s)) → k ≡ wordsLeft (leftAt s place)
-unfolding leftAt wordsLeft
+pub words-left : (s : List ℕ) (place : Place) (p k : ℕ) → place ≡ Place.At p → k ≡ length (words (drop p s)) → k ≡ wordsLeft (restOfLine s place)
+unfolding restOfLine wordsLeft
 words-left s place p k e f = rw e f
 
-pub none-left : (s : List ℕ) (place : Place) (e : Reason) → place ≡ Place.Failed e → 0 ≡ wordsLeft (leftAt s place)
-unfolding leftAt wordsLeft
+pub none-left : (s : List ℕ) (place : Place) (e : Reason) → place ≡ Place.Failed e → 0 ≡ wordsLeft (restOfLine s place)
+unfolding restOfLine wordsLeft
 none-left s place e f = rw f
 
 -- The loop over the numbers of a list: what is left, y, written into f from place i on, gives what x gives, written into e from `from` on.
@@ -99,15 +99,15 @@ pub record Filling (x y : Numbers) (e : List ℤ) (from : ℕ) (f : List ℤ) (i
   pub long : length f ≡ length e
 
 pub filling-starts : (marks : Bool) (room count : ℕ) (l : Left) (e : List ℤ) (from : ℕ)
-    → Filling (numbersOf marks room count l) (numbersOf marks room (count - 0) l) e from e from
+    → Filling (nextNumbers marks room count l) (nextNumbers marks room (count - 0) l) e from e from
 filling-starts marks room count l e from =
     let z : count - 0 ≡ count = omega arith in rw z (record { same = refl; end = refl; left = refl; long = refl })
 
 -- the next number and the rest
 unrolled : (s : List ℕ) (at : Place) (marks : Bool) (x : Item) (room count k : ℕ) → ItemIs s at marks x → k < count
-    → numbersOf marks room (count - k) (leftAt s at)
-    ≡ withNumber room (x .value) (leftAt s (x .place)) (numbersOf marks (room - 1) (count - (k + 1)) (leftAt s (x .place)))
-unfolding numbersOf
+    → nextNumbers marks room (count - k) (restOfLine s at)
+    ≡ withNumber room (x .value) (restOfLine s (x .place)) (nextNumbers marks (room - 1) (count - (k + 1)) (restOfLine s (x .place)))
+unfolding nextNumbers
 unrolled s at marks x room count k is h =
     let e : count - k ≡ suc (count - (k + 1)) = omega arith in
     rw (e, ← is .value, ← is .left)
@@ -133,58 +133,61 @@ nothing l = record { numbers = []; left = l }
 
 -- the end of the loop: nothing is left
 ended : (x y : Numbers) (s : List ℕ) (e f : List ℤ) (from i : ℕ) (l : Left) (p : Place) → Filling x y e from f i → y ≡ nothing l
-    → leftAt s p ≡ l → FilledIs x s e from (record { end = i; place = p }) f
+    → restOfLine s p ≡ l → FilledIs x s e from (record { end = i; place = p }) f
 ended x y s e f from i l p w q r =
     let g : Filling x (nothing l) e from f i = rw q at w in
     record { end = omega (arith, g .end); left = r ∙ g .left; numbers = g .same }
 
 module _ (s : List ℕ) (marks : Bool) (count from k i : ℕ) (e f : List ℤ) (first at : Place)
-    (w : Filling (numbersOf marks (length e - from) count (leftAt s first))
-    (numbersOf marks (length e - i) (count - k) (leftAt s at)) e from f i) where
+    (w : Filling (nextNumbers marks (length e - from) count (restOfLine s first))
+    (nextNumbers marks (length e - i) (count - k) (restOfLine s at)) e from f i) where
   pub filling-ends : count ≤ k
-      → FilledIs (numbersOf marks (length e - from) count (leftAt s first)) s e from (record { end = i; place = at }) f
-  unfolding numbersOf
+      → FilledIs (nextNumbers marks (length e - from) count (restOfLine s first)) s e from (record { end = i; place = at }) f
+  unfolding nextNumbers
   filling-ends h =
       let z : count - k ≡ 0 = omega arith in
-      let q : numbersOf marks (length e - i) (count - k) (leftAt s at) ≡ nothing (leftAt s at) = rw z in
-      ended (numbersOf marks (length e - from) count (leftAt s first))
-      (numbersOf marks (length e - i) (count - k) (leftAt s at)) s e f from i (leftAt s at) at w q refl
+      let q : nextNumbers marks (length e - i) (count - k) (restOfLine s at) ≡ nothing (restOfLine s at) = rw z in
+      ended (nextNumbers marks (length e - from) count (restOfLine s first))
+      (nextNumbers marks (length e - i) (count - k) (restOfLine s at)) s e f from i (restOfLine s at) at w q refl
 
   module _ (x : Item) (is : ItemIs s at marks x) (h : k < count) where
     abbrev rest : Numbers
-    rest = numbersOf marks (length e - i - 1) (count - (k + 1)) (leftAt s (x .place))
+    rest = nextNumbers marks (length e - i - 1) (count - (k + 1)) (restOfLine s (x .place))
 
     value-is : (v : Signed) → x .value ≡ v
-        → numbersOf marks (length e - i) (count - k) (leftAt s at) ≡ withNumber (length e - i) v (leftAt s (x .place)) rest
+        → nextNumbers marks (length e - i) (count - k) (restOfLine s at) ≡ withNumber (length e - i) v (restOfLine s (x .place)) rest
     value-is v q =
         unrolled s at marks x (length e - i) count k is h
-        ∙ ap (λ (u : Signed). withNumber (length e - i) u (leftAt s (x .place)) rest) q
+        ∙ ap (λ (u : Signed). withNumber (length e - i) u (restOfLine s (x .place)) rest) q
 
     pub filling-faults : x .value ≡ Signed.NoNumber → (p : Place) → p ≡ faultedPlace (x .place) Reason.NotNumber
-        → FilledIs (numbersOf marks (length e - from) count (leftAt s first)) s e from (record { end = i; place = p }) f
+        → FilledIs (nextNumbers marks (length e - from) count (restOfLine s first)) s e from (record { end = i; place = p }) f
     filling-faults q p g =
-        ended (numbersOf marks (length e - from) count (leftAt s first)) (numbersOf marks (length e - i) (count - k) (leftAt s at)) s e f from i
-        (faulted (leftAt s (x .place)) Reason.NotNumber) p w
-        (value-is Signed.NoNumber q ∙ no-number (length e - i) (leftAt s (x .place)) rest)
-        (ap (leftAt s) g ∙ left-faulted s (x .place) Reason.NotNumber)
+        ended (nextNumbers marks (length e - from) count (restOfLine s first))
+        (nextNumbers marks (length e - i) (count - k) (restOfLine s at)) s e f from i
+        (faulted (restOfLine s (x .place)) Reason.NotNumber) p w
+        (value-is Signed.NoNumber q ∙ no-number (length e - i) (restOfLine s (x .place)) rest)
+        (ap (restOfLine s) g ∙ left-faulted s (x .place) Reason.NotNumber)
 
     pub filling-full : (z : ℤ) → x .value ≡ Signed.Value z → length f ≤ i
-        → FilledIs (numbersOf marks (length e - from) count (leftAt s first)) s e from (record { end = i; place = Place.Failed Reason.TooLong }) f
-    unfolding leftAt
+        → FilledIs (nextNumbers marks (length e - from) count (restOfLine s first)) s e from
+        (record { end = i; place = Place.Failed Reason.TooLong }) f
+    unfolding restOfLine
     filling-full z q g =
-        ended (numbersOf marks (length e - from) count (leftAt s first)) (numbersOf marks (length e - i) (count - k) (leftAt s at)) s e f from i
+        ended (nextNumbers marks (length e - from) count (restOfLine s first))
+        (nextNumbers marks (length e - i) (count - k) (restOfLine s at)) s e f from i
         (fault Reason.TooLong) (Place.Failed Reason.TooLong) w
-        (value-is (Signed.Value z) q ∙ no-room (length e - i) z (leftAt s (x .place)) rest (omega (arith, w .long)))
+        (value-is (Signed.Value z) q ∙ no-room (length e - i) z (restOfLine s (x .place)) rest (omega (arith, w .long)))
         refl
 
     pub filling-goes : (z : ℤ) → x .value ≡ Signed.Value z → i < length f
-        → Filling (numbersOf marks (length e - from) count (leftAt s first))
-        (numbersOf marks (length e - (i + 1)) (count - (k + 1)) (leftAt s (x .place))) e from (set f i z) (i + 1)
+        → Filling (nextNumbers marks (length e - from) count (restOfLine s first))
+        (nextNumbers marks (length e - (i + 1)) (count - (k + 1)) (restOfLine s (x .place))) e from (set f i z) (i + 1)
     filling-goes z q g =
         let a : length e - (i + 1) ≡ length e - i - 1 = omega arith in
-        let b = value-is (Signed.Value z) q ∙ with-room (length e - i) z (leftAt s (x .place)) rest (omega (arith, w .long)) in
+        let b = value-is (Signed.Value z) q ∙ with-room (length e - i) z (restOfLine s (x .place)) rest (omega (arith, w .long)) in
         let v :
-        Filling (numbersOf marks (length e - from) count (leftAt s first))
+        Filling (nextNumbers marks (length e - from) count (restOfLine s first))
         (record { numbers = z ∷ rest .numbers; left = rest .left }) e from f i =
         rw b at w in
         rw a
@@ -198,8 +201,8 @@ module _ (s : List ℕ) (marks : Bool) (count from k i : ℕ) (e f : List ℤ) (
 -- A list is its length and then its numbers.
 
 pub list-is : (s : List ℕ) (place : Place) (marks : Bool) (e g : List ℤ) (from : ℕ) (n : Field) (r : Filled) → FieldIs s place Kind.Natural n
-    → FilledIs (numbersOf marks (length e - from) (n .value) (leftAt s (n .place))) s e from r g
-    → FilledIs (listOf marks (length e - from) (leftAt s place)) s e from r g
+    → FilledIs (nextNumbers marks (length e - from) (n .value) (restOfLine s (n .place))) s e from r g
+    → FilledIs (listOf marks (length e - from) (restOfLine s place)) s e from r g
 unfolding listOf
 list-is s place marks e g from n r x y = rw (← x .value, ← x .left) y
 
@@ -248,18 +251,18 @@ lists-next : (room i : ℕ) (l : Left) → i < 7
 lists-next room i l h = ap (λ (ms : List Bool). listsOf ms room l) (marks-from i h) ∙ lists-cons (eqb i 2) (drop (i + 1) areMarks) room l
 
 module _ (s : List ℕ) (i end : ℕ) (e f g : List ℤ) (d n : List ℕ) (at : Place) (x : Lists) (r : Filled) (h : i < 7)
-    (w : Listing x (listsOf (drop i areMarks) (length e - end) (leftAt s at)) e f end d n i)
-    (z : FilledIs (listOf (eqb i 2) (length f - end) (leftAt s at)) s f end r g) where
+    (w : Listing x (listsOf (drop i areMarks) (length e - end) (restOfLine s at)) e f end d n i)
+    (z : FilledIs (listOf (eqb i 2) (length f - end) (restOfLine s at)) s f end r g) where
   pub listing-goes :
-      Listing x (listsOf (drop (i + 1) areMarks) (length e - r .end) (leftAt s (r .place))) e g (r .end) d (set n i (r .end - end)) (i + 1)
+      Listing x (listsOf (drop (i + 1) areMarks) (length e - r .end) (restOfLine s (r .place))) e g (r .end) d (set n i (r .end - end)) (i + 1)
   unfolding onLists
   listing-goes =
-      let a = listOf (eqb i 2) (length e - end) (leftAt s at) in
+      let a = listOf (eqb i 2) (length e - end) (restOfLine s at) in
       let y : FilledIs a s f end r g = rw (w .long) at z in
       let q : length e - r .end ≡ length e - end - length (a .numbers) = omega (arith, y .end) in
       let p : r .end - end ≡ length (a .numbers) = omega (arith, y .end) in
       let b = listsOf (drop (i + 1) areMarks) (length e - end - length (a .numbers)) (a .left) in
-      let v : Listing x (onLists a b) e f end d n i = rw (lists-next (length e - end) i (leftAt s at) h) at w in
+      let v : Listing x (onLists a b) e f end d n i = rw (lists-next (length e - end) i (restOfLine s at) h) at w in
       rw (q, p, y .left)
       (record {
         same = rw (y .end, y .numbers) (sym (sets-append f end (a .numbers) (b .numbers)) ∙ v .same);
@@ -284,19 +287,19 @@ sets-all d vs e =
     sets-eq vs d 0 (omega arith) ∙ ap (λ (t : List ℕ). vs ++ t) (rw z (drop-of-length-le d h)) ∙ append-nil vs
 
 pub listing-ends : (s : List ℕ) (i end room : ℕ) (e f : List ℤ) (d n : List ℕ) (first at : Place) → 7 ≤ i → i ≤ 7 → length d ≡ 7
-    → Listing (listsOf areMarks (length e) (leftAt s first)) (listsOf (drop i areMarks) room (leftAt s at)) e f end d n i
-    → ListedIs (listsOf areMarks (length e) (leftAt s first)) s e (record { lengths = n; place = at }) f
+    → Listing (listsOf areMarks (length e) (restOfLine s first)) (listsOf (drop i areMarks) room (restOfLine s at)) e f end d n i
+    → ListedIs (listsOf areMarks (length e) (restOfLine s first)) s e (record { lengths = n; place = at }) f
 unfolding listsOf
 listing-ends s i end room e f d n first at h k b w =
     let q : i ≡ 7 = omega arith in
     let v :
-    Listing (listsOf areMarks (length e) (leftAt s first))
-    (record { lengths = []; numbers = []; left = leftAt s at }) e f end d n 7 =
+    Listing (listsOf areMarks (length e) (restOfLine s first))
+    (record { lengths = []; numbers = []; left = restOfLine s at }) e f end d n 7 =
     rw q at w in
     record {
       lengths =
           v .lengths
-          ∙ sets-all d (listsOf areMarks (length e) (leftAt s first) .lengths) (b ∙ sym (lists-many areMarks (length e) (leftAt s first)));
+          ∙ sets-all d (listsOf areMarks (length e) (restOfLine s first) .lengths) (b ∙ sym (lists-many areMarks (length e) (restOfLine s first)));
       left = v .left;
       numbers = v .same;
     }
@@ -305,18 +308,18 @@ listing-ends s i end room e f d n first at h k b w =
 
 module _ (s : List ℕ) (place : Place) (e g : List ℤ) (r : Request) where
   pub settle-is : (p m : Field) (n : ℕ) (f : Filled) (month : Month) → FieldIs s place Kind.Natural p → FieldIs s (p .place) Kind.Month m
-      → n ≡ wordsLeft (leftAt s (m .place)) → FilledIs (numbersOf false (length e - 0) n (leftAt s (m .place))) s e 0 f g
-      → month ≡ monthNumbered (m .value) → r ≡ closed (leftAt s (f .place)) (Request.Settle (p .value) month (f .end))
-      → ParsedIs (settleOf (length e) (leftAt s place)) e r g
+      → n ≡ wordsLeft (restOfLine s (m .place)) → FilledIs (nextNumbers false (length e - 0) n (restOfLine s (m .place))) s e 0 f g
+      → month ≡ monthNumbered (m .value) → r ≡ closed (restOfLine s (f .place)) (Request.Settle (p .value) month (f .end))
+      → ParsedIs (settleOf (length e) (restOfLine s place)) e r g
   unfolding settleOf figuresOf
   settle-is p m n f month x y k z q h =
       let a : length e - 0 ≡ length e = omega arith in
-      let w : FilledIs (numbersOf false (length e) n (leftAt s (m .place))) s e 0 f g = rw a at z in
-      let b : f .end ≡ length (numbersOf false (length e) n (leftAt s (m .place)) .numbers) = omega (arith, w .end) in
+      let w : FilledIs (nextNumbers false (length e) n (restOfLine s (m .place))) s e 0 f g = rw a at z in
+      let b : f .end ≡ length (nextNumbers false (length e) n (restOfLine s (m .place)) .numbers) = omega (arith, w .end) in
       rw (← x .value, ← x .left, ← y .value, ← y .left, ← k, ← q)
       (record { request = rw (← w .left, ← b) h; numbers = w .numbers })
 
-  pub special-is : (t : Listed) → ListedIs (listsOf areMarks (length e) (leftAt s place)) s e t g
-      → r ≡ closed (leftAt s (t .place)) (Request.Special (lengthsOf (t .lengths))) → ParsedIs (specialOf (length e) (leftAt s place)) e r g
+  pub special-is : (t : Listed) → ListedIs (listsOf areMarks (length e) (restOfLine s place)) s e t g
+      → r ≡ closed (restOfLine s (t .place)) (Request.Special (lengthsOf (t .lengths))) → ParsedIs (specialOf (length e) (restOfLine s place)) e r g
   unfolding specialOf
   special-is t w h = record { request = rw (← w .left, ← w .lengths) h; numbers = w .numbers }

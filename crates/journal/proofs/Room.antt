@@ -8,18 +8,18 @@ use mathlib.Core.List.{List, [], _∷_, _++_}
 use native.Mathlib.Omega.{arith}
 use borrow.Author.Tests.{eqb-false}
 use lib.Dec.{eqb}
-use lib.ListN.{length, take, drop, getD, length-append}
+use lib.ListN.{length, take, drop, length-append}
 use lib.Seq.{sets-eq, take-append-seam, drop-append-seam}
 use lib.IntN.{ℤ}
 use Rattle.laws.specs.Cases.{split}
-use Rattle.laws.specs.Lists.{All}
+use Rattle.laws.specs.Lists.{all-default}
 use Rattle.calendar.specs.declared.Month.{Month}
 use Rattle.words.specs.Bytes.{control, some, uncommented}
 use Rattle.words.specs.Words.{words, placeIn}
 use Rattle.words.specs.declared.numbers.Signed.{Signed}
 use Rattle.journal.specs.Names.{readNumber, callNames}
 use Rattle.journal.specs.Fields.{Left, more, nextOf, fieldOf, closed}
-use Rattle.journal.specs.Fields.{Numbers, withNumber, numbersOf, figuresOf, wordsLeft, listOf, Lists, onLists, listsOf}
+use Rattle.journal.specs.Fields.{Numbers, withNumber, nextNumbers, figuresOf, wordsLeft, listOf, Lists, onLists, listsOf}
 use Rattle.journal.specs.Grammar.{Parsed, plain, areMarks, freshOf, admitOf, lodgeOf, releaseOf}
 use Rattle.journal.specs.Grammar.{settleOf, annualOf, advanceOf, statementOf, specialOf, callsOf, namedCall, wordsOf, parsed}
 use Rattle.journal.specs.Steps.{ParsedIs}
@@ -36,11 +36,11 @@ with-fits room Signed.NoNumber l rest h = omega arith
 with-fits room (Signed.Value z) l rest h =
     split (eqb room 0) (λ t. rw t (omega arith)) (λ t. let n = eqb-false room 0 t in rw t (omega arith))
 
-numbers-fit : (marks : Bool) (room n : ℕ) (l : Left) → length (numbersOf marks room n l .numbers) ≤ room
-unfolding numbersOf
+numbers-fit : (marks : Bool) (room n : ℕ) (l : Left) → length (nextNumbers marks room n l .numbers) ≤ room
+unfolding nextNumbers
 numbers-fit marks room zero l = omega arith
 numbers-fit marks room (suc n) l =
-    with-fits room (readNumber marks (nextOf l .word)) (nextOf l .left) (numbersOf marks (room - 1) n (nextOf l .left))
+    with-fits room (readNumber marks (nextOf l .word)) (nextOf l .left) (nextNumbers marks (room - 1) n (nextOf l .left))
     (numbers-fit marks (room - 1) n (nextOf l .left))
 
 list-fits : (marks : Bool) (room : ℕ) (l : Left) → length (listOf marks room l .numbers) ≤ room
@@ -64,13 +64,6 @@ infixr 4 _&_
 pub _&_ : {A B : Type 0} → A → B → A × B
 a & b = (a, b)
 
--- what holds of each element, and of what stands past the end, holds at every place
-pub at-place : (P : Parsed → Type 0) (l : List Parsed) (k : ℕ) (d : Parsed) → All P l → P d → P (getD l k d)
-at-place P [] zero d a p = p
-at-place P [] (suc k) d a p = p
-at-place P (x ∷ l) zero d a p = a .0
-at-place P (x ∷ l) (suc k) d a p = at-place P l k d (a .1) p
-
 Fits : ℕ → Parsed → Type 0
 Fits room x = length (x .numbers) ≤ room
 
@@ -92,12 +85,11 @@ special-fits room l = lists-fit areMarks room l
 call-fits : (room k : ℕ) (l : Left) → Fits room (namedCall room k l)
 unfolding namedCall callsOf
 call-fits room k l =
-    at-place (Fits room) (callsOf room l) k (plain (Request.Error Reason.NoCall))
+    all-default (Fits room) (callsOf room l) k (plain (Request.Error Reason.NoCall)) (plain-fits room (Request.Error Reason.NoCall))
     (plain-fits room (freshOf l) & plain-fits room (admitOf l) & plain-fits room (lodgeOf l)
     & plain-fits room (releaseOf l) & settle-fits room l & plain-fits room (annualOf l) & plain-fits room (advanceOf l)
     & plain-fits room (statementOf l) & plain-fits room (closed l Request.Calls) & special-fits room l
     & plain-fits room (closed l Request.Report) & tt)
-    (plain-fits room (Request.Error Reason.NoCall))
 
 words-fit : (room : ℕ) (ws : List (List ℕ)) → Fits room (wordsOf room ws)
 unfolding wordsOf

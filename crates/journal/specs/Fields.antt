@@ -65,10 +65,10 @@ withNumber room (Signed.Value z) l rest =
     cond (eqb room 0) (record { numbers = []; left = fault Reason.TooLong }) (record { numbers = z ∷ rest .numbers; left = rest .left })
 
 -- The next n numbers; those before a fault, if there is one.
-unfoldable pub numbersOf : Bool → ℕ → ℕ → Left → Numbers
-numbersOf marks room zero l = record { numbers = []; left = l }
-numbersOf marks room (suc n) l =
-    withNumber room (readNumber marks (nextOf l .word)) (nextOf l .left) (numbersOf marks (room - 1) n (nextOf l .left))
+unfoldable pub nextNumbers : Bool → ℕ → ℕ → Left → Numbers
+nextNumbers marks room zero l = record { numbers = []; left = l }
+nextNumbers marks room (suc n) l =
+    withNumber room (readNumber marks (nextOf l .word)) (nextOf l .left) (nextNumbers marks (room - 1) n (nextOf l .left))
 
 -- How many words are left.
 unfoldable pub wordsLeft : Left → ℕ
@@ -77,11 +77,11 @@ wordsLeft (fault e) = 0
 
 -- "FIGURE..": any number of figures, none included.
 unfoldable pub figuresOf : ℕ → Left → Numbers
-figuresOf room l = numbersOf false room (wordsLeft l) l
+figuresOf room l = nextNumbers false room (wordsLeft l) l
 
 -- "each LIST is its length and then its numbers".
 unfoldable pub listOf : Bool → ℕ → Left → Numbers
-listOf marks room l = numbersOf marks room (fieldOf Kind.Natural l .value) (fieldOf Kind.Natural l .left)
+listOf marks room l = nextNumbers marks room (fieldOf Kind.Natural l .value) (fieldOf Kind.Natural l .left)
 
 -- Lists one after the other: the length of each, and their numbers in a row.
 pub record Lists : Type 0 where
@@ -98,9 +98,9 @@ listsOf (m ∷ ms) room l =
     onLists (listOf m room l) (listsOf ms (room - length (listOf m room l .numbers)) (listOf m room l .left))
 
 -- What is left of a line s at a place in it.
-unfoldable pub leftAt : List ℕ → Place → Left
-leftAt s (Place.At p) = more (words (drop p s))
-leftAt s (Place.Failed e) = fault e
+unfoldable pub restOfLine : List ℕ → Place → Left
+restOfLine s (Place.At p) = more (words (drop p s))
+restOfLine s (Place.Failed e) = fault e
 
 -- The same of a place: a fault, unless there was one before.
 abbrev pub faultedPlace : Place → Reason → Place

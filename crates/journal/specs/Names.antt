@@ -45,8 +45,8 @@ unfoldable pub lodgedNames : List (List ℕ)
 lodgedNames = text "cash" ∷ text "letter" ∷ []
 
 -- "ROLE is a number or the role's name in lower case".
-unfoldable pub roleIn : List ℕ → Number
-roleIn w = cond (ltb (placeIn w roleNames) 6) (Number.Value (placeIn w roleNames)) (naturalOf w)
+unfoldable pub roleOfWord : List ℕ → Number
+roleOfWord w = cond (ltb (placeIn w roleNames) 6) (Number.Value (placeIn w roleNames)) (naturalOf w)
 
 -- `cash` or `letter`.
 unfoldable pub lodgedIn : List ℕ → Number
@@ -55,7 +55,7 @@ lodgedIn w = cond (ltb (placeIn w lodgedNames) 2) (Number.Value (placeIn w lodge
 -- A word as what is due at its place.
 abbrev pub readAs : Kind → List ℕ → Number
 readAs Kind.Natural w = naturalOf w
-readAs Kind.Role w = roleIn w
+readAs Kind.Role w = roleOfWord w
 readAs Kind.Day w = dayIn w
 readAs Kind.Month w = monthIn w
 readAs Kind.Lodged w = lodgedIn w

@@ -8,7 +8,7 @@ use lib.ListN.{length, take, drop}
 use lib.Seq.{sets}
 use lib.IntN.{ℤ}
 use Rattle.journal.specs.Names.{readNumber}
-use Rattle.journal.specs.Fields.{nextOf, fieldOf, leftAt, Numbers, Lists}
+use Rattle.journal.specs.Fields.{nextOf, fieldOf, restOfLine, Numbers, Lists}
 use Rattle.journal.specs.Grammar.{Parsed}
 use Rattle.journal.specs.declared.Request.{Request}
 use Rattle.journal.specs.declared.fields.Kind.{Kind}
@@ -23,29 +23,29 @@ use Rattle.journal.specs.declared.lists.Listed.{Listed}
 pub record NextIs (s : List ℕ) (place : Place) (r : Next) : Type 0 where
   pub ordered : r .start ≤ r .end
   pub within : r .end ≤ length s
-  pub word : take (r .end - r .start) (drop (r .start) s) ≡ nextOf (leftAt s place) .word
-  pub left : leftAt s (r .place) ≡ nextOf (leftAt s place) .left
+  pub word : take (r .end - r .start) (drop (r .start) s) ≡ nextOf (restOfLine s place) .word
+  pub left : restOfLine s (r .place) ≡ nextOf (restOfLine s place) .left
 
 -- The next word of s after a place, as what is due.
 pub record FieldIs (s : List ℕ) (place : Place) (kind : Kind) (r : Field) : Type 0 where
-  pub value : r .value ≡ fieldOf kind (leftAt s place) .value
-  pub left : leftAt s (r .place) ≡ fieldOf kind (leftAt s place) .left
+  pub value : r .value ≡ fieldOf kind (restOfLine s place) .value
+  pub left : restOfLine s (r .place) ≡ fieldOf kind (restOfLine s place) .left
 
 -- A number of a list: the next word of s after a place, as a number.
 pub record ItemIs (s : List ℕ) (place : Place) (marks : Bool) (r : Item) : Type 0 where
-  pub value : r .value ≡ readNumber marks (nextOf (leftAt s place) .word)
-  pub left : leftAt s (r .place) ≡ nextOf (leftAt s place) .left
+  pub value : r .value ≡ readNumber marks (nextOf (restOfLine s place) .word)
+  pub left : restOfLine s (r .place) ≡ nextOf (restOfLine s place) .left
 
 -- Numbers x written into a list e from a place on, which leaves the list f; the place behind them, and what is left of s.
 pub record FilledIs (x : Numbers) (s : List ℕ) (e : List ℤ) (from : ℕ) (r : Filled) (f : List ℤ) : Type 0 where
   pub end : r .end ≡ from + length (x .numbers)
-  pub left : leftAt s (r .place) ≡ x .left
+  pub left : restOfLine s (r .place) ≡ x .left
   pub numbers : f ≡ sets e from (x .numbers)
 
 -- Lists x written into a list e one after the other, which leaves the list f.
 pub record ListedIs (x : Lists) (s : List ℕ) (e : List ℤ) (r : Listed) (f : List ℤ) : Type 0 where
   pub lengths : r .lengths ≡ x .lengths
-  pub left : leftAt s (r .place) ≡ x .left
+  pub left : restOfLine s (r .place) ≡ x .left
   pub numbers : f ≡ sets e 0 (x .numbers)
 
 -- The call that a line is, and its numbers written to the front of a list e, which leaves the list f.

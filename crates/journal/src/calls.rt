@@ -1,6 +1,6 @@
 // The calls that have no lists, each from the place after its first word.
 ghost use mathlib.Core.Path.{_≡_};
-ghost use Rattle.journal.specs.Fields.{leftAt};
+ghost use Rattle.journal.specs.Fields.{restOfLine};
 ghost use Rattle.journal.specs.Grammar.{freshOf, admitOf, cashOf, letterOf, lodgeOf, releaseOf, annualOf, advanceOf, statementOf};
 ghost use Rattle.journal.specs.Grammar.{dayNumbered, monthNumbered};
 use crate::Request;
@@ -28,7 +28,7 @@ pub fn month_numbered(n: u64) -> Month
 
 // fresh D
 pub fn fresh(s: &[u8], place: Place) -> Request
-    ensures { λ r. ⌜ r ≡ freshOf (leftAt (now (s .entry)) place) ⌝ }
+    ensures { λ r. ⌜ r ≡ freshOf (restOfLine (now (s .entry)) place) ⌝ }
 {
     let d = take_field(s, place, Kind::Day);
     let after = d.place;
@@ -37,7 +37,7 @@ pub fn fresh(s: &[u8], place: Place) -> Request
 
 // admit P ROLE
 pub fn admit(s: &[u8], place: Place) -> Request
-    ensures { λ r. ⌜ r ≡ admitOf (leftAt (now (s .entry)) place) ⌝ }
+    ensures { λ r. ⌜ r ≡ admitOf (restOfLine (now (s .entry)) place) ⌝ }
 {
     let p = take_field(s, place, Kind::Natural);
     let after_p = p.place;
@@ -48,7 +48,7 @@ pub fn admit(s: &[u8], place: Place) -> Request
 
 // lodge P POSITION cash AMOUNT, from the amount on
 fn cash(s: &[u8], place: Place, participant: u64, position: u64) -> Request
-    ensures { λ r. ⌜ r ≡ cashOf participant position (leftAt (now (s .entry)) place) ⌝ }
+    ensures { λ r. ⌜ r ≡ cashOf participant position (restOfLine (now (s .entry)) place) ⌝ }
 {
     let a = take_field(s, place, Kind::Natural);
     let after = a.place;
@@ -57,7 +57,7 @@ fn cash(s: &[u8], place: Place, participant: u64, position: u64) -> Request
 
 // lodge P POSITION letter AMOUNT FIRST LAST, from the amount on
 fn letter(s: &[u8], place: Place, participant: u64, position: u64) -> Request
-    ensures { λ r. ⌜ r ≡ letterOf participant position (leftAt (now (s .entry)) place) ⌝ }
+    ensures { λ r. ⌜ r ≡ letterOf participant position (restOfLine (now (s .entry)) place) ⌝ }
 {
     let a = take_field(s, place, Kind::Natural);
     let after_a = a.place;
@@ -76,7 +76,7 @@ fn letter(s: &[u8], place: Place, participant: u64, position: u64) -> Request
 
 // lodge P POSITION cash .. and lodge P POSITION letter ..
 pub fn lodge(s: &[u8], place: Place) -> Request
-    ensures { λ r. ⌜ r ≡ lodgeOf (leftAt (now (s .entry)) place) ⌝ }
+    ensures { λ r. ⌜ r ≡ lodgeOf (restOfLine (now (s .entry)) place) ⌝ }
 {
     let p = take_field(s, place, Kind::Natural);
     let after_p = p.place;
@@ -92,7 +92,7 @@ pub fn lodge(s: &[u8], place: Place) -> Request
 
 // release P POSITION AMOUNT
 pub fn release(s: &[u8], place: Place) -> Request
-    ensures { λ r. ⌜ r ≡ releaseOf (leftAt (now (s .entry)) place) ⌝ }
+    ensures { λ r. ⌜ r ≡ releaseOf (restOfLine (now (s .entry)) place) ⌝ }
 {
     let p = take_field(s, place, Kind::Natural);
     let after_p = p.place;
@@ -105,7 +105,7 @@ pub fn release(s: &[u8], place: Place) -> Request
 
 // annual P
 pub fn annual(s: &[u8], place: Place) -> Request
-    ensures { λ r. ⌜ r ≡ annualOf (leftAt (now (s .entry)) place) ⌝ }
+    ensures { λ r. ⌜ r ≡ annualOf (restOfLine (now (s .entry)) place) ⌝ }
 {
     let p = take_field(s, place, Kind::Natural);
     let after = p.place;
@@ -114,7 +114,7 @@ pub fn annual(s: &[u8], place: Place) -> Request
 
 // advance T B
 pub fn advance(s: &[u8], place: Place) -> Request
-    ensures { λ r. ⌜ r ≡ advanceOf (leftAt (now (s .entry)) place) ⌝ }
+    ensures { λ r. ⌜ r ≡ advanceOf (restOfLine (now (s .entry)) place) ⌝ }
 {
     let t = take_field(s, place, Kind::Day);
     let after_t = t.place;
@@ -126,7 +126,7 @@ pub fn advance(s: &[u8], place: Place) -> Request
 
 // statement P
 pub fn statement(s: &[u8], place: Place) -> Request
-    ensures { λ r. ⌜ r ≡ statementOf (leftAt (now (s .entry)) place) ⌝ }
+    ensures { λ r. ⌜ r ≡ statementOf (restOfLine (now (s .entry)) place) ⌝ }
 {
     let p = take_field(s, place, Kind::Natural);
     let after = p.place;

@@ -1,7 +1,7 @@
 // The words of a line taken one by one, from the left to the right. The first fault is kept.
 ghost use mathlib.Core.Path.{_≡_};
-ghost use Rattle.journal.specs.Names.{roleIn, lodgedIn, readAs, whyNot};
-ghost use Rattle.journal.specs.Fields.{leftAt, faultedPlace, closed as Fields·closed};
+ghost use Rattle.journal.specs.Names.{roleOfWord, lodgedIn, readAs, whyNot};
+ghost use Rattle.journal.specs.Fields.{restOfLine, faultedPlace, closed as Fields·closed};
 ghost use Rattle.journal.specs.Steps.{NextIs, FieldIs};
 use crate::Reason;
 use crate::Request;
@@ -70,7 +70,7 @@ pub fn take_word(s: &[u8], place: Place) -> Next
 
 // A word as a role.
 fn role_in(w: &[u8]) -> Number
-    ensures { λ r. ⌜ r ≡ roleIn (now (w .entry)) ⌝ }
+    ensures { λ r. ⌜ r ≡ roleOfWord (now (w .entry)) ⌝ }
 {
     let k = place_of(
         w,
@@ -151,7 +151,7 @@ pub fn take_field(s: &[u8], place: Place, kind: Kind) -> Field
 
 // A call whose words are all read.
 pub fn closed(s: &[u8], place: Place, request: Request) -> Request
-    ensures { λ r. ⌜ r ≡ Fields·closed (leftAt (now (s .entry)) place) request ⌝ }
+    ensures { λ r. ⌜ r ≡ Fields·closed (restOfLine (now (s .entry)) place) request ⌝ }
 {
     match place {
         Place::Failed(e) => Request::Error(e),

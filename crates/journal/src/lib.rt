@@ -1,7 +1,7 @@
 // One line of the journal: the call that it is, read from its bytes.
 ghost use lib.ListN.{length};
 ghost use Rattle.words.specs.Words.{words as Words·words};
-ghost use Rattle.journal.specs.Fields.{leftAt};
+ghost use Rattle.journal.specs.Fields.{restOfLine};
 ghost use Rattle.journal.specs.Grammar.{namedCall, wordsOf, parsed};
 ghost use Rattle.journal.specs.Steps.{ParsedIs};
 use calendar::Day;
@@ -68,7 +68,7 @@ pub enum Request {
 
 // The call whose name has place k among the names, from the place after it.
 fn call(k: usize, s: &[u8], place: Place, numbers: &mut [i64]) -> Request
-    ensures { λ r. ⌜ ParsedIs (namedCall (length (now (numbers .entry))) k (leftAt (now (s .entry)) place))
+    ensures { λ r. ⌜ ParsedIs (namedCall (length (now (numbers .entry))) k (restOfLine (now (s .entry)) place))
         (now (numbers .entry)) r (now (numbers .exit)) ⌝ }
 {
     match k {

@@ -4,7 +4,7 @@ ghost use Prim.Native.Nat.{_-_};
 ghost use lib.ListN.{length, drop};
 ghost use Rattle.words.specs.Words.{words};
 ghost use Rattle.journal.specs.Names.{readNumber};
-ghost use Rattle.journal.specs.Fields.{leftAt, wordsLeft, numbersOf, listOf, listsOf};
+ghost use Rattle.journal.specs.Fields.{restOfLine, wordsLeft, nextNumbers, listOf, listsOf};
 ghost use Rattle.journal.specs.Grammar.{areMarks, settleOf, specialOf};
 ghost use Rattle.journal.specs.Steps.{ItemIs, FilledIs, ListedIs, ParsedIs};
 use crate::Lengths;
@@ -82,7 +82,7 @@ fn count_words(s: &[u8], from: usize) -> usize
 
 // How many words are left; none after a fault.
 fn words_left(s: &[u8], place: Place) -> usize
-    ensures { λ r. ⌜ r ≡ wordsLeft (leftAt (now (s .entry)) place) ⌝ }
+    ensures { λ r. ⌜ r ≡ wordsLeft (restOfLine (now (s .entry)) place) ⌝ }
 {
     match place {
         Place::At(p) => count_words(s, p),
@@ -99,7 +99,7 @@ fn fill(
     numbers: &mut [i64],
     from: usize,
 ) -> Filled
-    ensures { λ r. ⌜ FilledIs (numbersOf marks (length (now (numbers .entry)) - from) count (leftAt (now (s .entry)) place))
+    ensures { λ r. ⌜ FilledIs (nextNumbers marks (length (now (numbers .entry)) - from) count (restOfLine (now (s .entry)) place))
         (now (s .entry)) (now (numbers .entry)) from r (now (numbers .exit)) ⌝ }
 {
     let mut at = place;
@@ -131,7 +131,7 @@ fn fill(
 
 // Writes a list, which is its length and then its numbers, from a place of the slice on.
 fn list(s: &[u8], place: Place, marks: bool, numbers: &mut [i64], from: usize) -> Filled
-    ensures { λ r. ⌜ FilledIs (listOf marks (length (now (numbers .entry)) - from) (leftAt (now (s .entry)) place))
+    ensures { λ r. ⌜ FilledIs (listOf marks (length (now (numbers .entry)) - from) (restOfLine (now (s .entry)) place))
         (now (s .entry)) (now (numbers .entry)) from r (now (numbers .exit)) ⌝ }
 {
     let n = take_field(s, place, Kind::Natural);
@@ -141,7 +141,7 @@ fn list(s: &[u8], place: Place, marks: bool, numbers: &mut [i64], from: usize) -
 
 // Writes the seven lists of a special guarantee one after the other; the third has the marks.
 fn lists(s: &[u8], place: Place, numbers: &mut [i64]) -> Listed
-    ensures { λ r. ⌜ ListedIs (listsOf areMarks (length (now (numbers .entry))) (leftAt (now (s .entry)) place))
+    ensures { λ r. ⌜ ListedIs (listsOf areMarks (length (now (numbers .entry))) (restOfLine (now (s .entry)) place))
         (now (s .entry)) (now (numbers .entry)) r (now (numbers .exit)) ⌝ }
 {
     let mut lengths = [0usize; 7];
@@ -164,7 +164,7 @@ fn lists(s: &[u8], place: Place, numbers: &mut [i64]) -> Listed
 
 // settle P MONTH FIGURE..
 pub fn settle(s: &[u8], place: Place, numbers: &mut [i64]) -> Request
-    ensures { λ r. ⌜ ParsedIs (settleOf (length (now (numbers .entry))) (leftAt (now (s .entry)) place))
+    ensures { λ r. ⌜ ParsedIs (settleOf (length (now (numbers .entry))) (restOfLine (now (s .entry)) place))
         (now (numbers .entry)) r (now (numbers .exit)) ⌝ }
 {
     let p = take_field(s, place, Kind::Natural);
@@ -180,7 +180,7 @@ pub fn settle(s: &[u8], place: Place, numbers: &mut [i64]) -> Request
 
 // special LIST LIST LIST LIST LIST LIST LIST
 pub fn special(s: &[u8], place: Place, numbers: &mut [i64]) -> Request
-    ensures { λ r. ⌜ ParsedIs (specialOf (length (now (numbers .entry))) (leftAt (now (s .entry)) place))
+    ensures { λ r. ⌜ ParsedIs (specialOf (length (now (numbers .entry))) (restOfLine (now (s .entry)) place))
         (now (numbers .entry)) r (now (numbers .exit)) ⌝ }
 {
     let t = lists(s, place, numbers);

@@ -17,7 +17,8 @@ use Rattle.file.specs.declared.Position.the-variants.{Empty, Cash, Letter}
 use Rattle.file.specs.declared.Slot.{Slot}
 use Rattle.file.specs.declared.OpenCall.{OpenCall}
 use Rattle.file.specs.declared.MonthTotal.{MonthTotal}
-use Rattle.layout.specs.Parts.{numberOf, flagOf, flagWord, signedOf, zigzagOf, slotOfWords, callOfWords, totalOfWords, firstWord, lastWord}
+use Rattle.layout.specs.Parts.{numberOf, flagOf, flagWord, signedOfWord, zigzagOf, slotOfWords, openCallOfWords, totalOfWords}
+use Rattle.layout.specs.Parts.{firstWord, lastWord}
 use Rattle.layout.specs.Parts.{positionOf, written, SlotBack, CallBack, TotalBack}
 use Rattle.layout.proofs.Zigzag.{signed-back}
 
@@ -37,7 +38,7 @@ pub slot-back : (s : Slot) (k l : ℕ) → k ≡ firstWord (s .position) → l �
 slot-back s k l p q f g = position-back (s .position) k l p q f g
 
 pub call-back : (c : OpenCall) → c .last .0 < small → CallBack c
-unfolding callOfWords
+unfolding openCallOfWords
 call-back c h = simp (number-back (c .last .0) h)
 
 pub flag-back : (b : Bool) → flagOf (flagWord b) ≡ b
@@ -66,7 +67,7 @@ unfolding written
 four-written l at a b c d = simp (add-one, add-two, add-three)
 
 -- A month's total from its parts.
-pub total-made : (r m t : ℕ) (f : Bool) (n : ℕ) (z y : ℤ) → f ≡ flagOf r → n ≡ numberOf m → z ≡ signedOf t → y ≡ z
+pub total-made : (r m t : ℕ) (f : Bool) (n : ℕ) (z y : ℤ) → f ≡ flagOf r → n ≡ numberOf m → z ≡ signedOfWord t → y ≡ z
     → _≡_ {A = MonthTotal} (record { recorded = f; month = record { 0 = n }; total = y }) (totalOfWords r m t)
 unfolding totalOfWords
 total-made r m t f n z y p q s u = simp (p, q, u, s)

@@ -15,35 +15,26 @@ use Rattle.laws.specs.Lists.{All, table}
 use Rattle.laws.specs.Tabulated.{length-table, getD-table, set-table-as, table-ext, replicate-table}
 use Rattle.file.specs.declared.File.{File}
 use Rattle.file.specs.Admit.{noFile}
-use Rattle.layout.specs.Parts.{numberOf, slotOfWords, callOfWords, totalOfWords, signedOf, slotWords, callWords, totalWords, zigzagOf}
-use Rattle.layout.specs.Parts.{SlotBack, CallBack, TotalBack, written}
+use Rattle.layout.specs.Parts.{numberOf, slotOfWords, openCallOfWords, totalOfWords, signedOfWord, zigzagOf, written}
 use Rattle.layout.specs.Files.{fileOfWords, slotsOfWords, callsOfWords, totalsOfWords, wordsAt, flat, fileWords, Put}
-use Rattle.layout.specs.Words.{place, fileIn, bookOfWords, bookWords}
+use Rattle.layout.specs.Words.{place, fileInWords, bookOfWords, bookWords}
 use Rattle.layout.proofs.Written.{length-written, written-before, written-behind, written-first, written-later}
-use Rattle.layout.proofs.Rows.{flat-length}
 use Rattle.layout.proofs.FileLaws.{file-ext}
 
 -- ---- the files of a book in words
 
 pub book-long : (l : List ℕ) → length (bookOfWords l .files) ≡ 64
 unfolding bookOfWords
-book-long l = length-table 64 (λ p. fileIn l p)
+book-long l = length-table 64 (λ p. fileInWords l p)
 
-pub book-file : (l : List ℕ) (p : ℕ) → p ≤ 63 → getD (bookOfWords l .files) p noFile ≡ fileIn l p
+pub book-file : (l : List ℕ) (p : ℕ) → p ≤ 63 → getD (bookOfWords l .files) p noFile ≡ fileInWords l p
 unfolding bookOfWords
-book-file l p h = getD-table 64 (λ p. fileIn l p) p noFile (omega arith)
+book-file l p h = getD-table 64 (λ p. fileInWords l p) p noFile (omega arith)
 
 -- A file that is read has 96 words.
 pub read-long : (w : ℕ → ℕ) → length (fileWords (fileOfWords w)) ≡ 96
-unfolding fileWords fileOfWords slotsOfWords callsOfWords totalsOfWords
-read-long w =
-    simp length-append
-    (omega (
-      arith,
-      flat-length slotWords 4 (λ x. refl) SlotBack (slotsOfWords w),
-      flat-length callWords 2 (λ x. refl) CallBack (callsOfWords w),
-      flat-length totalWords 3 (λ x. refl) TotalBack (totalsOfWords w),
-    ))
+unfolding fileWords fileOfWords slotsOfWords callsOfWords totalsOfWords flat
+read-long w = refl
 
 -- ---- one file is put back
 
@@ -58,7 +49,7 @@ module _ (l m : List ℕ) (p : ℕ) (g : File) (low : p ≤ 63) (put : Put l (pl
   later j h =
       sym (ap (λ (z : List ℕ). getD z j 0) (put .stored) ∙ written-behind l (place p + 1) (fileWords g) j (omega (arith, put .long)))
 
-  others : (j : ℕ) → (j ≡ p → ⊥) → fileIn l j ≡ fileIn m j
+  others : (j : ℕ) → (j ≡ p → ⊥) → fileInWords l j ≡ fileInWords m j
   others j ne =
       split (ltb j p)
       (λ e. file-ext (wordsAt l (place j)) (wordsAt m (place j))
@@ -70,7 +61,7 @@ module _ (l m : List ℕ) (p : ℕ) (g : File) (low : p ≤ 63) (put : Put l (pl
   unfolding bookOfWords
   put-book =
       sym (λ i. record {
-        files = set-table-as 64 (λ j. fileIn l j) (λ j. fileIn m j) p g (sym (put .back)) others i;
+        files = set-table-as 64 (λ j. fileInWords l j) (λ j. fileInWords m j) p g (sym (put .back)) others i;
         today = record { 0 = numberOf (other 1 (omega arith) i) };
         made = other 2 (omega arith) i;
       })
@@ -85,7 +76,7 @@ pub made-book : (m : List ℕ) (n : ℕ) → 3 ≤ length m
 unfolding bookOfWords
 made-book m n long =
     λ i. record {
-      files = table-ext 64 (λ p. fileIn (set m 2 n) p) (λ p. fileIn m p)
+      files = table-ext 64 (λ p. fileInWords (set m 2 n) p) (λ p. fileInWords m p)
           (λ p k. file-ext (wordsAt (set m 2 n) (place p)) (wordsAt m (place p))
           (λ j a b. getD-set-other m 2 (place p + j) n 0 (λ e. omega arith)))
           i;
@@ -98,7 +89,7 @@ pub today-book : (m : List ℕ) (d : ℕ) → 3 ≤ length m → d ≤ 29219
 unfolding bookOfWords
 today-book m d long h =
     λ i. record {
-      files = table-ext 64 (λ p. fileIn (set m 1 d) p) (λ p. fileIn m p)
+      files = table-ext 64 (λ p. fileInWords (set m 1 d) p) (λ p. fileInWords m p)
           (λ p k. file-ext (wordsAt (set m 1 d) (place p)) (wordsAt m (place p))
           (λ j a b. getD-set-other m 1 (place p + j) d 0 (λ e. omega arith)))
           i;
@@ -166,12 +157,12 @@ canonical-put l m p g same low put =
     ∙ ap bookWords (sym (put-book l m p g low put))
 
 -- a file's words stand at its place
-pub words-stand : (l : List ℕ) (p : ℕ) → l ≡ bookWords (bookOfWords l) → p ≤ 63 → l ≡ written l (place p + 1) (fileWords (fileIn l p))
+pub words-stand : (l : List ℕ) (p : ℕ) → l ≡ bookWords (bookOfWords l) → p ≤ 63 → l ≡ written l (place p + 1) (fileWords (fileInWords l p))
 unfolding bookWords
 words-stand l p same low =
     let b = bookOfWords l in
     let F = flat fileWords (b .files) in
-    let f = fileIn l p in
+    let f = fileInWords l p in
     let at : 3 + 96 * p ≡ place p + 1 = omega arith in
     let room = files-length (b .files) (files-long l) in
     let many = book-long l in
@@ -200,7 +191,7 @@ canonical-today m d same long h = ap (λ (z : List ℕ). set z 1 d) same ∙ ap 
 
 -- A file of zeros is the file of a participant that isn't admitted.
 pub zero-file : fileOfWords (λ (k : ℕ). 0) ≡ noFile
-unfolding fileOfWords slotsOfWords callsOfWords totalsOfWords slotOfWords callOfWords totalOfWords signedOf
+unfolding fileOfWords slotsOfWords callsOfWords totalsOfWords slotOfWords openCallOfWords totalOfWords signedOfWord
 zero-file = refl
 
 -- The words of a fresh book on day d.
@@ -217,7 +208,7 @@ pub fresh-words : (d : ℕ) → d ≤ 29219 → bookOfWords (freshWords d) ≡ r
 unfolding bookOfWords
 fresh-words d h =
     λ i. record {
-      files = (table-ext 64 (λ p. fileIn (freshWords d) p) (λ p. noFile)
+      files = (table-ext 64 (λ p. fileInWords (freshWords d) p) (λ p. noFile)
           (λ p k. file-ext (wordsAt (freshWords d) (place p)) (λ (j : ℕ). 0) (λ j a b. behind-head d (place p + j) (omega arith)) ∙ zero-file)
           ∙ sym (replicate-table 64 noFile))
           i;
@@ -228,7 +219,8 @@ fresh-words d h =
     day : numberOf d ≡ d
     day = omega arith
 
-zero-words : fileWords noFile ≡ replicate 96 0
+-- The words of a participant that is not admitted are zeros.
+pub zero-words : fileWords noFile ≡ replicate 96 0
 unfolding fileWords flat zigzagOf
 zero-words = refl
 

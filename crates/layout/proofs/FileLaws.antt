@@ -19,9 +19,9 @@ use Rattle.file.specs.declared.Position.the-variants.{Empty}
 use Rattle.file.specs.Position.{slotOf}
 use Rattle.file.specs.Calls.{callOf}
 use Rattle.file.specs.Totals.{noTotal}
-use Rattle.layout.specs.Parts.{flagOf, slotOfWords, callOfWords, totalOfWords, slotWords, callWords, totalWords, written, SlotBack}
+use Rattle.layout.specs.Parts.{flagOf, slotOfWords, openCallOfWords, totalOfWords, slotWords, openCallWords, totalWords, written, SlotBack}
 use Rattle.layout.specs.Parts.{CallBack, TotalBack}
-use Rattle.layout.specs.Files.{slotIn, callIn, totalIn, slotsOfWords, callsOfWords, totalsOfWords, fileOfWords, wordsAt, flat, ownWords}
+use Rattle.layout.specs.Files.{slotIn, callIn, monthTotalIn, slotsOfWords, callsOfWords, totalsOfWords, fileOfWords, wordsAt, flat, ownWords}
 use Rattle.layout.specs.Files.{fileWords, Put, PutRows}
 use Rattle.layout.proofs.Backs.{flag-back}
 use Rattle.layout.proofs.Written.{written-next, written-in}
@@ -47,10 +47,10 @@ module _ (l : List ℕ) (at k : ℕ) where
   unfolding callsOfWords
   call-there d h =
       let first : at + (42 + 2 * k) ≡ at + (41 + 2 * k) + 1 = omega arith in
-      getD-table 4 (λ j. callOfWords (w (41 + 2 * j)) (w (42 + 2 * j))) k d h
-      ∙ (λ i. callOfWords (getD l (at + (41 + 2 * k)) 0) (getD l (first i) 0))
+      getD-table 4 (λ j. openCallOfWords (w (41 + 2 * j)) (w (42 + 2 * j))) k d h
+      ∙ (λ i. openCallOfWords (getD l (at + (41 + 2 * k)) 0) (getD l (first i) 0))
 
-  total-there : (d : MonthTotal) → k < 16 → getD (totalsOfWords w) k d ≡ totalIn l (at + (49 + 3 * k))
+  total-there : (d : MonthTotal) → k < 16 → getD (totalsOfWords w) k d ≡ monthTotalIn l (at + (49 + 3 * k))
   unfolding totalsOfWords
   total-there d h =
       let first : at + (50 + 3 * k) ≡ at + (49 + 3 * k) + 1 = omega arith in
@@ -68,7 +68,7 @@ module _ (l : List ℕ) (at k : ℕ) where
   calls-next before now s f h e = filling-next 4 (callsOfWords w) k before now s (callOf 0 0) f h (e ∙ sym (call-there (callOf 0 0) h))
 
   pub totals-next : (before now : List MonthTotal) (s : MonthTotal) → Filling 16 k (totalsOfWords w) before now → k < 16
-      → s ≡ totalIn l (at + (49 + 3 * k)) → Filling 16 (k + 1) (totalsOfWords w) before (set now k s)
+      → s ≡ monthTotalIn l (at + (49 + 3 * k)) → Filling 16 (k + 1) (totalsOfWords w) before (set now k s)
   totals-next before now s f h e = filling-next 16 (totalsOfWords w) k before now s noTotal f h (e ∙ sym (total-there noTotal h))
 
 -- There are as many as a file has.
@@ -121,9 +121,9 @@ module _ (w v : ℕ → ℕ) (same : (k : ℕ) → 1 ≤ k → k ≤ 96 → w k 
   calls-ext : callsOfWords w ≡ callsOfWords v
   unfolding callsOfWords
   calls-ext =
-      table-ext 4 (λ k. callOfWords (w (41 + 2 * k)) (w (42 + 2 * k)))
-      (λ k. callOfWords (v (41 + 2 * k)) (v (42 + 2 * k)))
-      (λ k h i. callOfWords (same (41 + 2 * k) (omega arith) (omega arith) i) (same (42 + 2 * k) (omega arith) (omega arith) i))
+      table-ext 4 (λ k. openCallOfWords (w (41 + 2 * k)) (w (42 + 2 * k)))
+      (λ k. openCallOfWords (v (41 + 2 * k)) (v (42 + 2 * k)))
+      (λ k h i. openCallOfWords (same (41 + 2 * k) (omega arith) (omega arith) i) (same (42 + 2 * k) (omega arith) (omega arith) i))
 
   totals-ext : totalsOfWords w ≡ totalsOfWords v
   unfolding totalsOfWords
@@ -174,10 +174,10 @@ slots-back w xs d long all reads =
     ∙ listed 8 xs d long
 
 calls-back : (w : ℕ → ℕ) (xs : List OpenCall) (d : OpenCall) → length xs ≡ 4 → All CallBack xs
-    → ((i j m : ℕ) → i < 4 → j < 2 → m ≡ 41 + (2 * i + j) → w m ≡ getD (callWords (getD xs i d)) j 0) → callsOfWords w ≡ xs
+    → ((i j m : ℕ) → i < 4 → j < 2 → m ≡ 41 + (2 * i + j) → w m ≡ getD (openCallWords (getD xs i d)) j 0) → callsOfWords w ≡ xs
 unfolding callsOfWords
 calls-back w xs d long all reads =
-    table-ext 4 (λ k. callOfWords (w (41 + 2 * k)) (w (42 + 2 * k))) (λ k. getD xs k d)
+    table-ext 4 (λ k. openCallOfWords (w (41 + 2 * k)) (w (42 + 2 * k))) (λ k. getD xs k d)
     (λ k h. rw (
       reads k 0 (41 + 2 * k) h (omega arith) (omega arith),
       reads k 1 (42 + 2 * k) h (omega arith) (omega arith),
@@ -208,7 +208,7 @@ module _ (f : File) (eight : length (f .slots) ≡ 8) (four : length (f .calls) 
   S = flat slotWords (f .slots)
 
   abbrev C : List ℕ
-  C = flat callWords (f .calls)
+  C = flat openCallWords (f .calls)
 
   abbrev O : List ℕ
   O = flat totalWords (f .totals)
@@ -217,7 +217,7 @@ module _ (f : File) (eight : length (f .slots) ≡ 8) (four : length (f .calls) 
   length-slots = flat-length slotWords 4 (λ x. refl) SlotBack (f .slots) ∙ omega arith
 
   length-calls : length C ≡ 8
-  length-calls = flat-length callWords 2 (λ x. refl) CallBack (f .calls) ∙ omega arith
+  length-calls = flat-length openCallWords 2 (λ x. refl) CallBack (f .calls) ∙ omega arith
 
   length-totals : length O ≡ 48
   length-totals = flat-length totalWords 3 (λ x. refl) TotalBack (f .totals) ∙ omega arith
@@ -238,11 +238,11 @@ module _ (f : File) (eight : length (f .slots) ≡ 8) (four : length (f .calls) 
   slot-words i j m h k e =
       own m (4 * i + j) e ∙ flat-at slotWords 4 (λ x. refl) SlotBack (f .slots) (C ++ O) i j (slotOf Empty) (omega arith) k
 
-  call-words : (i j m : ℕ) → i < 4 → j < 2 → m ≡ 41 + (2 * i + j) → word m ≡ getD (callWords (getD (f .calls) i (callOf 0 0))) j 0
+  call-words : (i j m : ℕ) → i < 4 → j < 2 → m ≡ 41 + (2 * i + j) → word m ≡ getD (openCallWords (getD (f .calls) i (callOf 0 0))) j 0
   call-words i j m h k e =
       own m (32 + (2 * i + j)) (omega arith)
       ∙ behind S (C ++ O) (32 + (2 * i + j)) (2 * i + j) (omega (arith, length-slots))
-      ∙ flat-at callWords 2 (λ x. refl) CallBack (f .calls) O i j (callOf 0 0) (omega arith) k
+      ∙ flat-at openCallWords 2 (λ x. refl) CallBack (f .calls) O i j (callOf 0 0) (omega arith) k
 
   total-words : (i j m : ℕ) → i < 16 → j < 3 → m ≡ 49 + (3 * i + j) → word m ≡ getD (totalWords (getD (f .totals) i noTotal)) j 0
   total-words i j m h k e =
@@ -292,7 +292,7 @@ put-of f l m at ls lc lt bs bc bt h e =
 
 pub put-is : (f : File) (l m n o p : List ℕ) (at : ℕ) → at + 97 ≤ length l → m ≡ written l (at + 1) (ownWords f)
     → PutRows slotWords SlotBack 8 (f .slots) m (at + 9) n
-    → PutRows callWords CallBack 4 (f .calls) n (at + 41) o
+    → PutRows openCallWords CallBack 4 (f .calls) n (at + 41) o
     → PutRows totalWords TotalBack 16 (f .totals) o (at + 49) p
     → Put l at f p
 unfolding fileWords
@@ -300,7 +300,7 @@ put-is f l m n o p at h first s c t =
     let ls = length-slots f (s .long) (c .long) (t .long) (s .backs) (c .backs) (t .backs) in
     let lc = length-calls f (s .long) (c .long) (t .long) (s .backs) (c .backs) (t .backs) in
     let S = flat slotWords (f .slots) in
-    let C = flat callWords (f .calls) in
+    let C = flat openCallWords (f .calls) in
     let O = flat totalWords (f .totals) in
     put-of f l p at (s .long) (c .long) (t .long) (s .backs) (c .backs) (t .backs) h
     (t .stored

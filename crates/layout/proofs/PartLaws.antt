@@ -14,10 +14,10 @@ use Rattle.file.specs.declared.File.{File}
 use Rattle.file.specs.declared.Slot.{Slot}
 use Rattle.file.specs.declared.MonthTotal.{MonthTotal}
 use Rattle.file.specs.Fields.{withSlots, withNext, setTo}
-use Rattle.layout.specs.Parts.{numberOf, flagOf, signedOf, slotOfWords, callOfWords, totalOfWords, slotWords, callWords, totalWords}
+use Rattle.layout.specs.Parts.{numberOf, flagOf, signedOfWord, slotOfWords, openCallOfWords, totalOfWords, slotWords, openCallWords, totalWords}
 use Rattle.layout.specs.Parts.{SlotBack, CallBack, TotalBack, written}
 use Rattle.layout.specs.Files.{fileOfWords, slotsOfWords, callsOfWords, totalsOfWords, wordsAt, flat, ownWords, fileWords, Put}
-use Rattle.layout.specs.Words.{bookLength, place, fileIn, bookOfWords, bookWords}
+use Rattle.layout.specs.Words.{bookLength, place, fileInWords, bookOfWords, bookWords}
 use Rattle.layout.proofs.Backs.{flag-back}
 use Rattle.layout.proofs.Zigzag.{signed-back}
 use Rattle.layout.proofs.Written.{written-first, written-later, written-left, written-within}
@@ -35,13 +35,13 @@ unfolding slotOfWords
 slot-read k a f l =
     split (eqb k 0) (λ e. rw e) (λ e. split (eqb k 1) (λ h. rw (e, h)) (λ h. rw (e, h) (simp (again f, again l))))
 
-call-read : (a l : ℕ) → CallBack (callOfWords a l)
-unfolding callOfWords
+call-read : (a l : ℕ) → CallBack (openCallOfWords a l)
+unfolding openCallOfWords
 call-read a l = simp (again l)
 
 total-read : (r m t : ℕ) → TotalBack (totalOfWords r m t)
 unfolding totalOfWords
-total-read r m t = simp (again m, flag-back (flagOf r), signed-back (signedOf t))
+total-read r m t = simp (again m, flag-back (flagOf r), signed-back (signedOfWord t))
 
 module _ (w : ℕ → ℕ) where
   slots-read : All SlotBack (slotsOfWords w)
@@ -51,7 +51,7 @@ module _ (w : ℕ → ℕ) where
 
   calls-read : All CallBack (callsOfWords w)
   unfolding callsOfWords
-  calls-read = all-table CallBack 4 (λ k. callOfWords (w (41 + 2 * k)) (w (42 + 2 * k))) (λ k h. call-read (w (41 + 2 * k)) (w (42 + 2 * k)))
+  calls-read = all-table CallBack 4 (λ k. openCallOfWords (w (41 + 2 * k)) (w (42 + 2 * k))) (λ k h. call-read (w (41 + 2 * k)) (w (42 + 2 * k)))
 
   totals-read : All TotalBack (totalsOfWords w)
   unfolding totalsOfWords
@@ -101,7 +101,7 @@ module _ (f : File) where
   S = flat slotWords (f .slots)
 
   abbrev C : List ℕ
-  C = flat callWords (f .calls)
+  C = flat openCallWords (f .calls)
 
   abbrev O : List ℕ
   O = flat totalWords (f .totals)
@@ -120,7 +120,7 @@ module _ (f : File) where
   unfolding fileWords
   total-words k t h eight four sixteen =
       let ls = flat-length slotWords 4 (λ x. refl) SlotBack (f .slots) in
-      let lc = flat-length callWords 2 (λ x. refl) CallBack (f .calls) in
+      let lc = flat-length openCallWords 2 (λ x. refl) CallBack (f .calls) in
       let lo = flat-length totalWords 3 (λ x. refl) TotalBack (f .totals) in
       let at : 8 + (length S + (length C + 3 * k)) ≡ 48 + 3 * k = omega arith in
       ap (λ (z : List ℕ). ownWords f ++ (S ++ (C ++ z))) (row-replaced totalWords 3 (λ x. refl) TotalBack (f .totals) k t (omega arith))
@@ -136,7 +136,7 @@ module _ (f : File) where
 
 module _ (l m : List ℕ) (p : ℕ) (same : l ≡ bookWords (bookOfWords l)) (long : length l ≡ bookLength) (low : p ≤ 63) where
   abbrev f : File
-  f = fileIn l p
+  f = fileInWords l p
 
   -- a part of its words is written
   stored : (g : File) (j : ℕ) (vs : List ℕ) → fileWords g ≡ written (fileWords f) j vs → j + length vs ≤ 96 → m ≡ written l (place p + 1 + j) vs

@@ -12,7 +12,7 @@ use Rattle.laws.specs.Lists.{All, all-append}
 use Rattle.file.specs.declared.Slot.{Slot}
 use Rattle.file.specs.declared.OpenCall.{OpenCall}
 use Rattle.file.specs.declared.MonthTotal.{MonthTotal}
-use Rattle.layout.specs.Parts.{written, slotWords, callWords, totalWords, SlotBack, CallBack, TotalBack}
+use Rattle.layout.specs.Parts.{written, slotWords, openCallWords, totalWords, SlotBack, CallBack, TotalBack}
 use Rattle.layout.specs.Files.{flat, SoFar, PutRows}
 use Rattle.layout.proofs.Written.{written-next, length-written}
 
@@ -83,19 +83,19 @@ slots-all l m at i xs n h s =
     let k = rows-all slotWords 4 (λ x. refl) SlotBack l m at i xs (omega arith) (s .stored) (s .backs) in
     record { stored = k .0; backs = k .1; long = n }
 
-pub calls-none : (l : List ℕ) (at : ℕ) (xs : List OpenCall) → SoFar callWords CallBack xs l at 0 l
-calls-none l at xs = let h = rows-none callWords 2 (λ x. refl) CallBack l at xs in record { stored = h .0; backs = h .1 }
+pub calls-none : (l : List ℕ) (at : ℕ) (xs : List OpenCall) → SoFar openCallWords CallBack xs l at 0 l
+calls-none l at xs = let h = rows-none openCallWords 2 (λ x. refl) CallBack l at xs in record { stored = h .0; backs = h .1 }
 
-pub calls-turn : (l m m′ : List ℕ) (at i : ℕ) (xs : List OpenCall) (d : OpenCall) → length xs ≡ 4 → i < 4 → SoFar callWords CallBack xs l at i m
-    → m′ ≡ written m (at + 2 * i) (callWords (getD xs i d)) → CallBack (getD xs i d) → SoFar callWords CallBack xs l at (i + 1) m′
+pub calls-turn : (l m m′ : List ℕ) (at i : ℕ) (xs : List OpenCall) (d : OpenCall) → length xs ≡ 4 → i < 4 → SoFar openCallWords CallBack xs l at i m
+    → m′ ≡ written m (at + 2 * i) (openCallWords (getD xs i d)) → CallBack (getD xs i d) → SoFar openCallWords CallBack xs l at (i + 1) m′
 calls-turn l m m′ at i xs d n h s q b =
-    let k = rows-turn callWords 2 (λ x. refl) CallBack l m m′ at i xs (getD xs i d) d (omega arith) (s .stored) (s .backs) refl q b in
+    let k = rows-turn openCallWords 2 (λ x. refl) CallBack l m m′ at i xs (getD xs i d) d (omega arith) (s .stored) (s .backs) refl q b in
     record { stored = k .0; backs = k .1 }
 
-pub calls-all : (l m : List ℕ) (at i : ℕ) (xs : List OpenCall) → length xs ≡ 4 → 4 ≤ i → SoFar callWords CallBack xs l at i m
-    → PutRows callWords CallBack 4 xs l at m
+pub calls-all : (l m : List ℕ) (at i : ℕ) (xs : List OpenCall) → length xs ≡ 4 → 4 ≤ i → SoFar openCallWords CallBack xs l at i m
+    → PutRows openCallWords CallBack 4 xs l at m
 calls-all l m at i xs n h s =
-    let k = rows-all callWords 2 (λ x. refl) CallBack l m at i xs (omega arith) (s .stored) (s .backs) in
+    let k = rows-all openCallWords 2 (λ x. refl) CallBack l m at i xs (omega arith) (s .stored) (s .backs) in
     record { stored = k .0; backs = k .1; long = n }
 
 pub totals-none : (l : List ℕ) (at : ℕ) (xs : List MonthTotal) → SoFar totalWords TotalBack xs l at 0 l

@@ -9,24 +9,24 @@ use Rattle.file.specs.declared.File.{File}
 use Rattle.file.specs.declared.Slot.{Slot}
 use Rattle.file.specs.declared.OpenCall.{OpenCall}
 use Rattle.file.specs.declared.MonthTotal.{MonthTotal}
-use Rattle.layout.specs.Parts.{flagOf, flagWord, slotOfWords, callOfWords, totalOfWords, slotWords, callWords, totalWords, written}
+use Rattle.layout.specs.Parts.{flagOf, flagWord, slotOfWords, openCallOfWords, totalOfWords, slotWords, openCallWords, totalWords, written}
 
 -- A position, an open call and a month's total whose words begin at a place.
 abbrev pub slotIn : List ℕ → ℕ → Slot
 slotIn l at = slotOfWords (getD l at 0) (getD l (at + 1) 0) (getD l (at + 2) 0) (getD l (at + 3) 0)
 
 abbrev pub callIn : List ℕ → ℕ → OpenCall
-callIn l at = callOfWords (getD l at 0) (getD l (at + 1) 0)
+callIn l at = openCallOfWords (getD l at 0) (getD l (at + 1) 0)
 
-abbrev pub totalIn : List ℕ → ℕ → MonthTotal
-totalIn l at = totalOfWords (getD l at 0) (getD l (at + 1) 0) (getD l (at + 2) 0)
+abbrev pub monthTotalIn : List ℕ → ℕ → MonthTotal
+monthTotalIn l at = totalOfWords (getD l at 0) (getD l (at + 1) 0) (getD l (at + 2) 0)
 
 -- The eight positions, the four open calls and the sixteen month totals of a file, from its words 1 to 96.
 unfoldable pub slotsOfWords : (ℕ → ℕ) → List Slot
 slotsOfWords w = table 8 (λ k. slotOfWords (w (9 + 4 * k)) (w (10 + 4 * k)) (w (11 + 4 * k)) (w (12 + 4 * k)))
 
 unfoldable pub callsOfWords : (ℕ → ℕ) → List OpenCall
-callsOfWords w = table 4 (λ k. callOfWords (w (41 + 2 * k)) (w (42 + 2 * k)))
+callsOfWords w = table 4 (λ k. openCallOfWords (w (41 + 2 * k)) (w (42 + 2 * k)))
 
 unfoldable pub totalsOfWords : (ℕ → ℕ) → List MonthTotal
 totalsOfWords w = table 16 (λ k. totalOfWords (w (49 + 3 * k)) (w (50 + 3 * k)) (w (51 + 3 * k)))
@@ -64,7 +64,7 @@ ownWords f =
 
 -- The 96 words of a file.
 unfoldable pub fileWords : File → List ℕ
-fileWords f = ownWords f ++ (flat slotWords (f .slots) ++ (flat callWords (f .calls) ++ flat totalWords (f .totals)))
+fileWords f = ownWords f ++ (flat slotWords (f .slots) ++ (flat openCallWords (f .calls) ++ flat totalWords (f .totals)))
 
 -- What a file that is put at a place leaves: its words, and it is the file read there.
 pub record Put (l : List ℕ) (at : ℕ) (f : File) (m : List ℕ) : Type 0 where

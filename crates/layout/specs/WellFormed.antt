@@ -13,9 +13,9 @@ use Rattle.layout.specs.Book.{Book}
 use Rattle.layout.specs.Words.{bookLength, bookOfWords, bookWords}
 
 -- How many calls are open in the files.
-unfoldable pub openIn : List File → ℕ
-openIn [] = 0
-openIn (f ∷ files) = f .count + openIn files
+unfoldable pub openCount : List File → ℕ
+openCount [] = 0
+openCount (f ∷ files) = f .count + openCount files
 
 -- A file that isn't admitted holds nothing.
 abbrev pub BlankUnlessAdmitted : File → Type 0
@@ -28,7 +28,7 @@ pub record SoundBook (b : Book) : Type 0 where
   pub many : length (b .files) ≡ 64
   pub files : All (Sound (b .today .0)) (b .files)
   pub blank : All BlankUnlessAdmitted (b .files)
-  pub made : b .made ≤ 256 * b .today .0 + openIn (b .files)
+  pub made : b .made ≤ 256 * b .today .0 + openCount (b .files)
 
 -- Well-formed words: they are the words of the book that they stand for, so that one book has one list of words, and that book is within its
 -- bounds.

@@ -22,8 +22,8 @@ abbrev pub place : ℕ → ℕ
 place p = 2 + 96 * p
 
 -- Participant p's file.
-abbrev pub fileIn : List ℕ → ℕ → File
-fileIn l p = fileOfWords (wordsAt l (place p))
+abbrev pub fileInWords : List ℕ → ℕ → File
+fileInWords l p = fileOfWords (wordsAt l (place p))
 
 -- Today.
 abbrev pub todayIn : List ℕ → ℕ
@@ -35,7 +35,7 @@ madeIn l = getD l 2 0
 
 -- The book that words stand for.
 unfoldable pub bookOfWords : List ℕ → Book
-bookOfWords l = record { files = table 64 (λ p. fileIn l p); today = record { 0 = todayIn l }; made = madeIn l }
+bookOfWords l = record { files = table 64 (λ p. fileInWords l p); today = record { 0 = todayIn l }; made = madeIn l }
 
 -- The words of a book.
 unfoldable pub bookWords : Book → List ℕ

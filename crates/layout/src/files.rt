@@ -24,8 +24,8 @@ ghost use Rattle.laws.specs.Lists.{All};
 ghost use Rattle.file.specs.declared.Slot.{Slot};
 ghost use Rattle.file.specs.Position.{coverOn};
 ghost use Rattle.file.specs.Sound.{SoundPosition};
-ghost use Rattle.layout.specs.Parts.{slotWords, callWords, totalWords, written, SlotBack, CallBack, TotalBack};
-ghost use Rattle.layout.specs.Files.{slotIn, callIn, totalIn, slotsOfWords, callsOfWords};
+ghost use Rattle.layout.specs.Parts.{slotWords, openCallWords, totalWords, written, SlotBack, CallBack, TotalBack};
+ghost use Rattle.layout.specs.Files.{slotIn, callIn, monthTotalIn, slotsOfWords, callsOfWords};
 ghost use Rattle.layout.specs.Files.{totalsOfWords, fileOfWords, wordsAt, ownWords, Put, PutRows};
 
 // The slot whose words begin at a place.
@@ -47,7 +47,7 @@ fn call_at(words: &[u64], at: usize) -> OpenCall
 // The total whose words begin at a place.
 fn total_at(words: &[u64], at: usize) -> MonthTotal
     requires { ⌜ at + 3 ≤ length (now words) ⌝ }
-    ensures { λ r. ⌜ r ≡ totalIn (now (words .entry)) at ⌝ }
+    ensures { λ r. ⌜ r ≡ monthTotalIn (now (words .entry)) at ⌝ }
 {
     total(words[at], words[at + 1], words[at + 2])
 }
@@ -149,7 +149,7 @@ pub fn put_slots(words: &mut [u64], at: usize, slots: [Slot; 8])
 // Writes the calls from a place on.
 pub fn put_calls(words: &mut [u64], at: usize, calls: [OpenCall; 4])
     requires { ⌜ at + 8 ≤ length (now words) ⌝ }
-    ensures { λ r. ⌜ PutRows callWords CallBack 4 calls (now (words .entry)) at (now (words .exit)) ⌝ }
+    ensures { λ r. ⌜ PutRows openCallWords CallBack 4 calls (now (words .entry)) at (now (words .exit)) ⌝ }
 {
     let mut i = 0;
     while i < 4 {

@@ -10,8 +10,9 @@ ghost use mathlib.Core.Path.{_≡_};
 ghost use Prim.Native.Nat.{_+_, _≤_, _<_};
 ghost use mathlib.Core.List.{[], _∷_};
 ghost use lib.ListN.{length};
-ghost use Rattle.layout.specs.Parts.{flagOf, numberOf, signedOf, zigzagOf, flagWord, positionOf, slotOfWords, callOfWords, totalOfWords};
-ghost use Rattle.layout.specs.Parts.{kindWord, firstWord, lastWord, slotWords, callWords, totalWords, written, SlotBack, CallBack, TotalBack};
+ghost use Rattle.layout.specs.Parts.{flagOf, numberOf, signedOfWord, zigzagOf, flagWord, positionOf, slotOfWords};
+ghost use Rattle.layout.specs.Parts.{openCallOfWords, totalOfWords, kindWord, firstWord, lastWord, slotWords, openCallWords};
+ghost use Rattle.layout.specs.Parts.{totalWords, written, SlotBack, CallBack, TotalBack};
 
 // A word as a flag.
 pub fn flag(word: u64) -> bool
@@ -36,7 +37,7 @@ pub fn number(word: u64) -> u32
 
 // A word as a signed number: even for those from 0 on, odd for those below.
 pub fn signed(word: u64) -> i64
-    ensures { λ r. ⌜ r ≡ signedOf word ⌝ }
+    ensures { λ r. ⌜ r ≡ signedOfWord word ⌝ }
 {
     let half = (word / 2) as i64;
     if word % 2 == 0 { half } else { -1 - half }
@@ -76,7 +77,7 @@ pub fn slot(kind: u64, amount: u64, first: u64, last: u64) -> Slot
 
 // An open call, from its words.
 pub fn call(amount: u64, last: u64) -> OpenCall
-    ensures { λ r. ⌜ r ≡ callOfWords amount last ⌝ }
+    ensures { λ r. ⌜ r ≡ openCallOfWords amount last ⌝ }
 {
     OpenCall {
         amount,
@@ -163,7 +164,7 @@ pub fn put_slot(words: &mut [u64], at: usize, slot: Slot)
 // An open call's words from a place on.
 pub fn put_call(words: &mut [u64], at: usize, call: OpenCall)
     requires { ⌜ at + 2 ≤ length (now words) ⌝ }
-    ensures { λ r. ⌜ (now (words .exit) ≡ written (now (words .entry)) at (callWords call)) × CallBack call ⌝ }
+    ensures { λ r. ⌜ (now (words .exit) ≡ written (now (words .entry)) at (openCallWords call)) × CallBack call ⌝ }
 {
     let last = call.last;
     words[at] = call.amount;

@@ -12,18 +12,19 @@ use lib.ListN.{length, length-append}
 use lib.IntN.{ℤ, pos, negsuc}
 use lib.Signed.{mag}
 use Rattle.laws.specs.Cases.{split, and-left, and-right}
+use Rattle.laws.specs.Every.{every-cons}
 use Rattle.words.specs.Bytes.{blank, control, digit, each, same}
 use Rattle.words.specs.Words.{placeIn}
 use Rattle.words.specs.Numerals.{natural, valueFrom, value, naturalOf, unsignedOf, negativeOf, signedOf}
 use Rattle.words.specs.Dates.{dayIn, monthIn}
-use Rattle.journal.specs.Names.{roleNames, roleIn, readNumber}
+use Rattle.journal.specs.Names.{roleNames, roleOfWord, readNumber}
 use Rattle.words.specs.declared.numbers.Number.{Number}
 use Rattle.words.specs.declared.numbers.Signed.{Signed}
 use Rattle.words.proofs.NumberLaws.{natural-each}
 use Rattle.words.proofs.WordLaws.{solid}
 use Rattle.printing.specs.Decimals.{numeral, decimal, integer}
 use Rattle.printing.specs.Lines.{Holds}
-use Rattle.printing.proofs.PlainWords.{wordByte, IsWord, each-append}
+use Rattle.printing.proofs.PlainWords.{wordByte, IsWord, each-weaker, each-append}
 
 -- Digits.
 
@@ -49,12 +50,6 @@ digit-word b e =
       ne-eqb b 127 (λ q. omega arith),
       le-ltb b 32 (omega arith),
     )
-
-digits-word : (w : List ℕ) → each digit w ≡ true → each wordByte w ≡ true
-unfolding each
-digits-word [] e = refl
-digits-word (b ∷ w) e =
-    rw (digit-word b (and-left (digit b) (each digit w) e)) (digits-word w (and-right (digit b) (each digit w) e))
 
 -- A number's digits.
 
@@ -113,21 +108,20 @@ pub decimal-natural : (n : ℕ) → natural (decimal n) ≡ true
 decimal-natural n = sym (natural-each (decimal n) (λ e. omega (arith, decimal-long n))) ∙ decimal-digits n
 
 pub decimal-word : (n : ℕ) → IsWord (decimal n)
-decimal-word n = record { some-byte = decimal-long n; bytes = digits-word (decimal n) (decimal-digits n) }
+decimal-word n = record { some-byte = decimal-long n; bytes = each-weaker digit wordByte digit-word (decimal n) (decimal-digits n) }
 
 minus-word : wordByte 45 ≡ true
 unfolding wordByte solid control blank
 minus-word = refl
 
-minus-each : (w : List ℕ) → each wordByte w ≡ true → each wordByte (45 ∷ w) ≡ true
-unfolding each
-minus-each w e = rw minus-word e
-
 pub integer-word : (z : ℤ) → IsWord (integer z)
 unfolding integer
 integer-word (pos n) = decimal-word n
 integer-word (negsuc n) =
-    record { some-byte = omega (arith, decimal-long (suc n)); bytes = minus-each (decimal (suc n)) (decimal-word (suc n) .bytes) }
+    record {
+      some-byte = omega (arith, decimal-long (suc n));
+      bytes = every-cons wordByte 45 (decimal (suc n)) minus-word (decimal-word (suc n) .bytes);
+    }
 
 -- Read as a natural number, a day, a month, a role.
 
@@ -166,8 +160,8 @@ no-role w h e =
       not-name w 100 _ h e (lit< tt),
     )
 
-pub role-back : (n : ℕ) → n ≤ 18446744073709551615 → roleIn (decimal n) ≡ Number.Value n
-unfolding roleIn
+pub role-back : (n : ℕ) → n ≤ 18446744073709551615 → roleOfWord (decimal n) ≡ Number.Value n
+unfolding roleOfWord
 role-back n h = rw (no-role (decimal n) (decimal-long n) (decimal-digits n)) (natural-back n h)
 
 -- Read as a number of a list.

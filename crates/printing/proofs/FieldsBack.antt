@@ -3,10 +3,10 @@
 use Prim.Native.Nat.{ℕ, suc, _-_, _≤_, min}
 use mathlib.Core.Path.{_≡_, refl, sym, ap, _∙_}
 use mathlib.Core.Bool.{Bool, false}
-use mathlib.Core.List.{List, [], _∷_, _++_, map}
+use mathlib.Core.List.{List, [], _∷_, _++_, map, append-nil}
 use native.Mathlib.Omega.{arith}
 use borrow.Author.Tests.{ne-eqb}
-use lib.ListN.{length, take, drop, length-drop, take-append-drop}
+use lib.ListN.{length, take, drop, length-drop, length-map, take-append-drop}
 use lib.Seq.{length-take-le}
 use lib.IntN.{ℤ}
 use Rattle.laws.specs.Lists.{All}
@@ -14,7 +14,7 @@ use Rattle.calendar.specs.declared.Day.{Day}
 use Rattle.calendar.specs.declared.Month.{Month}
 use Rattle.journal.specs.Names.{readAs, readNumber}
 use Rattle.journal.specs.Fields.{Left, more, nextOf, taken, fieldOf, closed}
-use Rattle.journal.specs.Fields.{Numbers, withNumber, numbersOf, wordsLeft, figuresOf, listOf, onLists, listsOf}
+use Rattle.journal.specs.Fields.{Numbers, withNumber, nextNumbers, wordsLeft, figuresOf, listOf, onLists, listsOf}
 use Rattle.journal.specs.Grammar.{dayNumbered, monthNumbered}
 use Rattle.words.specs.declared.numbers.Number.{Number}
 use Rattle.journal.specs.declared.Request.{Request}
@@ -63,34 +63,26 @@ unfolding withNumber
 number-more marks room n z ws rest h g = rw (number-back marks z h, ne-eqb room 0 (λ e. omega arith))
 
 numbers-next : (marks : Bool) (room n : ℕ) (w : List ℕ) (ws : List (List ℕ))
-    → numbersOf marks room (suc n) (more (w ∷ ws)) ≡ withNumber room (readNumber marks w) (more ws) (numbersOf marks (room - 1) n (more ws))
-unfolding numbersOf nextOf
+    → nextNumbers marks room (suc n) (more (w ∷ ws)) ≡ withNumber room (readNumber marks w) (more ws) (nextNumbers marks (room - 1) n (more ws))
+unfolding nextNumbers nextOf
 numbers-next marks room n w ws = refl
 
 pub numbers-back : (marks : Bool) (room : ℕ) (zs : List ℤ) (ws : List (List ℕ)) → length zs ≤ room → All (Holds marks) zs
-    → numbersOf marks room (length zs) (more (map integer zs ++ ws)) ≡ record { numbers = zs; left = more ws }
-unfolding numbersOf
+    → nextNumbers marks room (length zs) (more (map integer zs ++ ws)) ≡ record { numbers = zs; left = more ws }
+unfolding nextNumbers
 numbers-back marks room [] ws h a = refl
 numbers-back marks room (z ∷ zs) ws h a =
     numbers-next marks room (length zs) (integer z) (map integer zs ++ ws)
-    ∙ number-more marks room (length zs) z (map integer zs ++ ws) (numbersOf marks (room - 1) (length zs) (more (map integer zs ++ ws))) (a .0) h
+    ∙ number-more marks room (length zs) z (map integer zs ++ ws) (nextNumbers marks (room - 1) (length zs) (more (map integer zs ++ ws))) (a .0) h
     ∙ ap (λ (x : Numbers). record { numbers = z ∷ x .numbers; left = x .left }) (numbers-back marks (room - 1) zs ws (omega arith) (a .1))
 
 -- a settlement's figures
-map-long : (zs : List ℤ) → length (map integer zs) ≡ length zs
-map-long [] = refl
-map-long (z ∷ zs) = ap suc (map-long zs)
-
-append-none : (ws : List (List ℕ)) → ws ++ [] ≡ ws
-append-none [] = refl
-append-none (w ∷ ws) = ap (_∷_ w) (append-none ws)
-
 pub figures-back : (room : ℕ) (zs : List ℤ) → length zs ≤ room → All (Holds false) zs
     → figuresOf room (more (map integer zs)) ≡ record { numbers = zs; left = more [] }
 unfolding figuresOf wordsLeft
 figures-back room zs h a =
-    ap (λ (n : ℕ). numbersOf false room n (more (map integer zs))) (map-long zs)
-    ∙ ap (λ (ws : List (List ℕ)). numbersOf false room (length zs) (more ws)) (sym (append-none (map integer zs)))
+    ap (λ (n : ℕ). nextNumbers false room n (more (map integer zs))) (length-map zs integer)
+    ∙ ap (λ (ws : List (List ℕ)). nextNumbers false room (length zs) (more ws)) (sym (append-nil (map integer zs)))
     ∙ numbers-back false room zs [] h a
 
 -- the lists of a special guarantee

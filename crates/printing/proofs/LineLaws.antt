@@ -8,11 +8,13 @@ use native.Mathlib.Omega.{arith}
 use borrow.Author.Tests.{leb-true, leb-false}
 use mir.Syntax.{w64}
 use mir.Val.{SFits}
+use mir.Facts.{toZ-ofZ}
 use lib.Dec.{leb}
 use lib.ListN.{length, take, drop, getD, drop-of-length-le, length-drop}
 use lib.Seq.{drop-cons, take-all, drop-drop}
 use lib.IntN.{ℤ, pos}
 use Rattle.laws.specs.Cases.{split}
+use Rattle.laws.specs.Read.{read}
 use Rattle.words.specs.Text.{text}
 use Rattle.journal.specs.declared.Reason.{Reason}
 use Rattle.journal.specs.declared.Request.{Request}
@@ -22,7 +24,6 @@ use Rattle.printing.specs.Answers.{reasonText, answerWords, answerLine}
 use Rattle.printing.specs.Placed.{Put}
 use Rattle.printing.specs.declared.Answer.{Answer}
 use Rattle.printing.specs.PlacedLaws.{Putting, putting-goes, putting-ends, spaced-append, put-then, put-blank, put-first, put-more}
-use Rattle.printing.proofs.PutLaws.{read, as-read}
 
 -- Words one after the other.
 
@@ -37,11 +38,11 @@ cash-spaced = refl
 module _ (e f g : List ℕ) (at p q : ℕ) where
   -- a blank and a number that may have a minus, and a first word and such a number
   pub put-blank-integer : (z : ℤ) → SFits w64 z → Put (32 ∷ []) e at p f → Put (integer (read z)) f p q g → Put (spaced (integer z ∷ [])) e at q g
-  put-blank-integer z s x y = put-blank e f g at p q (integer z) x (rw (as-read z s) at y)
+  put-blank-integer z s x y = put-blank e f g at p q (integer z) x (rw (toZ-ofZ s) at y)
 
   pub put-first-integer : (w : List ℕ) (z : ℤ) → SFits w64 z → Put w e at p f → Put (spaced (integer (read z) ∷ [])) f p q g
       → Put (joined (w ∷ integer z ∷ [])) e at q g
-  put-first-integer w z s x y = put-first e f g at p q w (integer z ∷ []) x (rw (as-read z s) at y)
+  put-first-integer w z s x y = put-first e f g at p q w (integer z ∷ []) x (rw (toZ-ofZ s) at y)
 
   pub put-second : (w a b : List ℕ) → Put (joined (w ∷ a ∷ [])) e at p f → Put (spaced (b ∷ [])) f p q g → Put (joined (w ∷ a ∷ b ∷ [])) e at q g
   put-second w a b x y = put-more e f g at p q w (a ∷ []) (b ∷ []) x y

@@ -11,23 +11,23 @@ use lib.IntN.{ℤ, pos, negℤ}
 use lib.ListN.{length}
 use lib.Seq.{take-append-seam, drop-append-seam}
 use Rattle.laws.specs.Cases.{split}
-use Rattle.laws.specs.Lists.{All}
+use Rattle.laws.specs.Lists.{All, all-default}
 use Rattle.words.specs.Bytes.{control, some, uncommented}
 use Rattle.words.specs.Words.{words, placeIn}
 use Rattle.words.specs.Numerals.{natural, value, naturalOf, unsignedOf, negativeOf, signedOf}
 use Rattle.words.specs.declared.numbers.Number.{Number}
 use Rattle.words.specs.declared.numbers.Signed.{Signed}
-use Rattle.journal.specs.Names.{callNames, roleNames, roleIn, readNumber, whyNot}
+use Rattle.journal.specs.Names.{callNames, roleNames, roleOfWord, readNumber, whyNot}
 use Rattle.journal.specs.Fields.{Left, more, fault, nextOf, taken, fieldOf, closed}
-use Rattle.journal.specs.Fields.{Numbers, withNumber, numbersOf, wordsLeft, figuresOf, listOf, onLists, listsOf}
-use Rattle.journal.specs.Grammar.{Parsed, plain, areMarks, lengthsOf, lengthList, dayNumbered, monthNumbered}
+use Rattle.journal.specs.Fields.{Numbers, withNumber, nextNumbers, wordsLeft, figuresOf, listOf, onLists, listsOf}
+use Rattle.journal.specs.Grammar.{Parsed, plain, areMarks, lengthsOf, dayNumbered, monthNumbered}
 use Rattle.journal.specs.Grammar.{freshOf, admitOf, cashOf, letterOf, lodgeOf, releaseOf, settleOf}
 use Rattle.journal.specs.Grammar.{annualOf, advanceOf, statementOf, specialOf, callsOf, namedCall, wordsOf, parsed}
 use Rattle.journal.specs.declared.Reason.{Reason}
 use Rattle.journal.specs.declared.Request.{Request}
 use Rattle.journal.specs.declared.fields.Kind.{Kind}
-use Rattle.journal.proofs.Room.{_&_, at-place, parsed-fits}
-use Rattle.journal.proofs.Counts.{countOf, IsCall, parsed-counted}
+use Rattle.journal.proofs.Room.{_&_, parsed-fits}
+use Rattle.journal.proofs.Counts.{countOf, IsCall, seven-lengths, parsed-counted}
 use Rattle.journal.proofs.ListLaws.{lists-many}
 use Rattle.printing.specs.Lines.{cut, Natural64, Natural32, Holds, Hold, Fitting, printed}
 use Rattle.printing.proofs.RoundTrip.{round-trip}
@@ -42,8 +42,8 @@ natural-small : (w : List ℕ) → Small (naturalOf w)
 unfolding naturalOf Small
 natural-small w = split (natural w) (λ t. rw t (omega arith)) (λ t. rw t tt)
 
-role-small : (w : List ℕ) → Small (roleIn w)
-unfolding roleIn Small
+role-small : (w : List ℕ) → Small (roleOfWord w)
+unfolding roleOfWord Small
 role-small w =
     split (ltb (placeIn w roleNames) 6) (λ t. rw t (omega (arith, ltb-true (placeIn w roleNames) 6 t))) (λ t. rw t (natural-small w))
 
@@ -58,7 +58,7 @@ field-natural l = taken-small (naturalOf (nextOf l .word)) (whyNot Kind.Natural)
 
 field-role : (l : Left) → Natural64 (fieldOf Kind.Role l .value)
 unfolding fieldOf
-field-role l = taken-small (roleIn (nextOf l .word)) (whyNot Kind.Role) (nextOf l .left) (role-small (nextOf l .word))
+field-role l = taken-small (roleOfWord (nextOf l .word)) (whyNot Kind.Role) (nextOf l .left) (role-small (nextOf l .word))
 
 day-small : (n : ℕ) → Natural32 (dayNumbered n .0)
 day-small n = omega arith
@@ -102,11 +102,11 @@ unfolding withNumber Held
 with-held m room (Signed.Value z) l rest h a = split (eqb room 0) (λ t. rw t tt) (λ t. rw t (h, a))
 with-held m room Signed.NoNumber l rest h a = tt
 
-numbers-held : (m : Bool) (room n : ℕ) (l : Left) → All (Holds m) (numbersOf m room n l .numbers)
-unfolding numbersOf
+numbers-held : (m : Bool) (room n : ℕ) (l : Left) → All (Holds m) (nextNumbers m room n l .numbers)
+unfolding nextNumbers
 numbers-held m room zero l = tt
 numbers-held m room (suc n) l =
-    with-held m room (readNumber m (nextOf l .word)) (nextOf l .left) (numbersOf m (room - 1) n (nextOf l .left)) (read-held m (nextOf l .word))
+    with-held m room (readNumber m (nextOf l .word)) (nextOf l .left) (nextNumbers m (room - 1) n (nextOf l .left)) (read-held m (nextOf l .word))
     (numbers-held m (room - 1) n (nextOf l .left))
 
 figures-held : (room : ℕ) (l : Left) → All (Holds false) (figuresOf room l .numbers)
@@ -130,17 +130,6 @@ lists-held (m ∷ ms) room l =
     let b = listsOf ms (room - length (a .numbers)) (a .left) in
     subst (Hold (m ∷ ms)) (sym (cut-first (a .numbers) (b .numbers) (b .lengths)))
     (list-held m room l, lists-held ms (room - length (a .numbers)) (a .left))
-
-seven-lengths : (n : List ℕ) → length n ≡ 7 → lengthList (lengthsOf n) ≡ n
-seven-lengths [] e = absurd (omega arith)
-seven-lengths (a ∷ []) e = absurd (omega arith)
-seven-lengths (a ∷ b ∷ []) e = absurd (omega arith)
-seven-lengths (a ∷ b ∷ c ∷ []) e = absurd (omega arith)
-seven-lengths (a ∷ b ∷ c ∷ d ∷ []) e = absurd (omega arith)
-seven-lengths (a ∷ b ∷ c ∷ d ∷ f ∷ []) e = absurd (omega arith)
-seven-lengths (a ∷ b ∷ c ∷ d ∷ f ∷ g ∷ []) e = absurd (omega arith)
-seven-lengths (a ∷ b ∷ c ∷ d ∷ f ∷ g ∷ h ∷ []) e = refl
-seven-lengths (a ∷ b ∷ c ∷ d ∷ f ∷ g ∷ h ∷ i ∷ n) e = absurd (omega arith)
 
 -- ---- calls
 
@@ -243,10 +232,9 @@ no-call-fits n k c = absurd c
 call-fits : (room k : ℕ) (l : Left) → Fits (namedCall room k l)
 unfolding namedCall callsOf
 call-fits room k l =
-    at-place Fits (callsOf room l) k (plain (Request.Error Reason.NoCall))
+    all-default Fits (callsOf room l) k (plain (Request.Error Reason.NoCall)) no-call-fits
     (fresh-fits l & admit-fits l & lodge-fits l & release-fits l & settle-fits room l & annual-fits l & advance-fits l
     & statement-fits l & plain-fits l Request.Calls refl & special-fits room l & plain-fits l Request.Report refl & tt)
-    no-call-fits
 
 words-fitting : (room : ℕ) (ws : List (List ℕ)) → Fits (wordsOf room ws)
 unfolding wordsOf Fits

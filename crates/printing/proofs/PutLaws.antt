@@ -8,10 +8,10 @@ use native.Mathlib.Omega.{arith}
 use borrow.Author.Tests.{ltb-true}
 use mir.Facts.{toZ-ofZ}
 use mir.Syntax.{w64}
-use mir.Val.{SFits, toZ, ofZ}
-use lib.Dec.{ltb}
+use mir.Val.{SFits}
 use lib.IntN.{ℤ, pos, negsuc, natAbs}
 use lib.Signed.{ltZ}
+use Rattle.laws.specs.Read.{read}
 use Rattle.printing.specs.Decimals.{decimal, integer}
 use Rattle.printing.specs.Placed.{Put}
 use Rattle.printing.specs.PlacedLaws.{put-then, decimal-step, decimal-small}
@@ -28,20 +28,10 @@ number-large n b at p q e f g h k x z =
 
 -- A number with a minus.
 
-not-below : (k : ℕ) → ltb k 0 ≡ true → ⊥
-not-below k t = omega (arith, ltb-true k 0 t)
-
--- a number of 64 bits as it is read
-abbrev pub read : ℤ → ℤ
-read z = toZ w64 (ofZ w64 z)
-
-pub as-read : (z : ℤ) → SFits w64 z → read z ≡ z
-as-read z s = toZ-ofZ s
-
 negative-bytes : (z : ℤ) (n at p q : ℕ) (e f g : List ℕ) → ltZ z (pos 0) ≡ true → n ≡ natAbs z → Put (45 ∷ []) e at p f → Put (decimal n) f p q g
     → Put (integer z) e at q g
 unfolding integer
-negative-bytes (pos k) n at p q e f g t m x y = absurd (not-below k t)
+negative-bytes (pos k) n at p q e f g t m x y = absurd (omega (arith, ltb-true k 0 t))
 negative-bytes (negsuc k) n at p q e f g t m x y = put-then (45 ∷ []) (decimal (suc k)) e f g at p q x (rw (← m) y)
 
 natural-bytes : (z : ℤ) (n at q : ℕ) (e g : List ℕ) → ltZ z (pos 0) ≡ false → n ≡ natAbs z → Put (decimal n) e at q g → Put (integer z) e at q g
@@ -52,11 +42,11 @@ natural-bytes (negsuc k) n at q e g t m y = absurd (false≢true (sym t))
 pub negative-put : (z : ℤ) (n at p q : ℕ) (e f g : List ℕ) → SFits w64 z → ltZ (read z) (pos 0) ≡ true → n ≡ natAbs (read z) → Put (45 ∷ []) e at p f
     → Put (decimal n) f p q g → Put (integer z) e at q g
 negative-put z n at p q e f g s t m x y =
-    let u : ltZ z (pos 0) ≡ true = rw (as-read z s) at t in
-    negative-bytes z n at p q e f g u (m ∙ ap natAbs (as-read z s)) x y
+    let u : ltZ z (pos 0) ≡ true = rw (toZ-ofZ s) at t in
+    negative-bytes z n at p q e f g u (m ∙ ap natAbs (toZ-ofZ s)) x y
 
 pub natural-put : (z : ℤ) (n at q : ℕ) (e g : List ℕ) → SFits w64 z → ltZ (read z) (pos 0) ≡ false → n ≡ natAbs (read z) → Put (decimal n) e at q g
     → Put (integer z) e at q g
 natural-put z n at q e g s t m y =
-    let u : ltZ z (pos 0) ≡ false = rw (as-read z s) at t in
-    natural-bytes z n at q e g u (m ∙ ap natAbs (as-read z s)) y
+    let u : ltZ z (pos 0) ≡ false = rw (toZ-ofZ s) at t in
+    natural-bytes z n at q e g u (m ∙ ap natAbs (toZ-ofZ s)) y

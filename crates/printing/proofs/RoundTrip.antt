@@ -4,12 +4,12 @@ use Prim.Native.Nat.{ℕ, _≤_}
 use Prim.Native.String.{String}
 use mathlib.Core.Path.{_≡_, refl, ap, _∙_}
 use mathlib.Core.Bool.{Bool, true, false}
-use mathlib.Core.List.{List, [], _∷_, _++_, map}
+use mathlib.Core.List.{List, [], _∷_, map}
 use native.Mathlib.Omega.{arith}
 use lib.Dec.{T, eqb, eqb→eq, ltb, lit<}
 use lib.ListN.{length, getD}
 use lib.IntN.{ℤ}
-use Rattle.laws.specs.Lists.{All}
+use Rattle.laws.specs.Lists.{All, all-append}
 use Rattle.laws.specs.Tables.{every, every-at}
 use Rattle.calendar.specs.declared.Day.{Day}
 use Rattle.calendar.specs.declared.Month.{Month}
@@ -42,16 +42,8 @@ parsed-words room ws a =
 
 -- The words of a call are such words.
 
-is-true : (t : Bool) → T t → t ≡ true
-is-true true t = refl
-is-true false t = absurd t
-
-word : (s : String) → T (ltb 0 (length (text s))) → T (each wordByte (text s)) → IsWord (text s)
-word s h t = record { some-byte = lit< h; bytes = is-true (each wordByte (text s)) t }
-
-integers-words : (zs : List ℤ) (ws : List (List ℕ)) → All IsWord ws → All IsWord (map integer zs ++ ws)
-integers-words [] ws a = a
-integers-words (z ∷ zs) ws a = (integer-word z, integers-words zs ws a)
+word : (s : String) → T (ltb 0 (length (text s))) → each wordByte (text s) ≡ true → IsWord (text s)
+word s h e = record { some-byte = lit< h; bytes = e }
 
 figures-words : (zs : List ℤ) → All IsWord (map integer zs)
 figures-words [] = tt
@@ -60,24 +52,24 @@ figures-words (z ∷ zs) = (integer-word z, figures-words zs)
 lists-words : (bs : List (List ℤ)) → All IsWord (listWords bs)
 unfolding listWords
 lists-words [] = tt
-lists-words (b ∷ bs) = (decimal-word (length b), integers-words b (listWords bs) (lists-words bs))
+lists-words (b ∷ bs) = (decimal-word (length b), all-append IsWord (map integer b) (listWords bs) (figures-words b) (lists-words bs))
 
 pub call-words : (r : Request) (zs : List ℤ) → All IsWord (callWords r zs)
 unfolding callWords each wordByte solid control blank
 call-words Request.Nothing zs = tt
-call-words (Request.Fresh d) zs = word "fresh" tt tt & decimal-word (d .0) & tt
-call-words (Request.Admit p r) zs = word "admit" tt tt & decimal-word p & decimal-word r & tt
-call-words (Request.LodgeCash p q a) zs = word "lodge" tt tt & decimal-word p & decimal-word q & word "cash" tt tt & decimal-word a & tt
+call-words (Request.Fresh d) zs = word "fresh" tt refl & decimal-word (d .0) & tt
+call-words (Request.Admit p r) zs = word "admit" tt refl & decimal-word p & decimal-word r & tt
+call-words (Request.LodgeCash p q a) zs = word "lodge" tt refl & decimal-word p & decimal-word q & word "cash" tt refl & decimal-word a & tt
 call-words (Request.LodgeLetter p q a f l) zs =
-    word "lodge" tt tt & decimal-word p & decimal-word q & word "letter" tt tt & decimal-word a & decimal-word (f .0) & decimal-word (l .0) & tt
-call-words (Request.Release p q a) zs = word "release" tt tt & decimal-word p & decimal-word q & decimal-word a & tt
-call-words (Request.Settle p m n) zs = word "settle" tt tt & decimal-word p & decimal-word (m .0) & figures-words zs
-call-words (Request.Annual p) zs = word "annual" tt tt & decimal-word p & tt
-call-words (Request.Advance t b) zs = word "advance" tt tt & decimal-word (t .0) & decimal-word b & tt
-call-words (Request.Statement p) zs = word "statement" tt tt & decimal-word p & tt
-call-words Request.Calls zs = word "calls" tt tt & tt
-call-words (Request.Special n) zs = word "special" tt tt & lists-words (cut (lengthList n) zs)
-call-words Request.Report zs = word "report" tt tt & tt
+    word "lodge" tt refl & decimal-word p & decimal-word q & word "letter" tt refl & decimal-word a & decimal-word (f .0) & decimal-word (l .0) & tt
+call-words (Request.Release p q a) zs = word "release" tt refl & decimal-word p & decimal-word q & decimal-word a & tt
+call-words (Request.Settle p m n) zs = word "settle" tt refl & decimal-word p & decimal-word (m .0) & figures-words zs
+call-words (Request.Annual p) zs = word "annual" tt refl & decimal-word p & tt
+call-words (Request.Advance t b) zs = word "advance" tt refl & decimal-word (t .0) & decimal-word b & tt
+call-words (Request.Statement p) zs = word "statement" tt refl & decimal-word p & tt
+call-words Request.Calls zs = word "calls" tt refl & tt
+call-words (Request.Special n) zs = word "special" tt refl & lists-words (cut (lengthList n) zs)
+call-words Request.Report zs = word "report" tt refl & tt
 call-words (Request.Error e) zs = tt
 
 -- The first word of a line decides which call it is.

@@ -54,7 +54,7 @@ fn magnitude(z: i64) -> u64
     ensures { λ r. ⌜ r ≡ natAbs z ⌝ }
 {
     if z < 0 {
-        return (0 - (z + 1)) as u64 + 1;
+        return (-1 - z) as u64 + 1;
     }
     z as u64
 }

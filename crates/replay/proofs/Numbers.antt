@@ -4,14 +4,11 @@ use Prim.Native.Nat.{ℕ, _+_, _-_, _*_, _≤_}
 use native.Mathlib.Omega.{arith}
 use mathlib.Core.Path.{_≡_, sym, ap, subst, _∙_}
 use mathlib.Core.List.{List, [], _∷_}
-use borrow.Author.Needs.{sfits-of}
 use borrow.Author.Tests.{ltb-false}
 use lib.ListN.{length}
 use lib.IntN.{ℤ, pos, natAbs}
-use mir.Syntax.{w64}
-use mir.Val.{toZ, ofZ}
-use mir.Facts.{toZ-ofZ}
 use Rattle.laws.specs.Cases.{split}
+use Rattle.laws.specs.Read.{read, read-abs}
 use Rattle.laws.specs.Tabulated.{length-table}
 use Rattle.calendar.specs.Civil.{monthOf}
 use Rattle.manual.specs.Figures.{sumOf}
@@ -26,7 +23,7 @@ use Rattle.file.specs.Release.{releaseAnswer}
 use Rattle.file.specs.CheckLaws.{settled-answer}
 use Rattle.file.specs.Settle.{settlementCalls, checkDue, settledAnswer, settleAnswer}
 use Rattle.file.specs.Annual.{annualTotals, annualAmountOf, annualAnswer}
-use Rattle.file.specs.Statement.{statementOf}
+use Rattle.file.specs.Statement.{fileStatement}
 use Rattle.file.specs.Sound.{Sound}
 use Rattle.file.specs.KeepsPositions.{sound-cover}
 use Rattle.file.specs.KeepsCalls.{annual-bound}
@@ -45,11 +42,8 @@ use Rattle.book.proofs.Functions.SoundBook.{sound-file, sound-made}
 use Rattle.book.proofs.Functions.OnWords.{file-there}
 
 -- What a signed word that was made of a number reads.
-abbrev read : ℤ → ℤ
-read z = toZ w64 (ofZ w64 z)
-
 read-back : (n : ℕ) (z : ℤ) → n ≤ largestSigned → z ≡ pos n → read z ≡ pos n
-read-back n z h e = ap read e ∙ toZ-ofZ {w = w64} {z = pos n} (sfits-of (omega arith))
+read-back n z h e = ap read e ∙ read-abs (pos n) (omega arith)
 
 -- Six words.
 pub six-read : (k a b c : ℕ) (w x y z : ℤ) → (k ≤ 8) × (a ≤ largestSigned) × (b ≤ largestSigned) × (c ≤ largestSigned)
@@ -97,8 +91,8 @@ annual-within f t s =
     decide-within _ (annual (annualAmountOf f t) (length (annualTotals f t))) (λ n. (omega arith, omega arith))
 
 -- A statement's.
-statement-within : (f : File) (t : ℕ) → Sound t f → length (f .slots) ≡ 8 → WithinSigned (statementSays (statementOf f t))
-unfolding statementOf shortfallOf
+statement-within : (f : File) (t : ℕ) → Sound t f → length (f .slots) ≡ 8 → WithinSigned (statementSays (fileStatement f t))
+unfolding fileStatement shortfallOf
 statement-within f t s n =
     let cover = sound-cover t t f s n in
     (omega (arith, s .firm), omega arith, omega (arith, s .firm), omega (arith, s .charged, s .day), omega (arith, s .charged, s .day, s .accrued))
@@ -129,8 +123,8 @@ answer-within l (on p a) w =
 answer-within l (advance day budget) w = decide-within _ (daysOpened (daysToOpen (bookOfWords l) day budget)) (λ n. tt)
 answer-within l (statement p) w =
     let b = bookOfWords l in
-    decide-within _ (ifAdmitted (fileAt b p) (statementSays (statementOf (fileAt b p) (b .today .0))))
-    (λ n. decide-within _ (statementSays (statementOf (fileAt b p) (b .today .0)))
+    decide-within _ (ifAdmitted (fileAt b p) (statementSays (fileStatement (fileAt b p) (b .today .0))))
+    (λ n. decide-within _ (statementSays (fileStatement (fileAt b p) (b .today .0)))
     (λ m. statement-within (fileAt b p) (b .today .0) (sound-file b p (w .sound)) (eight l p (ltb-false 63 p (n .0)))))
 answer-within l callsMade w = let few = sound-made (bookOfWords l) (w .sound) in omega arith
 

@@ -26,23 +26,23 @@ use Rattle.book.specs.Account.{freshBook, freshAnswer, freshBookBeside, answer,
 use Rattle.book.specs.Reading.Decisions.{decision, eventsOf}
 use Rattle.book.specs.Reached.{Given, Begun}
 use Rattle.book.specs.InWords.{GivenWords, BegunWords}
-use Rattle.replay.specs.Encoding.{number, letterOf, callOfWords, callAt, callsUpTo, numbersOf, decided}
+use Rattle.replay.specs.Encoding.{number, letterOfNumbers, callOfSix, callAt, callsUpTo, sixNumbers, decided}
 use Rattle.replay.specs.Replayed.{GivenNumbers, callCount, Replayed, ReplayedFrom}
 use Rattle.book.proofs.History.Life.{life, given}
 
 -- ---- the numbers of what a public call gives
 
-gave : (l m : List ℕ) (c : Call) (x : Answer) (z : List ℤ) → GivenWords l c x m → z ≡ numbersOf x → GivenNumbers l c z m
-gave l m c x z g h = record { answered = h ∙ ap numbersOf (g .given .answered); left = g .given .left; formed = g .formed }
+gave : (l m : List ℕ) (c : Call) (x : Answer) (z : List ℤ) → GivenWords l c x m → z ≡ sixNumbers x → GivenNumbers l c z m
+gave l m c x z g h = record { answered = h ∙ ap sixNumbers (g .given .answered); left = g .given .left; formed = g .formed }
 
 -- A question leaves the words as they were.
-asked : (l : List ℕ) (c : Call) (x : Answer) (z : List ℤ) → WellFormed l → Given (bookOfWords l) c x (bookOfWords l) → z ≡ numbersOf x
+asked : (l : List ℕ) (c : Call) (x : Answer) (z : List ℤ) → WellFormed l → Given (bookOfWords l) c x (bookOfWords l) → z ≡ sixNumbers x
     → GivenNumbers l c z l
-asked l c x z w g h = record { answered = h ∙ ap numbersOf (g .answered); left = g .left; formed = w }
+asked l c x z w g h = record { answered = h ∙ ap sixNumbers (g .answered); left = g .left; formed = w }
 
 -- A letter is as its words say.
 pub letter-is : (a first last x y : ℕ) → x ≡ number first → y ≡ number last
-    → Letter a (record { 0 = x }) (record { 0 = y }) ≡ letterOf a first last
+    → Letter a (record { 0 = x }) (record { 0 = y }) ≡ letterOfNumbers a first last
 letter-is a first last x y p q = λ i. Letter a (record { 0 = p i }) (record { 0 = q i })
 
 -- A part of the figures whose ends are clipped to their number.
@@ -58,60 +58,60 @@ part-is l from count start n p q =
 
 module _ (figures : List ℤ) (k a b c d e : ℕ) (l : List ℕ) (z : List ℤ) where
   -- The call is this one.
-  is-call : (m : List ℕ) (call : Call) → callOfWords figures k a b c d e ≡ call → GivenNumbers l call z m
-      → GivenNumbers l (callOfWords figures k a b c d e) z m
+  is-call : (m : List ℕ) (call : Call) → callOfSix figures k a b c d e ≡ call → GivenNumbers l call z m
+      → GivenNumbers l (callOfSix figures k a b c d e) z m
   is-call m call p g = subst (λ (y : Call). GivenNumbers l y z m) (sym p) g
 
   -- A kind below 8 is the named one.
-  of-kind : (m : List ℕ) (n : ℕ) (call : Call) → k ≡ n → callOfWords figures n a b c d e ≡ call → GivenNumbers l call z m
-      → GivenNumbers l (callOfWords figures k a b c d e) z m
-  of-kind m n call p q g = is-call m call (ap (λ (y : ℕ). callOfWords figures y a b c d e) p ∙ q) g
+  of-kind : (m : List ℕ) (n : ℕ) (call : Call) → k ≡ n → callOfSix figures n a b c d e ≡ call → GivenNumbers l call z m
+      → GivenNumbers l (callOfSix figures k a b c d e) z m
+  of-kind m n call p q g = is-call m call (ap (λ (y : ℕ). callOfSix figures y a b c d e) p ∙ q) g
 
-  module _ (x : Answer) (m : List ℕ) (h : z ≡ numbersOf x) where
-    pub as-admit : k ≡ 0 → GivenWords l (on a (admit b)) x m → GivenNumbers l (callOfWords figures k a b c d e) z m
-    unfolding callOfWords
+  module _ (x : Answer) (m : List ℕ) (h : z ≡ sixNumbers x) where
+    pub as-admit : k ≡ 0 → GivenWords l (on a (admit b)) x m → GivenNumbers l (callOfSix figures k a b c d e) z m
+    unfolding callOfSix
     as-admit p g = of-kind m 0 (on a (admit b)) p refl (gave l m (on a (admit b)) x z g h)
 
-    pub as-cash : k ≡ 1 → GivenWords l (on a (lodge b (Cash c))) x m → GivenNumbers l (callOfWords figures k a b c d e) z m
-    unfolding callOfWords
+    pub as-cash : k ≡ 1 → GivenWords l (on a (lodge b (Cash c))) x m → GivenNumbers l (callOfSix figures k a b c d e) z m
+    unfolding callOfSix
     as-cash p g = of-kind m 1 (on a (lodge b (Cash c))) p refl (gave l m (on a (lodge b (Cash c))) x z g h)
 
-    pub as-letter : (held : Position) → k ≡ 2 → held ≡ letterOf c d e → GivenWords l (on a (lodge b held)) x m
-        → GivenNumbers l (callOfWords figures k a b c d e) z m
-    unfolding callOfWords
+    pub as-letter : (held : Position) → k ≡ 2 → held ≡ letterOfNumbers c d e → GivenWords l (on a (lodge b held)) x m
+        → GivenNumbers l (callOfSix figures k a b c d e) z m
+    unfolding callOfSix
     as-letter held p q g =
         of-kind m 2 (on a (lodge b held)) p (ap (λ (y : Position). on a (lodge b y)) (sym q)) (gave l m (on a (lodge b held)) x z g h)
 
-    pub as-release : k ≡ 3 → GivenWords l (on a (release b c)) x m → GivenNumbers l (callOfWords figures k a b c d e) z m
-    unfolding callOfWords
+    pub as-release : k ≡ 3 → GivenWords l (on a (release b c)) x m → GivenNumbers l (callOfSix figures k a b c d e) z m
+    unfolding callOfSix
     as-release p g = of-kind m 3 (on a (release b c)) p refl (gave l m (on a (release b c)) x z g h)
 
     pub as-settle : (mo : ℕ) (lent : List ℤ) → k ≡ 4 → mo ≡ number b → lent ≡ take d (drop c figures)
-        → GivenWords l (on a (settle mo lent)) x m → GivenNumbers l (callOfWords figures k a b c d e) z m
-    unfolding callOfWords
+        → GivenWords l (on a (settle mo lent)) x m → GivenNumbers l (callOfSix figures k a b c d e) z m
+    unfolding callOfSix
     as-settle mo lent p q r g =
         of-kind m 4 (on a (settle mo lent)) p (ap₂ (λ (y : ℕ) (f : List ℤ). on a (settle y f)) (sym q) (sym r))
         (gave l m (on a (settle mo lent)) x z g h)
 
-    pub as-annual : k ≡ 5 → GivenWords l (on a annualRun) x m → GivenNumbers l (callOfWords figures k a b c d e) z m
-    unfolding callOfWords
+    pub as-annual : k ≡ 5 → GivenWords l (on a annualRun) x m → GivenNumbers l (callOfSix figures k a b c d e) z m
+    unfolding callOfSix
     as-annual p g = of-kind m 5 (on a annualRun) p refl (gave l m (on a annualRun) x z g h)
 
     pub as-advance : (day : ℕ) → k ≡ 6 → day ≡ number a → GivenWords l (advance day b) x m
-        → GivenNumbers l (callOfWords figures k a b c d e) z m
-    unfolding callOfWords
+        → GivenNumbers l (callOfSix figures k a b c d e) z m
+    unfolding callOfSix
     as-advance day p q g =
         of-kind m 6 (advance day b) p (ap (λ (y : ℕ). advance y b) (sym q)) (gave l m (advance day b) x z g h)
 
-  module _ (x : Answer) (w : WellFormed l) (h : z ≡ numbersOf x) where
-    pub as-statement : k ≡ 7 → Given (bookOfWords l) (statement a) x (bookOfWords l) → GivenNumbers l (callOfWords figures k a b c d e) z l
-    unfolding callOfWords
+  module _ (x : Answer) (w : WellFormed l) (h : z ≡ sixNumbers x) where
+    pub as-statement : k ≡ 7 → Given (bookOfWords l) (statement a) x (bookOfWords l) → GivenNumbers l (callOfSix figures k a b c d e) z l
+    unfolding callOfSix
     as-statement p g = of-kind l 7 (statement a) p refl (asked l (statement a) x z w g h)
 
     -- A kind above 7.
     pub as-count : (k ≡ 0 → ⊥) → (k ≡ 1 → ⊥) → (k ≡ 2 → ⊥) → (k ≡ 3 → ⊥) → (k ≡ 4 → ⊥) → (k ≡ 5 → ⊥) → (k ≡ 6 → ⊥) → (k ≡ 7 → ⊥)
-        → Given (bookOfWords l) callsMade x (bookOfWords l) → GivenNumbers l (callOfWords figures k a b c d e) z l
-    unfolding callOfWords
+        → Given (bookOfWords l) callsMade x (bookOfWords l) → GivenNumbers l (callOfSix figures k a b c d e) z l
+    unfolding callOfSix
     as-count n₀ n₁ n₂ n₃ n₄ n₅ n₆ n₇ g =
         is-call l callsMade
         (simp (ne-eqb k 0 n₀, ne-eqb k 1 n₁, ne-eqb k 2 n₂, ne-eqb k 3 n₃, ne-eqb k 4 n₄, ne-eqb k 5 n₅, ne-eqb k 6 n₆, ne-eqb k 7 n₇))
@@ -138,7 +138,7 @@ put-all out₀ out numbers at i six low high e =
 -- ---- the calls in turn
 
 -- An answer's numbers are six.
-numbers-long : (x : Answer) → length (numbersOf x) ≡ 6
+numbers-long : (x : Answer) → length (sixNumbers x) ≡ 6
 numbers-long (refused n) = refl
 numbers-long done = refl
 numbers-long (called e asked last) = refl
@@ -153,7 +153,7 @@ decided-long : (s : ℕ) (calls : List ℕ) (figures : List ℤ) (n : ℕ) → l
 unfolding decided
 decided-long s calls figures zero = refl
 decided-long s calls figures (suc n) =
-    let x = numbersOf (decision s (eventsOf s (callsUpTo calls figures n)) (callAt calls figures n)) in
+    let x = sixNumbers (decision s (eventsOf s (callsUpTo calls figures n)) (callAt calls figures n)) in
     let six = numbers-long (decision s (eventsOf s (callsUpTo calls figures n)) (callAt calls figures n)) in
     omega (arith, length-append (decided s calls figures n) x, decided-long s calls figures n)
 
@@ -260,7 +260,7 @@ module _ (calls : List ℕ) (figures out₀ : List ℤ) (s count i : ℕ) (out :
       let n : 6 * i + 6 ≡ 6 * (i + 1) = omega arith in
       e
       ∙ ap₂ (λ (x y : List ℤ). x ++ l ++ y) turn-before turn-behind
-      ∙ ap (λ (x : List ℤ). decided s calls figures i ++ x ++ drop (6 * i + 6) out₀) (g .answered ∙ ap numbersOf turn-decided)
+      ∙ ap (λ (x : List ℤ). decided s calls figures i ++ x ++ drop (6 * i + 6) out₀) (g .answered ∙ ap sixNumbers turn-decided)
       ∙ ap₂ (λ (j k : ℕ). decided s calls figures j ++ drop k out₀) (sym (add-one i)) n
 
   -- One call more.

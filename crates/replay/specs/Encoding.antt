@@ -18,16 +18,16 @@ abbrev pub number : ℕ → ℕ
 number w = min w 4294967295
 
 -- A letter, from its amount, its first and its last day.
-abbrev pub letterOf : ℕ → ℕ → ℕ → Position
-letterOf amount first last = Letter amount (record { 0 = number first }) (record { 0 = number last })
+abbrev pub letterOfNumbers : ℕ → ℕ → ℕ → Position
+letterOfNumbers amount first last = Letter amount (record { 0 = number first }) (record { 0 = number last })
 
 -- The call in six words: its kind and its arguments. A settlement's figures are the d from place c on of the lent figures, or as many of
 -- these as there are. A kind above 7 is the question for the count.
-unfoldable pub callOfWords : List ℤ → ℕ → ℕ → ℕ → ℕ → ℕ → ℕ → Call
-callOfWords figures kind a b c d e =
+unfoldable pub callOfSix : List ℤ → ℕ → ℕ → ℕ → ℕ → ℕ → ℕ → Call
+callOfSix figures kind a b c d e =
     cond (eqb kind 0) (on a (admit b))
     (cond (eqb kind 1) (on a (lodge b (Cash c)))
-    (cond (eqb kind 2) (on a (lodge b (letterOf c d e)))
+    (cond (eqb kind 2) (on a (lodge b (letterOfNumbers c d e)))
     (cond (eqb kind 3) (on a (release b c))
     (cond (eqb kind 4) (on a (settle (number b) (take d (drop c figures))))
     (cond (eqb kind 5) (on a annualRun)
@@ -37,7 +37,7 @@ callOfWords figures kind a b c d e =
 -- The call at place n of a list of calls.
 unfoldable pub callAt : List ℕ → List ℤ → ℕ → Call
 callAt calls figures n =
-    callOfWords figures
+    callOfSix figures
     (getD calls (6 * n) 0)
     (getD calls (6 * n + 1) 0)
     (getD calls (6 * n + 2) 0)
@@ -55,16 +55,16 @@ abbrev pub six : ℕ → ℤ → ℤ → ℤ → ℤ → ℤ → List ℤ
 six kind a b c d e = pos kind ∷ a ∷ b ∷ c ∷ d ∷ e ∷ []
 
 -- An answer as six numbers: which it is, then its values, then zeros.
-abbrev pub numbersOf : Answer → List ℤ
-numbersOf (refused n) = six 0 (pos n) (pos 0) (pos 0) (pos 0) (pos 0)
-numbersOf done = six 1 (pos 0) (pos 0) (pos 0) (pos 0) (pos 0)
-numbersOf (called e asked last) = six 2 (pos e) (pos asked) (pos last) (pos 0) (pos 0)
-numbersOf (covered e) = six 3 e (pos 0) (pos 0) (pos 0) (pos 0)
-numbersOf (recorded e) = six 4 e (pos 0) (pos 0) (pos 0) (pos 0)
-numbersOf (annual a n) = six 5 (pos a) (pos n) (pos 0) (pos 0) (pos 0)
-numbersOf (daysOpened n) = six 6 (pos n) (pos 0) (pos 0) (pos 0) (pos 0)
-numbersOf (stated f c s d a) = six 7 (pos f) (pos c) (pos s) (pos d) (pos a)
-numbersOf (counted n) = six 8 (pos n) (pos 0) (pos 0) (pos 0) (pos 0)
+abbrev pub sixNumbers : Answer → List ℤ
+sixNumbers (refused n) = six 0 (pos n) (pos 0) (pos 0) (pos 0) (pos 0)
+sixNumbers done = six 1 (pos 0) (pos 0) (pos 0) (pos 0) (pos 0)
+sixNumbers (called e asked last) = six 2 (pos e) (pos asked) (pos last) (pos 0) (pos 0)
+sixNumbers (covered e) = six 3 e (pos 0) (pos 0) (pos 0) (pos 0)
+sixNumbers (recorded e) = six 4 e (pos 0) (pos 0) (pos 0) (pos 0)
+sixNumbers (annual a n) = six 5 (pos a) (pos n) (pos 0) (pos 0) (pos 0)
+sixNumbers (daysOpened n) = six 6 (pos n) (pos 0) (pos 0) (pos 0) (pos 0)
+sixNumbers (stated f c s d a) = six 7 (pos f) (pos c) (pos s) (pos d) (pos a)
+sixNumbers (counted n) = six 8 (pos n) (pos 0) (pos 0) (pos 0) (pos 0)
 
 -- The largest number of a signed word of 64 bits.
 abbrev pub largestSigned : ℕ
@@ -92,4 +92,4 @@ unfoldable pub decided : ℕ → List ℕ → List ℤ → ℕ → List ℤ
 decided s calls figures zero = []
 decided s calls figures (suc n) =
     decided s calls figures n
-    ++ numbersOf (decision s (eventsOf s (callsUpTo calls figures n)) (callAt calls figures n))
+    ++ sixNumbers (decision s (eventsOf s (callsUpTo calls figures n)) (callAt calls figures n))

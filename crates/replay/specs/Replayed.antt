@@ -15,11 +15,11 @@ use Rattle.book.specs.Reading.Decisions.{eventsOf}
 use Rattle.book.specs.Kept.{bookIn}
 use Rattle.book.specs.Life.{Life}
 use Rattle.book.specs.Reached.{Reached}
-use Rattle.replay.specs.Encoding.{numbersOf, callsUpTo, decided}
+use Rattle.replay.specs.Encoding.{sixNumbers, callsUpTo, decided}
 
 -- What call c on the book in the words l gives: the numbers of its answer, and the words m that it leaves.
 pub record GivenNumbers (l : List ℕ) (c : Call) (numbers : List ℤ) (m : List ℕ) : Type 0 where
-  pub answered : numbers ≡ numbersOf (answer (bookOfWords l) c)
+  pub answered : numbers ≡ sixNumbers (answer (bookOfWords l) c)
   pub left : bookOfWords m ≡ step (bookOfWords l) c
   -- the next call may be made
   pub formed : WellFormed m

@@ -7,7 +7,7 @@ ghost use mathlib.Core.Path.{_≡_};
 ghost use Prim.Native.Nat.{_+_, _*_, _≤_, min};
 ghost use lib.ListN.{length, take, drop};
 ghost use Rattle.layout.specs.WellFormed.{WellFormed};
-ghost use Rattle.replay.specs.Encoding.{number, letterOf, callOfWords, callAt};
+ghost use Rattle.replay.specs.Encoding.{number, letterOfNumbers, callOfSix, callAt};
 ghost use Rattle.replay.specs.Replayed.{GivenNumbers};
 
 // A word as a day or month number.
@@ -43,7 +43,7 @@ fn part(figures: &[i64], from: u64, count: u64) -> &[i64]
 
 // A letter, from its amount, its first and its last day.
 fn letter(amount: u64, first: u64, last: u64) -> Position
-    ensures { λ r. ⌜ r ≡ letterOf amount first last ⌝ }
+    ensures { λ r. ⌜ r ≡ letterOfNumbers amount first last ⌝ }
 {
     Position::Letter(amount, Day(clipped(first)), Day(clipped(last)))
 }
@@ -60,7 +60,7 @@ fn apply(
     e: u64,
 ) -> [i64; 6]
     requires { ⌜ WellFormed (now book) ⌝ }
-    ensures { λ r. ⌜ GivenNumbers (now (book .entry)) (callOfWords (now (figures .entry)) kind a b c d e) r (now (book .exit)) ⌝ }
+    ensures { λ r. ⌜ GivenNumbers (now (book .entry)) (callOfSix (now (figures .entry)) kind a b c d e) r (now (book .exit)) ⌝ }
 {
     match kind {
         0 => encoded::outcome_numbers(book::admit(book, a, b)),

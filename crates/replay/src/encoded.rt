@@ -10,7 +10,7 @@ ghost use Prim.Native.Nat.{_≤_};
 ghost use lib.IntN.{pos};
 ghost use Rattle.file.specs.Answer.{counted, outcomeSays, settledSays, annualSays, statementSays};
 ghost use Rattle.book.specs.Call.{advancedSays, statedSays};
-ghost use Rattle.replay.specs.Encoding.{largestSigned, six, numbersOf, WithinSigned};
+ghost use Rattle.replay.specs.Encoding.{largestSigned, six, sixNumbers, WithinSigned};
 
 // A number of a signed word.
 fn signed(x: u64) -> i64
@@ -30,7 +30,7 @@ fn values(kind: u64, a: u64, b: u64, c: u64) -> [i64; 6]
 
 // The numbers of an outcome.
 pub fn outcome_numbers(answer: Outcome) -> [i64; 6]
-    ensures { λ r. ⌜ r ≡ numbersOf (outcomeSays answer) ⌝ }
+    ensures { λ r. ⌜ r ≡ sixNumbers (outcomeSays answer) ⌝ }
 {
     match answer {
         Outcome::Done => values(1, 0, 0, 0),
@@ -41,7 +41,7 @@ pub fn outcome_numbers(answer: Outcome) -> [i64; 6]
 // The numbers of a settlement's answer.
 pub fn settled_numbers(answer: Settled) -> [i64; 6]
     requires { ⌜ WithinSigned (settledSays answer) ⌝ }
-    ensures { λ r. ⌜ r ≡ numbersOf (settledSays answer) ⌝ }
+    ensures { λ r. ⌜ r ≡ sixNumbers (settledSays answer) ⌝ }
 {
     match answer {
         Settled::Called(e, asked, last) => values(2, e, asked, last.0 as u64),
@@ -54,7 +54,7 @@ pub fn settled_numbers(answer: Settled) -> [i64; 6]
 // The numbers of an annual run's answer.
 pub fn annual_numbers(answer: AnnualRun) -> [i64; 6]
     requires { ⌜ WithinSigned (annualSays answer) ⌝ }
-    ensures { λ r. ⌜ r ≡ numbersOf (annualSays answer) ⌝ }
+    ensures { λ r. ⌜ r ≡ sixNumbers (annualSays answer) ⌝ }
 {
     match answer {
         AnnualRun::Amount(amount, months) => values(5, amount, months, 0),
@@ -64,7 +64,7 @@ pub fn annual_numbers(answer: AnnualRun) -> [i64; 6]
 
 // The numbers of an advance's answer.
 pub fn advanced_numbers(answer: Advanced) -> [i64; 6]
-    ensures { λ r. ⌜ r ≡ numbersOf (advancedSays answer) ⌝ }
+    ensures { λ r. ⌜ r ≡ sixNumbers (advancedSays answer) ⌝ }
 {
     match answer {
         Advanced::Opened(n) => values(6, n as u64, 0, 0),
@@ -75,7 +75,7 @@ pub fn advanced_numbers(answer: Advanced) -> [i64; 6]
 // The numbers of a statement.
 fn statement_numbers(s: Statement) -> [i64; 6]
     requires { ⌜ WithinSigned (statementSays s) ⌝ }
-    ensures { λ r. ⌜ r ≡ numbersOf (statementSays s) ⌝ }
+    ensures { λ r. ⌜ r ≡ sixNumbers (statementSays s) ⌝ }
 {
     [
         7,
@@ -90,7 +90,7 @@ fn statement_numbers(s: Statement) -> [i64; 6]
 // The numbers of the answer to the question for a statement.
 pub fn stated_numbers(answer: Stated) -> [i64; 6]
     requires { ⌜ WithinSigned (statedSays answer) ⌝ }
-    ensures { λ r. ⌜ r ≡ numbersOf (statedSays answer) ⌝ }
+    ensures { λ r. ⌜ r ≡ sixNumbers (statedSays answer) ⌝ }
 {
     match answer {
         Stated::Is(s) => statement_numbers(s),
@@ -101,7 +101,7 @@ pub fn stated_numbers(answer: Stated) -> [i64; 6]
 // The numbers of the count of calls made.
 pub fn counted_numbers(n: u64) -> [i64; 6]
     requires { ⌜ WithinSigned (counted n) ⌝ }
-    ensures { λ r. ⌜ r ≡ numbersOf (counted n) ⌝ }
+    ensures { λ r. ⌜ r ≡ sixNumbers (counted n) ⌝ }
 {
     values(8, n, 0, 0)
 }

@@ -62,7 +62,7 @@ module _ (e f g : List ℕ) (at p q : ℕ) where
 
 -- A number with a point.
 
-digits-count : (k n : ℕ) → length (digits k n) ≡ k
+pub digits-count : (k n : ℕ) → length (digits k n) ≡ k
 unfolding digits
 digits-count zero n = refl
 digits-count (suc k) n = omega (arith, length-append (digits k (n / 10)) ((48 + n % 10) ∷ []), digits-count k (n / 10))

@@ -45,7 +45,7 @@ byte-small : (t : Bool) → boolByte t ≤ 1
 byte-small true = omega arith
 byte-small false = omega arith
 
-below-small : (b : Book) (i : ℕ) → admittedBelow i b ≤ i
+pub below-small : (b : Book) (i : ℕ) → admittedBelow i b ≤ i
 unfolding admittedBelow
 below-small b zero = omega arith
 below-small b (suc i) =

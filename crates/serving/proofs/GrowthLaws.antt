@@ -16,6 +16,7 @@ use Rattle.dialogue.specs.declared.Place.{Place}
 use Rattle.dialogue.specs.Split.{linesIn}
 use Rattle.dialogue.specs.Turns.{State, ended, allJournal}
 use Rattle.dialogue.specs.Answers.{Answers}
+use Rattle.dialogue.proofs.AskLaws.{rest-all}
 use Rattle.dialogue.proofs.SplitLaws.{lines-behind}
 use Rattle.dialogue.proofs.CompleteLines.{all-lines}
 use Rattle.dialogue.proofs.TurnLaws.{journal-append, ended-journal}
@@ -23,7 +24,7 @@ use Rattle.storage.specs.declared.kept.Journal.{Journal}
 use Rattle.storage.specs.Kept.{continuedAs}
 use Rattle.serving.specs.Delivery.{longerBy, Became, Grown}
 use Rattle.serving.specs.Parts.{Step}
-use Rattle.serving.proofs.PartLaws.{Draining, part-is, here, at-start}
+use Rattle.serving.proofs.PartLaws.{Draining, no-journal, here, at-start}
 
 -- ---- longer by some bytes, and by more
 
@@ -60,13 +61,9 @@ took way room s t input k f used j r silent p before after x y =
 
 -- ---- .. and of all
 
-no-journal : (way : Way) (room : ℕ) (s : State) → length (allJournal way room s (linesIn [])) ≡ 0
-unfolding linesIn allJournal
-no-journal way room s = refl
-
 pub grown-none : (way : Way) (room : ℕ) (s : State) (input : List ℕ) (silent : Bool) (j : Journal)
     → Grown silent j (length (allJournal way room s (linesIn (take 0 input)))) j
-grown-none way room s input silent j = none-grown silent j _ (no-journal way room s)
+grown-none way room s input silent j = none-grown silent j _ (no-journal way room s [] refl)
 
 module _ (way : Way) (room room₁ : ℕ) (s t u : State) (input : List ℕ) (start used : ℕ) (silent : Bool) (i j k : Journal)
     (d : Draining way room s input start t) (x : Step way room₁ t (take (length input - start) (drop start input)) used u) (same : room₁ ≡ room)
@@ -75,7 +72,7 @@ module _ (way : Way) (room room₁ : ℕ) (s t u : State) (input : List ℕ) (st
   more : Grown silent j (length (allJournal way room t (linesIn (take used (drop start input))))) k
   more =
       subst (λ (n : ℕ). Grown silent j (length (allJournal way n t (linesIn (take used (drop start input))))) k) same
-      (subst (λ (l : List ℕ). Grown silent j (length (allJournal way room₁ t (linesIn (take used l)))) k) (part-is input start) now)
+      (subst (λ (l : List ℕ). Grown silent j (length (allJournal way room₁ t (linesIn (take used l)))) k) (rest-all input start) now)
 
   -- one turn
   pub grown-on : Grown silent i (length (allJournal way room s (linesIn (take (start + used) input)))) k

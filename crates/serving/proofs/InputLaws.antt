@@ -2,7 +2,7 @@
 -- Assumes nothing.
 use Prim.Native.Nat.{ℕ, suc, _+_, _-_, _≤_, _<_}
 use mathlib.Core.Path.{_≡_, refl, sym, ap, _∙_}
-use mathlib.Core.Bool.{Bool, true, false, not, _&&_, _||_}
+use mathlib.Core.Bool.{Bool, true, false, not, _&&_, _||_, or-true}
 use mathlib.Core.List.{List, [], _∷_, _++_}
 use native.Mathlib.Numerals.{add-one}
 use native.Mathlib.Omega.{arith}
@@ -54,9 +54,6 @@ stays before filled room e h = rw (e, lt-ltb filled room h) refl
 pub leaves : (before : Bool) (filled room : ℕ) → before ≡ false → room ≤ filled → 0 ≡ staying before filled room
 leaves before filled room e h = rw (e, le-ltb filled room h) refl
 
-pub leaves-long : (before : Bool) (filled room : ℕ) → before ≡ true → 0 ≡ staying before filled room
-leaves-long before filled room e = rw e refl
-
 -- ---- whether more is taken
 
 pub has-ended : (way : Way) (p : Place) → (way .bails && ltb 0 (p .refused)) ≡ ended way p
@@ -66,17 +63,13 @@ has-ended way p = refl
 pub goes-on : (ok : Bool) (way : Way) (p : Place) (t : Bool) → t ≡ ended way p → (ok && not t) ≡ (ok && not (ended way p))
 goes-on ok way p t e = ap (λ (x : Bool). ok && not x) e
 
-or-true : (a b : Bool) → b ≡ true → (a || b) ≡ true
-or-true true b e = refl
-or-true false b e = e
-
 -- ---- behind the last newline of a journal
 
 pub passes-none : (p : Place) (n : ℕ) → not (p .long || ltb 0 n) ≡ true → true ≡ passes p n
 passes-none p n e = rw e refl
 
 pub passes-rest : (p : Place) (n : ℕ) (t : Bool) → t ≡ isRest p n → not t ≡ false → true ≡ passes p n
-passes-rest p n t e h = sym (or-true (not (p .long || ltb 0 n)) (isRest p n) (sym e ∙ not-false t h))
+passes-rest p n t e h = sym (ap (λ (x : Bool). not (p .long || ltb 0 n) || x) (sym e ∙ not-false t h) ∙ or-true (not (p .long || ltb 0 n)))
 
 pub passes-not : (p : Place) (n : ℕ) (t : Bool) → not (p .long || ltb 0 n) ≡ false → t ≡ isRest p n → not t ≡ true → false ≡ passes p n
 passes-not p n t g e h = sym (ap (λ (x : Bool). x || isRest p n) g ∙ sym e ∙ not-true t h)

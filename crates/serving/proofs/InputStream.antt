@@ -22,12 +22,12 @@ use Rattle.dialogue.specs.Whole.{knownPlace, streamAfter}
 use Rattle.dialogue.proofs.SplitLaws.{rest-cut}
 use Rattle.dialogue.proofs.CompleteLines.{rest-plain, none-rest}
 use Rattle.dialogue.proofs.LongLine.{knowing}
-use Rattle.dialogue.proofs.Parts.{part-state, long-part-state}
+use Rattle.dialogue.proofs.Parts.{known, part-state, long-part-state}
 use Rattle.dialogue.proofs.Streams.{cut-anywhere}
 use Rattle.serving.specs.declared.delivery.Progress.{Progress}
 use Rattle.serving.specs.Input.{MoreRead, PartTaken, InputTaken}
 use Rattle.serving.proofs.BufferLaws.{ended-known}
-use Rattle.serving.proofs.StreamLaws.{stream-begins, begun-none, begun-rest, either, same-state, known, joined, still-long}
+use Rattle.serving.proofs.StreamLaws.{stream-begins, begun-none, begun-rest, either, same-state, joined, still-long}
 
 -- Once something failed, all is not well.
 pub failed-void : (p r : Progress) → r .journal .ok ≡ false → r .journal .ok ≡ true → r ≡ p
@@ -44,7 +44,7 @@ none-taken way room s most ok f h e =
       book = λ o n. refl;
       place =
           λ o n.
-          ap (λ (z : State). z .place) (sym (known s e)) ∙ ap (λ (z : Bool). knownPlace z (s .place)) (sym short);
+          ap (λ (z : State). z .place) (sym (known false s e)) ∙ ap (λ (z : Bool). knownPlace z (s .place)) (sym short);
       many = λ o n. sym (cond-false (leb most 0) 0 0 short);
       rest = λ o n. sym (cond-false (leb most 0) [] [] short);
     }
@@ -79,7 +79,7 @@ module _ (way : Way) (room : ℕ) (s : State) (most : ℕ) (t u : State) (ok : B
   short : leb most (length (restIn g)) ≡ false → InputTaken way room s most u ok used f
   short c =
       let is : t ≡ end =
-      is-known ∙ ap (λ (z : Bool). knowing z end) c ∙ known end (stream-begins most way room s (linesIn g) begins) in
+      is-known ∙ ap (λ (z : Bool). knowing z end) c ∙ known false end (stream-begins most way room s (linesIn g) begins) in
       let whole : take full e ≡ restIn g ++ b =
       part ∙ ap (λ (z : List ℕ). z ++ b) (y .rest refl on ∙ cond-false (leb most (length (restIn g))) [] (restIn g) c) in
       let begun : t .place .long ≡ false = ap (λ (z : State). z .place .long) is ∙ stream-begins most way room s (linesIn g) begins in

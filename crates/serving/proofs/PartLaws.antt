@@ -2,19 +2,20 @@
 -- Assumes nothing.
 use Prim.Native.Nat.{ℕ, _+_, _-_, _≤_, _<_}
 use mathlib.Core.Path.{_≡_, refl, sym, ap, subst, _∙_}
-use mathlib.Core.Bool.{Bool, true, false, not, _&&_, _||_}
+use mathlib.Core.Bool.{Bool, true, false, not, _||_, or-false, or-true}
 use mathlib.Core.List.{List, [], _++_}
 use native.Mathlib.Omega.{arith}
 use borrow.Author.Tests.{le-leb, eqb-true, eqb-false}
 use lib.Dec.{eqb, leb}
 use lib.ListN.{length, take, drop, length-drop, take-append-drop}
-use lib.Seq.{take-add, take-all, length-take-le}
+use lib.Seq.{take-add, length-take-le}
 use Rattle.laws.specs.Cases.{split, clash, or-first}
 use Rattle.dialogue.specs.declared.Way.{Way}
 use Rattle.dialogue.specs.declared.Place.{Place}
 use Rattle.dialogue.specs.Split.{linesIn, restIn}
 use Rattle.dialogue.specs.Turns.{State, ended, afterAll, allBytes, allJournal}
 use Rattle.dialogue.specs.Answers.{goesOn, Answers}
+use Rattle.dialogue.proofs.AskLaws.{rest-all}
 use Rattle.dialogue.proofs.SplitLaws.{lines-behind, rest-behind}
 use Rattle.dialogue.proofs.CompleteLines.{all-lines, none-rest}
 use Rattle.dialogue.proofs.TurnLaws.{after-append, ended-after}
@@ -30,12 +31,8 @@ pub begins : (way : Way) (room : ℕ) (s : State) (input : List ℕ) → Drainin
 unfolding linesIn restIn afterAll
 begins way room s input = record { within = omega arith; whole = refl; left = refl }
 
--- The part as the code has it.
-pub part-is : (input : List ℕ) (start : ℕ) → take (length input - start) (drop start input) ≡ drop start input
-part-is input start = take-all (length input - start) (drop start input) (omega (arith, length-drop start input))
-
 -- Of no bytes there is nothing to be written.
-no-journal : (way : Way) (room : ℕ) (t : State) (l : List ℕ) → l ≡ [] → length (allJournal way room t (linesIn l)) ≡ 0
+pub no-journal : (way : Way) (room : ℕ) (t : State) (l : List ℕ) → l ≡ [] → length (allJournal way room t (linesIn l)) ≡ 0
 unfolding linesIn allJournal
 no-journal way room t l e = rw e refl
 
@@ -44,16 +41,12 @@ unfolding linesIn allBytes
 no-bytes way room t l e = rw e refl
 
 -- Where nothing is written yet and the lines have not ended, one more is taken.
-batch-or : (t : Bool) → ((true && (t || true)) && (true && true)) ≡ true
-batch-or true = refl
-batch-or false = refl
-
 would-go : (way : Way) (p : Place) (j a r b : ℕ) → ended way p ≡ false → j ≡ 0 → r ≡ 0 → 1024 ≤ a → 16384 ≤ b → goesOn way p j a r b ≡ true
 unfolding goesOn
 would-go way p j a r b e x y h k =
     let m : leb 1024 (a - 0) ≡ true = le-leb 1024 (a - 0) (omega arith) in
     let n : leb 16384 (b - 0) ≡ true = le-leb 16384 (b - 0) (omega arith) in
-    rw (e, x, y, m, n) (batch-or (way .batch))
+    rw (e, x, y, m, n, or-true (way .batch)) refl
 
 -- ---- the lines of some bytes of a part
 
@@ -78,7 +71,7 @@ module _ (way : Way) (room room₁ : ℕ) (s t u : State) (input : List ℕ) (st
   pub here : Step way room t (drop start input) used u
   here =
       subst (λ (n : ℕ). Step way n t (drop start input) used u) same
-      (subst (λ (l : List ℕ). Step way room₁ t l used u) (part-is input start) x)
+      (subst (λ (l : List ℕ). Step way room₁ t l used u) (rest-all input start) x)
 
   -- one turn
   pub goes-on : Draining way room s input (start + used) u
@@ -129,15 +122,11 @@ module _ (way : Way) (room room₁ : ℕ) (s t u : State) (input : List ℕ) (st
             ∙ none-rest (drop start input) n)
 
 -- The end of a turn in which no line was taken, or something failed.
-or-false : (t : Bool) → (t || false) ≡ true → t ≡ true
-or-false true e = refl
-or-false false e = e
-
 pub drained : (way : Way) (room room₁ : ℕ) (s t u : State) (input : List ℕ) (start used : ℕ) (ok : Bool) → Draining way room s input start t
     → Step way room₁ t (take (length input - start) (drop start input)) used u → room₁ ≡ room → (eqb used 0 || not ok) ≡ true
     → Drained way room s input start u ok
 drained way room room₁ s t u input start used true d x same e =
-    ends way room room₁ s t u input start used d x same (eqb-true used 0 (or-false (eqb used 0) e))
+    ends way room room₁ s t u input start used d x same (eqb-true used 0 (sym (or-false (eqb used 0)) ∙ e))
 drained way room room₁ s t u input start used false d x same e =
     record { within = d .within; left = λ o. clash {t = false} o refl; rest = λ o. clash {t = false} o refl }
 
@@ -145,7 +134,7 @@ drained way room room₁ s t u input start used false d x same e =
 pub within-input : (way : Way) (room room₁ : ℕ) (s t u : State) (input : List ℕ) (start used : ℕ) → Draining way room s input start t
     → Step way room₁ t (take (length input - start) (drop start input)) used u → start + used ≤ length input
 within-input way room room₁ s t u input start used d x =
-    let y : Step way room₁ t (drop start input) used u = subst (λ (l : List ℕ). Step way room₁ t l used u) (part-is input start) x in
+    let y : Step way room₁ t (drop start input) used u = subst (λ (l : List ℕ). Step way room₁ t l used u) (rest-all input start) x in
     omega (arith, d .within, y .within, length-drop start input)
 
 pub fewer-left : (way : Way) (room room₁ : ℕ) (s t u : State) (input : List ℕ) (start used : ℕ) (t₁ : Bool) → Draining way room s input start t

@@ -68,13 +68,6 @@ front-test false used rest e = take-all used rest (omega arith)
 pub same-state : (t u : State) (z : Bool) → t .book ≡ u .book → t .place ≡ knownPlace z (u .place) → t ≡ knowing z u
 same-state t u z p q = λ i. record { book = p i; place = q i }
 
-pub known : (u : State) → u .place .long ≡ false → knowing false u ≡ u
-known u e =
-    λ i. record {
-      book = u .book;
-      place = record { line = u .place .line; refused = u .place .refused; kept = u .place .kept; long = sym e i };
-    }
-
 -- ---- one part more
 
 -- Where the part's lines lead to the state of all bytes, and its rest is theirs.

@@ -3,4 +3,3 @@ pub mod Ratio
 pub mod Causes
 pub mod Guarantee
 pub mod Best
-pub mod Examples

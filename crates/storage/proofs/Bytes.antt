@@ -15,7 +15,7 @@ use Rattle.laws.specs.Lists.{table}
 use Rattle.laws.specs.Places.{Filling, filling-first, filling-next}
 use Rattle.laws.specs.Tabulated.{length-table, getD-table}
 use Rattle.libc.specs.Io.{Ended}
-use Rattle.storage.specs.Texts.{padded, pathOf, zeroFree, shownByte, shownPadded, digitMore, numberFrom, processIn, behindSlash}
+use Rattle.storage.specs.Texts.{withZeros, pathOf, zeroFree, shownByte, shownPadded, digitMore, numberFrom, processIn, behindSlash}
 
 -- ---- a byte of two texts one behind the other
 
@@ -43,13 +43,13 @@ module _ (n : ℕ) (f : ℕ → ℕ) where
       → Filling n (i + 1) (table n f) before (set now i x)
   table-next i before now x w h e = filling-next n (table n f) i before now x 0 w h (e ∙ sym (getD-table n f i 0 h))
 
-pub padded-first : (s before : List ℕ) → Filling (length before) 0 (padded (length before) s) before before
-unfolding padded
+pub padded-first : (s before : List ℕ) → Filling (length before) 0 (withZeros (length before) s) before before
+unfolding withZeros
 padded-first s before = table-first (length before) (λ k. getD s k 0) before refl
 
-pub padded-next : (n : ℕ) (s before now : List ℕ) (i x : ℕ) → Filling n i (padded n s) before now → i < n → x ≡ getD s i 0
-    → Filling n (i + 1) (padded n s) before (set now i x)
-unfolding padded
+pub padded-next : (n : ℕ) (s before now : List ℕ) (i x : ℕ) → Filling n i (withZeros n s) before now → i < n → x ≡ getD s i 0
+    → Filling n (i + 1) (withZeros n s) before (set now i x)
+unfolding withZeros
 padded-next n s before now i x w h e = table-next n (λ k. getD s k 0) i before now x w h e
 
 pub shown-first : (s before : List ℕ) → Filling (length before) 0 (shownPadded (length before) s) before before
@@ -62,7 +62,7 @@ unfolding shownPadded
 shown-next n s before now i x w h e = table-next n (λ k. shownByte (getD s k 0)) i before now x w h e
 
 -- a name's path, and its end
-pub path-is : (s p : List ℕ) → p ≡ padded 4096 (s ++ []) → set p 4095 0 ≡ pathOf s
+pub path-is : (s p : List ℕ) → p ≡ withZeros 4096 (s ++ []) → set p 4095 0 ≡ pathOf s
 unfolding pathOf
 path-is s p e = rw (e, append-nil s)
 

@@ -15,8 +15,8 @@ abbrev pub noJournal : Journal
 noJournal = record { file = negsuc 0; ok = false; end = 0; device = 0; inode = 0; «lock_device» = 0; «lock_inode» = 0 }
 
 -- One that was opened, with what is known of its file and its lock.
-abbrev pub journalOf : ℤ → Facts → Lock → Journal
-journalOf file facts lock =
+abbrev pub openedJournal : ℤ → Facts → Lock → Journal
+openedJournal file facts lock =
     record {
       file = file;
       ok = facts .ok;

@@ -8,12 +8,12 @@ use lib.ListN.{getD, set}
 use Rattle.laws.specs.Lists.{table}
 
 -- The first n bytes of a text, with zeros behind it where it is shorter.
-unfoldable pub padded : ℕ → List ℕ → List ℕ
-padded n s = table n (λ k. getD s k 0)
+unfoldable pub withZeros : ℕ → List ℕ → List ℕ
+withZeros n s = table n (λ k. getD s k 0)
 
 -- A name as the system takes it: 4,096 bytes, the last of them 0.
 unfoldable pub pathOf : List ℕ → List ℕ
-pathOf s = set (padded 4096 s) 4095 0
+pathOf s = set (withZeros 4096 s) 4095 0
 
 -- Whether no byte of a text is 0.
 unfoldable pub zeroFree : List ℕ → Bool

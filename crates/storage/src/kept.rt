@@ -3,7 +3,7 @@ ghost use mathlib.Core.Path.{_≡_};
 ghost use mathlib.Core.Bool.{_&&_};
 ghost use Prim.Native.Nat.{_-_};
 ghost use lib.Dec.{ltb, leb};
-ghost use Rattle.storage.specs.Kept.{noJournal, journalOf, grownBy, stoppedOf, continuedAs, Continued, Appended};
+ghost use Rattle.storage.specs.Kept.{noJournal, openedJournal, grownBy, stoppedOf, continuedAs, Continued, Appended};
 use crate::files;
 use crate::files::checked;
 use crate::files::cut;
@@ -51,7 +51,7 @@ fn no_journal() -> Journal
 
 // A journal that was opened.
 fn journal_of(file: i32, facts: Facts, lock: Lock) -> Journal
-    ensures { λ r. ⌜ r ≡ journalOf file facts lock ⌝ }
+    ensures { λ r. ⌜ r ≡ openedJournal file facts lock ⌝ }
 {
     Journal {
         file,

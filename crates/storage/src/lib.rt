@@ -17,7 +17,6 @@ pub use messages::about;
 pub use messages::about_line;
 pub use messages::are_streams_open;
 pub use messages::failed;
-pub use messages::say;
 pub use messages::show_dropped;
 pub use waiting::read_part;
 pub use waiting::write_whole;

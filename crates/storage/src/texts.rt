@@ -6,7 +6,7 @@ ghost use Prim.Native.Nat.{_+_, min};
 ghost use lib.Dec.{ltb};
 ghost use lib.ListN.{length, getD};
 ghost use Rattle.libc.specs.Io.{Ended};
-ghost use Rattle.storage.specs.Texts.{padded, pathOf, zeroFree, shownByte, shownPadded, digitMore, numberFrom, processIn};
+ghost use Rattle.storage.specs.Texts.{withZeros, pathOf, zeroFree, shownByte, shownPadded, digitMore, numberFrom, processIn};
 use libc::PATH_MAX;
 
 // The last place of a path.
@@ -51,7 +51,7 @@ fn byte_in(front: &[u8], back: &[u8], at: usize) -> u8
 
 // Fills a buffer with two texts one behind the other, as far as there is room, and with zeros behind them; answers how many bytes they are.
 pub fn join(front: &[u8], back: &[u8], out: &mut [u8]) -> usize
-    ensures { λ r. ⌜ now (out .exit) ≡ padded (length (now (out .entry))) (now (front .entry) ++ now (back .entry)) ⌝ }
+    ensures { λ r. ⌜ now (out .exit) ≡ withZeros (length (now (out .entry))) (now (front .entry) ++ now (back .entry)) ⌝ }
     ensures { λ r. ⌜ r ≡ min (length (now (front .entry)) + length (now (back .entry))) (length (now (out .entry))) ⌝ }
 {
     let mut i = 0;

@@ -1,26 +1,27 @@
 -- Numbers read digit by digit, and held in 64 bits.
 -- Assumes nothing.
-use Prim.Native.Nat.{ℕ, zero, suc, _+_, _-_, _*_, _≤_, _<_, min}
+use Prim.Native.Nat.{ℕ, suc, _+_, _-_, _*_, _≤_, _<_, min}
 use mathlib.Core.Path.{_≡_, refl, sym, ap, _∙_}
 use mathlib.Core.Bool.{Bool, true, false}
 use mathlib.Core.List.{List, [], _∷_}
 use native.Mathlib.Omega.{arith}
 use borrow.Author.Tests.{leb-true, leb-false, eq-eqb, ne-eqb}
-use borrow.Author.Needs.{sfits-of}
 use mir.Facts.{toZ-pos, toZ-ofZ}
 use mir.Syntax.{w64}
-use mir.Val.{SFits, toZ, ofZ}
+use mir.Val.{toZ}
 use lib.IntN.{ℤ, pos, negsuc, negℤ, _-ℤ_, +ℤ-idl}
-use lib.Signed.{mag}
 use lib.Dec.{leb}
 use lib.ListN.{length, take, drop, getD, drop-of-length-le}
 use lib.Seq.{take-all}
 use Rattle.laws.specs.Cases.{split}
+use Rattle.laws.specs.Every.{every-passed, every-failed, every-ended}
+use Rattle.laws.specs.Read.{read}
+use Rattle.laws.specs.Magnitudes.{fits-negated}
 use Rattle.words.specs.Bytes.{digit, each}
 use Rattle.words.specs.Numerals.{natural, valueFrom, value, naturalOf, unsignedOf, negativeOf, signedOf}
 use Rattle.words.specs.declared.numbers.Number.{Number}
 use Rattle.words.specs.declared.numbers.Signed.{Signed}
-use Rattle.words.proofs.Scans.{drop-at, each-not, each-all}
+use Rattle.words.proofs.Scans.{drop-at}
 
 -- a word of at least one byte is a natural number exactly if each byte is a digit
 pub natural-each : (w : List ℕ) → (length w ≡ 0 → ⊥) → each digit w ≡ natural w
@@ -64,13 +65,17 @@ digits-read w i n h b k =
     let g : min (valueFrom n []) 18446744073709551615 ≡ min (value w) 18446744073709551615 = rw (drop-of-length-le w h) at k in
     omega (arith, g)
 
--- a byte that is no digit, and none
-pub not-natural : (w : List ℕ) (i : ℕ) (t : Bool) → i < length w → each digit (drop i w) ≡ each digit w → each digit w ≡ natural w
-    → t ≡ digit (getD w i 0) → t ≡ false → false ≡ natural w
-not-natural w i t h k e f v = each-not digit w i k h t f v ∙ e
+-- a digit, a byte that is none, and no byte left
+pub digit-later : (w : List ℕ) (i : ℕ) (t : Bool) → i < length w → each digit w ≡ each digit (drop i w) → t ≡ digit (getD w i 0) → t ≡ true
+    → each digit w ≡ each digit (drop (i + 1) w)
+digit-later w i t h k f v = every-passed digit w 0 i k h (sym f ∙ v)
 
-pub all-digits : (w : List ℕ) (i : ℕ) → length w ≤ i → each digit (drop i w) ≡ each digit w → each digit w ≡ natural w → true ≡ natural w
-all-digits w i h k e = each-all digit w i k h ∙ e
+pub not-natural : (w : List ℕ) (i : ℕ) (t : Bool) → i < length w → each digit w ≡ each digit (drop i w) → each digit w ≡ natural w
+    → t ≡ digit (getD w i 0) → t ≡ false → false ≡ natural w
+not-natural w i t h k e f v = every-failed digit w 0 i k h (sym f ∙ v) ∙ e
+
+pub all-digits : (w : List ℕ) (i : ℕ) → length w ≤ i → each digit w ≡ each digit (drop i w) → each digit w ≡ natural w → true ≡ natural w
+all-digits w i h k e = every-ended digit w 0 i k h ∙ e
 
 -- Signed numbers of 64 bits.
 
@@ -83,20 +88,10 @@ held-large n h = ap pos (omega arith)
 minus : (n : ℕ) → n < 9223372036854775808 → pos 0 -ℤ toZ w64 n ≡ negℤ (pos n)
 minus n h = ap (λ (z : ℤ). pos 0 -ℤ z) (toZ-pos w64 h) ∙ +ℤ-idl (negℤ (pos n))
 
-mag-neg : (n : ℕ) → n < 9223372036854775808 → mag (negℤ (pos n)) < 9223372036854775808
-mag-neg zero h = h
-mag-neg (suc n) h = omega arith
-
-neg-fits : (n : ℕ) → n < 9223372036854775808 → SFits w64 (negℤ (pos n))
-neg-fits n h = sfits-of (mag-neg n h)
-
-pub minus-fits : (n : ℕ) → n < 9223372036854775808 → SFits w64 (pos 0 -ℤ toZ w64 n)
-minus-fits n h = rw (minus n h) (neg-fits n h)
-
-pub minus-small : (n : ℕ) → n < 9223372036854775808 → toZ w64 (ofZ w64 (pos 0 -ℤ toZ w64 n)) ≡ negℤ (pos (min n 9223372036854775808))
+pub minus-small : (n : ℕ) → n < 9223372036854775808 → read (pos 0 -ℤ toZ w64 n) ≡ negℤ (pos (min n 9223372036854775808))
 minus-small n h =
     let e : n ≡ min n 9223372036854775808 = omega arith in
-    toZ-ofZ (minus-fits n h) ∙ minus n h ∙ ap (λ (m : ℕ). negℤ (pos m)) e
+    toZ-ofZ (fits-negated n (omega arith)) ∙ minus n h ∙ ap (λ (m : ℕ). negℤ (pos m)) e
 
 pub minus-large : (n : ℕ) → 9223372036854775808 ≤ n → negsuc 9223372036854775807 ≡ negℤ (pos (min n 9223372036854775808))
 minus-large n h =

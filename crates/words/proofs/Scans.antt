@@ -2,32 +2,26 @@
 -- Assumes nothing.
 use Prim.Native.Nat.{ℕ, suc, _+_, _≤_, _<_}
 use mathlib.Core.Path.{_≡_, refl, sym, ap, _∙_}
-use mathlib.Core.Bool.{Bool, true, false, _&&_}
+use mathlib.Core.Bool.{Bool, true, false, and-false}
 use mathlib.Core.List.{List, [], _∷_, _++_, append-assoc, append-nil}
 use native.Mathlib.Numerals.{add-one}
 use native.Mathlib.Omega.{arith}
 use borrow.Author.Tests.{eq-eqb, ne-eqb}
-use lib.Dec.{eqb}
 use lib.ListN.{length, take, drop, getD, drop-of-length-le}
 use lib.Seq.{drop-cons, take-suc, length-take-le}
-use Rattle.words.specs.Bytes.{some, each, uncommented, same}
+use Rattle.words.specs.Bytes.{some, uncommented, same}
 use Rattle.words.specs.Found.{ContentIs}
 
 -- what is left from a place in the text: its byte, and what is left from the next place
 pub drop-at : (s : List ℕ) (i : ℕ) → i < length s → drop i s ≡ getD s i 0 ∷ drop (i + 1) s
 drop-at s i h = rw (add-one, drop-cons s i 0)
 
-pub take-at : (s : List ℕ) (i : ℕ) → i < length s → take (i + 1) s ≡ take i s ++ (getD s i 0 ∷ [])
-take-at s i h = rw (add-one, take-suc s i 0)
-
 -- the text without its comment
 module _ (l : List ℕ) (i : ℕ) (known : take i l ++ uncommented (drop i l) ≡ uncommented l) where
   pub comment-later : i < length l → (getD l i 0 ≡ 35 → ⊥) → take (i + 1) l ++ uncommented (drop (i + 1) l) ≡ uncommented l
   unfolding uncommented
   comment-later h n =
-      let k : take i l ++ uncommented (getD l i 0 ∷ drop (i + 1) l) ≡ uncommented l = rw (drop-at l i h) at known in
-      let k2 : take i l ++ (getD l i 0 ∷ uncommented (drop (i + 1) l)) ≡ uncommented l = rw (ne-eqb (getD l i 0) 35 n) at k in
-      rw (take-at l i h, append-assoc) k2
+      rw (add-one, take-suc l i 0, append-assoc) (rw (drop-cons l i 0, ne-eqb (getD l i 0) 35 n) at known)
 
   pub comment-here : i < length l → getD l i 0 ≡ 35 → take i l ≡ uncommented l
   unfolding uncommented
@@ -66,37 +60,13 @@ module _ (test : ℕ → Bool) (l : List ℕ) (i : ℕ) (known : some test (drop
   unfolding some
   some-none h = rw (drop-of-length-le l h) at known
 
--- whether each byte passes a test
-module _ (test : ℕ → Bool) (l : List ℕ) (i : ℕ) (known : each test (drop i l) ≡ each test l) where
-  pub each-later : i < length l → (t : Bool) → t ≡ test (getD l i 0) → t ≡ true → each test (drop (i + 1) l) ≡ each test l
-  unfolding each
-  each-later h t f v =
-      let n = sym f ∙ v in
-      let k : each test (getD l i 0 ∷ drop (i + 1) l) ≡ each test l = rw (drop-at l i h) at known in
-      rw n at k
-
-  pub each-not : i < length l → (t : Bool) → t ≡ test (getD l i 0) → t ≡ false → false ≡ each test l
-  unfolding each
-  each-not h t f v =
-      let e = sym f ∙ v in
-      let k : each test (getD l i 0 ∷ drop (i + 1) l) ≡ each test l = rw (drop-at l i h) at known in
-      rw e at k
-
-  pub each-all : length l ≤ i → true ≡ each test l
-  unfolding each
-  each-all h = rw (drop-of-length-le l h) at known
-
 -- whether two texts are the same
-both-false : (t u : Bool) → false ≡ u → false ≡ (t && u)
-both-false true u e = e
-both-false false u e = refl
-
 pub same-length : (a b : List ℕ) → (length a ≡ length b → ⊥) → false ≡ same a b
 unfolding same
 same-length [] [] n = absurd (n refl)
 same-length [] (y ∷ b) n = refl
 same-length (x ∷ a) [] n = refl
-same-length (x ∷ a) (y ∷ b) n = both-false (eqb x y) (same a b) (same-length a b (λ e. n (ap suc e)))
+same-length (x ∷ a) (y ∷ b) n = rw (← same-length a b (λ e. n (ap suc e)), and-false)
 
 module _ (a b : List ℕ) (i : ℕ) (long : length a ≡ length b) (known : same (drop i a) (drop i b) ≡ same a b) where
   same-open : i < length a → same (getD a i 0 ∷ drop (i + 1) a) (getD b i 0 ∷ drop (i + 1) b) ≡ same a b

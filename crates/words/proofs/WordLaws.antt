@@ -2,10 +2,11 @@
 -- Assumes nothing.
 use Prim.Native.Nat.{ℕ, suc, _+_, _-_, _≤_, _<_, min}
 use mathlib.Core.Path.{_≡_, refl, sym, ap, _∙_}
-use mathlib.Core.Bool.{Bool, true, false, not, false≢true}
+use mathlib.Core.Bool.{Bool, true, false, not}
 use mathlib.Core.List.{List, [], _∷_, _++_}
 use native.Mathlib.Nat.{not-suc-le-zero, pos-of-ne-zero}
 use native.Mathlib.Omega.{arith}
+use borrow.Author.Tests.{not-true}
 use lib.ListN.{length, take, drop, getD, drop-of-length-le, length-drop, length-take, take-append-drop}
 use lib.Seq.{drop-drop, drop-length}
 use Rattle.laws.specs.Cases.{split, and-left, and-right}
@@ -20,7 +21,7 @@ solid b = not (blank b)
 
 pub solid-not : (b : ℕ) → solid b ≡ true → blank b ≡ false
 unfolding solid
-solid-not b e = split (blank b) (λ t. absurd (false≢true (rw t at e))) (λ t. t)
+solid-not b e = not-true (blank b) e
 
 pub not-solid : (b : ℕ) → blank b ≡ false → solid b ≡ true
 unfolding solid
@@ -162,7 +163,7 @@ found-solid [] ws h = absurd (not-suc-le-zero h)
 found-solid (b ∷ l) ws h = split (blank b) (λ t. absurd (not-suc-le-zero (rw t at h))) (λ t. rw t)
 
 -- no word is left
-words-none : words [] ≡ []
+pub words-none : words [] ≡ []
 unfolding words
 words-none = refl
 

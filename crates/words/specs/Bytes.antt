@@ -4,6 +4,8 @@ use Prim.Native.Nat.{ℕ}
 use mathlib.Core.Bool.{Bool, true, false, cond, not, _&&_, _||_}
 use mathlib.Core.List.{List, [], _∷_}
 use lib.Dec.{ltb, leb, eqb}
+-- `each test text` is whether each byte of a text passes a test
+unfoldable pub use Rattle.laws.specs.Every.{every as each}
 
 -- 'The journal': "Blanks are spaces, tabs and carriage returns".
 unfoldable pub blank : ℕ → Bool
@@ -17,14 +19,10 @@ control b = (ltb b 32 || eqb b 127) && not (blank b)
 unfoldable pub digit : ℕ → Bool
 digit b = leb 48 b && leb b 57
 
--- Whether some byte of a text, or each, passes a test.
+-- Whether some byte of a text passes a test.
 unfoldable pub some : (ℕ → Bool) → List ℕ → Bool
 some test [] = false
 some test (b ∷ l) = test b || some test l
-
-unfoldable pub each : (ℕ → Bool) → List ℕ → Bool
-each test [] = true
-each test (b ∷ l) = test b && each test l
 
 -- "`#` begins a comment", and "`#` ends the line even inside a word": what stands before the first `#`.
 unfoldable pub uncommented : List ℕ → List ℕ

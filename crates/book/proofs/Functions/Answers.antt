@@ -16,7 +16,7 @@ use Rattle.file.specs.declared.Statement.{Statement}
 use Rattle.file.specs.Answer.{Answer, refused, done, counted, decide, accepted, statementSays}
 use Rattle.file.specs.Admit.{admittedFile}
 use Rattle.file.specs.KeepsPositions.{admitted-sound}
-use Rattle.file.specs.Statement.{statementOf}
+use Rattle.file.specs.Statement.{fileStatement}
 use Rattle.layout.specs.Book.{Book}
 use Rattle.layout.specs.WellFormed.{SoundBook}
 use Rattle.book.specs.Call.{Act, admit, settle, Call, on, statement, callsMade, isCalled}
@@ -109,7 +109,7 @@ module _ (b : Book) (p : ℕ) (low : p ≤ 63) where
       (ap (λ (z : File). withFile b p z (z .count)) file ∙ admitted-left b p role (ap accepted (sym a)))
 
   -- The statement.
-  stated-by : (x : Answer) → x ≡ ifAdmitted f (statementSays (statementOf f t)) → x ≡ answer b (statement p)
+  stated-by : (x : Answer) → x ≡ ifAdmitted f (statementSays (fileStatement f t)) → x ≡ answer b (statement p)
   unfolding answer ifNumbered decide
   stated-by x e = e ∙ sym (decide-false (record { number = 1; holds = ltb 63 p }) [] _ numbered)
 
@@ -120,7 +120,7 @@ module _ (b : Book) (p : ℕ) (low : p ≤ 63) where
   unfolding step applied
   same-book = split (accepted (answer b (statement p))) (λ e. rw e) (λ e. rw e)
 
-  pub gave-statement : (st : Statement) → fileAt b p .admitted ≡ true → st ≡ statementOf (fileAt b p) (b .today .0)
+  pub gave-statement : (st : Statement) → fileAt b p .admitted ≡ true → st ≡ fileStatement (fileAt b p) (b .today .0)
       → Given b (statement p) (statementSays st) b
   gave-statement st e h =
       given b (statement p) (statementSays st) b

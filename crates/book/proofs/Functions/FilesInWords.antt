@@ -17,7 +17,7 @@ use Rattle.file.specs.Admit.{noFile}
 use Rattle.file.specs.Sound.{Sound}
 use Rattle.layout.specs.Book.{Book}
 use Rattle.layout.specs.Files.{Put}
-use Rattle.layout.specs.Words.{place, fileIn, todayIn, bookOfWords, bookWords}
+use Rattle.layout.specs.Words.{place, fileInWords, todayIn, bookOfWords, bookWords}
 use Rattle.layout.specs.WellFormed.{WellFormed}
 use Rattle.layout.proofs.BookLaws.{book-long, book-file, put-book, put-length, today-book, canonical-put, canonical-today}
 use Rattle.book.specs.Call.{advance}
@@ -33,7 +33,7 @@ pub read-first : (l : List ℕ) (files : List File) → length files ≡ 64 → 
 read-first l files long = filling-first 64 (bookOfWords l .files) files (book-long l) long
 
 pub read-next : (i : ℕ) (l : List ℕ) (before files : List File) (f : File) → Filling 64 i (bookOfWords l .files) before files → i < 64
-    → f ≡ fileIn l i → Filling 64 (i + 1) (bookOfWords l .files) before (set files i f)
+    → f ≡ fileInWords l i → Filling 64 (i + 1) (bookOfWords l .files) before (set files i f)
 read-next i l before files f s h e =
     filling-next 64 (bookOfWords l .files) i before files f noFile s h (e ∙ sym (book-file l i (omega arith)))
 

@@ -28,7 +28,7 @@ use Rattle.file.proofs.Lodgings as lodgings
 use Rattle.file.proofs.Releases as releases
 use Rattle.layout.specs.Parts.{flagOf, slotWords, SlotBack, written}
 use Rattle.layout.specs.Files.{fileOfWords, slotIn, slotsOfWords, callsOfWords, wordsAt}
-use Rattle.layout.specs.Words.{place, fileIn, todayIn}
+use Rattle.layout.specs.Words.{place, fileInWords, todayIn}
 use Rattle.layout.specs.WellFormed.{WellFormed}
 use Rattle.layout.proofs.FileLaws.{slot-there}
 use Rattle.layout.proofs.PartLaws.{slot-put}
@@ -43,7 +43,7 @@ use Rattle.book.proofs.Functions.SoundBook.{behind-admitted}
 
 module _ (l : List ℕ) (p k : ℕ) where
   abbrev f : File
-  f = fileIn l p
+  f = fileInWords l p
 
   abbrev t : ℕ
   t = todayIn l
@@ -147,54 +147,54 @@ module _ (l : List ℕ) (p k : ℕ) where
 
 module _ (l : List ℕ) (p : ℕ) (w : WellFormed l) (low : p ≤ 63) where
   pub left-sound : (k n : ℕ) (s : Slot) (left : Position) → k ≤ 7 → s ≡ slotIn l (place p + (9 + 4 * k)) → left ≡ lessReleased n (s .position)
-      → notReleasable n (positionAt (fileIn l p .slots) k) ≡ false → SoundPosition left
+      → notReleasable n (positionAt (fileInWords l p .slots) k) ≡ false → SoundPosition left
   left-sound k n s left h es e q =
       subst SoundPosition (sym e)
       (left-position-sound n (s .position) (releasable l p k n s h es q)
       (subst SoundPosition (sym (held-is l p k s h es))
-      (all-default (λ (x : Slot). SoundPosition (x .position)) (fileIn l p .slots) k (slotOf Empty) tt
-      (file-sound l p w low (fileIn l p) (todayIn l) refl refl .slots))))
+      (all-default (λ (x : Slot). SoundPosition (x .position)) (fileInWords l p .slots) k (slotOf Empty) tt
+      (file-sound l p w low (fileInWords l p) (todayIn l) refl refl .slots))))
 
   pub slots-with : (k : ℕ) (left : Position) (slots : List Slot) → SoundPosition left → slots ≡ slotsOfWords (wordsAt l (place p))
       → All (λ (x : Slot). SoundPosition (x .position)) (set slots k (slotOf left))
   unfolding fileOfWords
   slots-with k left slots h e =
       all-set (λ (x : Slot). SoundPosition (x .position)) slots k (slotOf left) h
-      (rw e (file-sound l p w low (fileIn l p) (todayIn l) refl refl .slots))
+      (rw e (file-sound l p w low (fileInWords l p) (todayIn l) refl refl .slots))
 
   pub cover-with : (k t r : ℕ) (left : Position) (slots : List Slot) → slots ≡ slotsOfWords (wordsAt l (place p)) → t ≡ todayIn l
-      → r ≡ coverOn t (set slots k (slotOf left)) → r ≡ coverOn (todayIn l) (set (fileIn l p .slots) k (slotOf left))
+      → r ≡ coverOn t (set slots k (slotOf left)) → r ≡ coverOn (todayIn l) (set (fileInWords l p .slots) k (slotOf left))
   unfolding fileOfWords
   cover-with k t r left slots e q h = h ∙ (λ i. coverOn (q i) (set (e i) k (slotOf left)))
 
   pub few-open : getD l (place p + 4) 0 ≤ 4
   unfolding fileOfWords
-  few-open = file-sound l p w low (fileIn l p) (todayIn l) refl refl .count
+  few-open = file-sound l p w low (fileInWords l p) (todayIn l) refl refl .count
 
   pub floor-is : (r : ℕ) (calls : List OpenCall) → calls ≡ callsOfWords (wordsAt l (place p))
       → r ≡ largest (getD l (place p + 6) 0) (getD l (place p + 3) 0 ∷ amountsOf (take (getD l (place p + 4) 0) calls))
-      → r ≡ releaseFloor (fileIn l p)
+      → r ≡ releaseFloor (fileInWords l p)
   unfolding fileOfWords releaseFloor openCalls
   floor-is r calls e h =
       h ∙ ap (λ (z : List OpenCall). largest (getD l (place p + 6) 0) (getD l (place p + 3) 0 ∷ amountsOf (take (getD l (place p + 4) 0) z))) e
 
   pub uncovered : (k n c g : ℕ) (s : Slot) (left : Position) → k ≤ 7 → s ≡ slotIn l (place p + (9 + 4 * k)) → left ≡ lessReleased n (s .position)
-      → c ≡ coverOn (todayIn l) (set (fileIn l p .slots) k (slotOf left)) → g ≡ releaseFloor (fileIn l p)
-      → ltb c g ≡ ltb (coverOn (todayIn l) (slotsLeft (fileIn l p) k n)) (releaseFloor (fileIn l p))
+      → c ≡ coverOn (todayIn l) (set (fileInWords l p .slots) k (slotOf left)) → g ≡ releaseFloor (fileInWords l p)
+      → ltb c g ≡ ltb (coverOn (todayIn l) (slotsLeft (fileInWords l p) k n)) (releaseFloor (fileInWords l p))
   unfolding slotsLeft
   uncovered k n c g s left h es e ec eg =
-      let same : left ≡ lessReleased n (positionAt (fileIn l p .slots) k) = e ∙ ap (lessReleased n) (held-is l p k s h es) in
+      let same : left ≡ lessReleased n (positionAt (fileInWords l p .slots) k) = e ∙ ap (lessReleased n) (held-is l p k s h es) in
       (λ i. ltb (ec i) (eg i))
-      ∙ ap (λ (z : Position). ltb (coverOn (todayIn l) (set (fileIn l p .slots) k (slotOf z))) (releaseFloor (fileIn l p))) same
+      ∙ ap (λ (z : Position). ltb (coverOn (todayIn l) (set (fileInWords l p .slots) k (slotOf z))) (releaseFloor (fileInWords l p))) same
 
   -- ---- what an accepted call writes
 
   -- a lodging is at one of eight places, and leaves what was lodged there
-  lodge-is : (k : ℕ) (h : Position) (x : Answer) (ok : Bool) → x ≡ fileAnswer (fileIn l p) (todayIn l) (lodge k h) → ok ≡ accepted x → ok ≡ true
-      → (k ≤ 7) × (withSlots (fileIn l p) (set (fileIn l p .slots) k (slotOf h)) ≡ fileLeft (fileIn l p) (todayIn l) (lodge k h))
+  lodge-is : (k : ℕ) (h : Position) (x : Answer) (ok : Bool) → x ≡ fileAnswer (fileInWords l p) (todayIn l) (lodge k h) → ok ≡ accepted x → ok ≡ true
+      → (k ≤ 7) × (withSlots (fileInWords l p) (set (fileInWords l p .slots) k (slotOf h)) ≡ fileLeft (fileInWords l p) (todayIn l) (lodge k h))
   unfolding fileAnswer fileAfter lodgeAnswer lodgedFile
   lodge-is k h x ok b r good =
-      let f = fileIn l p in
+      let f = fileInWords l p in
       let t = todayIn l in
       let go = after l p w low (lodge k h) x ok b r good in
       let own = behind-admitted f (lodgeAnswer f t k h) (go .0) in (
@@ -202,26 +202,26 @@ module _ (l : List ℕ) (p : ℕ) (w : WellFormed l) (low : p ≤ 63) where
         sym (go .1 ∙ cond-true (accepted (lodgeAnswer f t k h)) (withSlots f (set (f .slots) k (slotOf h))) f own),
       )
 
-  pub given-lodged : (m : List ℕ) (k : ℕ) (h : Position) (x : Answer) (ok : Bool) → x ≡ fileAnswer (fileIn l p) (todayIn l) (lodge k h)
+  pub given-lodged : (m : List ℕ) (k : ℕ) (h : Position) (x : Answer) (ok : Bool) → x ≡ fileAnswer (fileInWords l p) (todayIn l) (lodge k h)
       → ok ≡ accepted x → ok ≡ true → m ≡ written l (place p + (9 + 4 * (k % 8))) (slotWords (slotOf h)) → SlotBack (slotOf h)
       → GivenWords l (on p (lodge k h)) x m
   unfolding callsAdded
   given-lodged m k h x ok b r good stored back =
       let is = lodge-is k h x ok b r good in
       let at : k % 8 ≡ k = omega (arith, is .0) in
-      let f = fileIn l p in
+      let f = fileInWords l p in
       given-none l p w low m (withSlots f (set (f .slots) k (slotOf h)))
       (slot-put l m p (w .canonical) (w .long) low k (slotOf h) (omega (arith, is .0)) back
       (stored ∙ ap (λ (j : ℕ). written l (place p + (9 + 4 * j)) (slotWords (slotOf h))) at))
       (lodge k h) x (λ f t. refl) b (is .1)
 
   -- a release is at one of eight places, of which as much is held, and leaves what is left there
-  release-is : (k n : ℕ) (x : Answer) (ok : Bool) → x ≡ fileAnswer (fileIn l p) (todayIn l) (release k n) → ok ≡ accepted x → ok ≡ true
-      → (k ≤ 7) × (notReleasable n (positionAt (fileIn l p .slots) k) ≡ false)
-      × (withSlots (fileIn l p) (slotsLeft (fileIn l p) k n) ≡ fileLeft (fileIn l p) (todayIn l) (release k n))
+  release-is : (k n : ℕ) (x : Answer) (ok : Bool) → x ≡ fileAnswer (fileInWords l p) (todayIn l) (release k n) → ok ≡ accepted x → ok ≡ true
+      → (k ≤ 7) × (notReleasable n (positionAt (fileInWords l p .slots) k) ≡ false)
+      × (withSlots (fileInWords l p) (slotsLeft (fileInWords l p) k n) ≡ fileLeft (fileInWords l p) (todayIn l) (release k n))
   unfolding fileAnswer fileAfter releaseAnswer releasedFile
   release-is k n x ok b r good =
-      let f = fileIn l p in
+      let f = fileInWords l p in
       let t = todayIn l in
       let go = after l p w low (release k n) x ok b r good in
       let own = behind-admitted f (releaseAnswer f t k n) (go .0) in
@@ -231,29 +231,30 @@ module _ (l : List ℕ) (p : ℕ) (w : WellFormed l) (low : p ≤ 63) where
         sym (go .1 ∙ cond-true (accepted (releaseAnswer f t k n)) (withSlots f (slotsLeft f k n)) f own),
       )
 
-  pub release-place : (k n : ℕ) (x : Answer) (ok : Bool) → x ≡ fileAnswer (fileIn l p) (todayIn l) (release k n) → ok ≡ accepted x → ok ≡ true → k ≤ 7
+  pub release-place : (k n : ℕ) (x : Answer) (ok : Bool) → x ≡ fileAnswer (fileInWords l p) (todayIn l) (release k n)
+      → ok ≡ accepted x → ok ≡ true → k ≤ 7
   release-place k n x ok b r good = release-is k n x ok b r good .0
 
-  pub release-held : (k n : ℕ) (x : Answer) (ok : Bool) → x ≡ fileAnswer (fileIn l p) (todayIn l) (release k n) → ok ≡ accepted x → ok ≡ true
-      → notReleasable n (positionAt (fileIn l p .slots) k) ≡ false
+  pub release-held : (k n : ℕ) (x : Answer) (ok : Bool) → x ≡ fileAnswer (fileInWords l p) (todayIn l) (release k n) → ok ≡ accepted x → ok ≡ true
+      → notReleasable n (positionAt (fileInWords l p .slots) k) ≡ false
   release-held k n x ok b r good = release-is k n x ok b r good .1
 
   pub slot-left : (m : List ℕ) (k n : ℕ) (s : Slot) (left : Position) → k ≤ 7 → s ≡ slotIn l (place p + (9 + 4 * k))
       → left ≡ lessReleased n (s .position) → m ≡ written l (place p + (9 + 4 * k)) (slotWords (slotOf left)) → SlotBack (slotOf left)
       → SlotLeft l p k n m
   slot-left m k n s left h es e stored back =
-      let same : left ≡ lessReleased n (positionAt (fileIn l p .slots) k) = e ∙ ap (lessReleased n) (held-is l p k s h es) in
+      let same : left ≡ lessReleased n (positionAt (fileInWords l p .slots) k) = e ∙ ap (lessReleased n) (held-is l p k s h es) in
       record {
         stored = stored ∙ ap (λ (z : Position). written l (place p + (9 + 4 * k)) (slotWords (slotOf z))) same;
         back = subst (λ (z : Position). SlotBack (slotOf z)) same back;
       }
 
-  pub given-released : (m : List ℕ) (k n : ℕ) (x : Answer) (ok : Bool) → x ≡ fileAnswer (fileIn l p) (todayIn l) (release k n)
+  pub given-released : (m : List ℕ) (k n : ℕ) (x : Answer) (ok : Bool) → x ≡ fileAnswer (fileInWords l p) (todayIn l) (release k n)
       → ok ≡ accepted x → ok ≡ true → SlotLeft l p k n m → GivenWords l (on p (release k n)) x m
   unfolding slotsLeft callsAdded
   given-released m k n x ok b r good left =
       let is = release-is k n x ok b r good in
-      let f = fileIn l p in
+      let f = fileInWords l p in
       let s = slotOf (lessReleased n (positionAt (f .slots) k)) in
       given-none l p w low m (withSlots f (set (f .slots) k s))
       (slot-put l m p (w .canonical) (w .long) low k s (omega (arith, is .0)) (left .back) (left .stored))

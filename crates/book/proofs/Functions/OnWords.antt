@@ -30,10 +30,10 @@ use Rattle.file.specs.Position.{coverOn}
 use Rattle.file.specs.Settle.{settleAnswer, settledFile, settlementCalls, callsSettled}
 use Rattle.file.specs.Totals.{noTotal, totalOf, withTotal}
 use Rattle.file.specs.Sound.{Sound, SoundPosition}
-use Rattle.file.specs.Statement.{statementOf}
+use Rattle.file.specs.Statement.{fileStatement}
 use Rattle.layout.specs.Parts.{flagOf, totalWords, TotalBack, written}
 use Rattle.layout.specs.Files.{fileOfWords, slotsOfWords, totalsOfWords, wordsAt, Put}
-use Rattle.layout.specs.Words.{bookLength, place, fileIn, todayIn, bookOfWords, bookWords}
+use Rattle.layout.specs.Words.{bookLength, place, fileInWords, todayIn, bookOfWords, bookWords}
 use Rattle.layout.specs.WellFormed.{SoundBook, WellFormed}
 use Rattle.layout.proofs.BookLaws.{book-long, book-file, put-book, put-length, made-book, canonical-put, canonical-made, freshWords, fresh-words}
 use Rattle.layout.proofs.BookLaws.{canonical-fresh}
@@ -100,7 +100,7 @@ pub none-there : (l : List ℕ) (p : ℕ) → 63 < p → fileAt (bookOfWords l) 
 unfolding fileAt
 none-there l p h = List·getD-eq-default (bookOfWords l .files) noFile (omega (arith, book-long l))
 
-pub file-there : (l : List ℕ) (p : ℕ) → p ≤ 63 → fileAt (bookOfWords l) p ≡ fileIn l p
+pub file-there : (l : List ℕ) (p : ℕ) → p ≤ 63 → fileAt (bookOfWords l) p ≡ fileInWords l p
 unfolding fileAt
 file-there l p h = book-file l p h
 
@@ -120,7 +120,7 @@ unfolding fileOfWords
 there-role l p h = sym (ap (λ (z : File). z .role) (file-there l p h))
 
 -- A file that is read has sixteen month totals.
-file-totals : (l : List ℕ) (p : ℕ) → length (fileIn l p .totals) ≡ 16
+file-totals : (l : List ℕ) (p : ℕ) → length (fileInWords l p .totals) ≡ 16
 unfolding fileOfWords totalsOfWords
 file-totals l p = refl
 
@@ -164,12 +164,12 @@ stored-book l m p g low put n long =
     ∙ (λ i. record { files = put-book l m p g low put i .files; today = put-book l m p g low put i .today; made = n })
 
 module _ (l : List ℕ) (p : ℕ) (w : WellFormed l) (low : p ≤ 63) where
-  pub file-sound : (f : File) (t : ℕ) → f ≡ fileIn l p → t ≡ todayIn l → Sound t f
+  pub file-sound : (f : File) (t : ℕ) → f ≡ fileInWords l p → t ≡ todayIn l → Sound t f
   unfolding bookOfWords
   file-sound f t e q = rw (e, q) (subst (Sound (todayIn l)) (file-there l p low) (sound-file (bookOfWords l) p (w .sound)))
 
   -- what is said of the file in the words is said of the book's file
-  said : {X : Type 0} (F : File → X) (x : X) → x ≡ F (fileIn l p) → x ≡ F (fileAt (bookOfWords l) p)
+  said : {X : Type 0} (F : File → X) (x : X) → x ≡ F (fileInWords l p) → x ≡ F (fileAt (bookOfWords l) p)
   said F x e = e ∙ ap F (sym (file-there l p low))
 
   module _ (m : List ℕ) (g : File) (put : Put l (place p) g m) where
@@ -188,8 +188,8 @@ module _ (l : List ℕ) (p : ℕ) (w : WellFormed l) (low : p ≤ 63) where
         (canonical-made m n (canonical-put l m p g (w .canonical) low put) (omega (arith, put-length l m p g low put, w .long)))
 
     -- a call that makes none
-    pub given-none : (a : Act) (x : Answer) → ((f : File) (t : ℕ) → callsAdded f t a ≡ 0) → x ≡ fileAnswer (fileIn l p) (todayIn l) a
-        → g ≡ fileLeft (fileIn l p) (todayIn l) a → GivenWords l (on p a) x m
+    pub given-none : (a : Act) (x : Answer) → ((f : File) (t : ℕ) → callsAdded f t a ≡ 0) → x ≡ fileAnswer (fileInWords l p) (todayIn l) a
+        → g ≡ fileLeft (fileInWords l p) (todayIn l) a → GivenWords l (on p a) x m
     unfolding bookOfWords
     given-none a x none e h =
         one a x
@@ -197,16 +197,16 @@ module _ (l : List ℕ) (p : ℕ) (w : WellFormed l) (low : p ≤ 63) where
         (said (λ z. fileAnswer z (todayIn l) a) x e) (said (λ z. fileLeft z (todayIn l) a) g h))
 
     -- a settlement: one that made no call, and one that made k
-    settle-stored : (mo : ℕ) (figures : List ℤ) (x : Answer) (k : ℕ) → x ≡ fileAnswer (fileIn l p) (todayIn l) (settle mo figures)
-        → g ≡ fileLeft (fileIn l p) (todayIn l) (settle mo figures) → k ≡ cond (isCalled x) 1 0
+    settle-stored : (mo : ℕ) (figures : List ℤ) (x : Answer) (k : ℕ) → x ≡ fileAnswer (fileInWords l p) (todayIn l) (settle mo figures)
+        → g ≡ fileLeft (fileInWords l p) (todayIn l) (settle mo figures) → k ≡ cond (isCalled x) 1 0
         → Given (bookOfWords l) (on p (settle mo figures)) x (storedIn (bookOfWords l) p g (getD l 2 0 + k))
     unfolding bookOfWords
     settle-stored mo figures x k a b c =
         left-settle (bookOfWords l) p low mo figures x k g
         (said (λ z. fileAnswer z (todayIn l) (settle mo figures)) x a) (said (λ z. fileLeft z (todayIn l) (settle mo figures)) g b) c
 
-    given-settled : (mo : ℕ) (figures : List ℤ) (x : Answer) → x ≡ fileAnswer (fileIn l p) (todayIn l) (settle mo figures)
-        → g ≡ fileLeft (fileIn l p) (todayIn l) (settle mo figures) → _≡_ {A = ℕ} (cond (isCalled x) 1 0) 0
+    given-settled : (mo : ℕ) (figures : List ℤ) (x : Answer) → x ≡ fileAnswer (fileInWords l p) (todayIn l) (settle mo figures)
+        → g ≡ fileLeft (fileInWords l p) (todayIn l) (settle mo figures) → _≡_ {A = ℕ} (cond (isCalled x) 1 0) 0
         → GivenWords l (on p (settle mo figures)) x m
     unfolding bookOfWords
     given-settled mo figures x a b c =
@@ -217,7 +217,7 @@ module _ (l : List ℕ) (p : ℕ) (w : WellFormed l) (low : p ≤ 63) where
   -- a refused call writes nothing, and an accepted one what it changed
   module _ where
     abbrev f : File
-    f = fileIn l p
+    f = fileInWords l p
 
     abbrev t : ℕ
     t = todayIn l
@@ -353,7 +353,7 @@ module _ (l : List ℕ) (p : ℕ) (w : WellFormed l) (low : p ≤ 63) where
           accrued = getD l (place p + 8) 0;
         }))
         (bookOfWords l)
-    unfolding bookOfWords fileOfWords statementOf coverOf shortfallOf
+    unfolding bookOfWords fileOfWords fileStatement coverOf shortfallOf
     given-statement h t c n q ec en =
         let slots = slotsOfWords (wordsAt l (place p)) in
         let covered : c ≡ coverOn (todayIn l) slots = ec ∙ ap (λ (d : ℕ). coverOn d slots) q in
@@ -373,12 +373,12 @@ module _ (l : List ℕ) (p : ℕ) (w : WellFormed l) (low : p ≤ 63) where
           charged = getD l (place p + 7) 0;
           accrued = getD l (place p + 8) 0;
         })
-        ∙ ap (λ (z : File). statementOf z (todayIn l)) (sym (file-there l p low)))
+        ∙ ap (λ (z : File). fileStatement z (todayIn l)) (sym (file-there l p low)))
 
   -- its positions are sound
   pub slots-sound : All (λ (z : Slot). SoundPosition (z .position)) (slotsOfWords (wordsAt l (place p)))
   unfolding fileOfWords
-  slots-sound = file-sound (fileIn l p) (todayIn l) refl refl .slots
+  slots-sound = file-sound (fileInWords l p) (todayIn l) refl refl .slots
 
 pub above-stated : (l : List ℕ) (p : ℕ) → 63 < p → Given (bookOfWords l) (statement p) (refused 1) (bookOfWords l)
 above-stated l p h = above-statement (bookOfWords l) p h
@@ -394,12 +394,12 @@ today-there l t e = λ i. record { 0 = e i }
 -- ---- a file's method on the file read
 
 -- What is answered of the file taken out and its day is answered of the words.
-pub answer-read : (l : List ℕ) (p : ℕ) (a : Act) (f : File) (t : ℕ) (x : Answer) → f ≡ fileIn l p → t ≡ todayIn l → x ≡ fileAnswer f t a
-    → x ≡ fileAnswer (fileIn l p) (todayIn l) a
+pub answer-read : (l : List ℕ) (p : ℕ) (a : Act) (f : File) (t : ℕ) (x : Answer) → f ≡ fileInWords l p → t ≡ todayIn l → x ≡ fileAnswer f t a
+    → x ≡ fileAnswer (fileInWords l p) (todayIn l) a
 answer-read l p a f t x e q h = h ∙ (λ i. fileAnswer (e i) (q i) a)
 
-pub left-read : (l : List ℕ) (p : ℕ) (a : Act) (f g : File) (t : ℕ) → f ≡ fileIn l p → t ≡ todayIn l → g ≡ fileLeft f t a
-    → g ≡ fileLeft (fileIn l p) (todayIn l) a
+pub left-read : (l : List ℕ) (p : ℕ) (a : Act) (f g : File) (t : ℕ) → f ≡ fileInWords l p → t ≡ todayIn l → g ≡ fileLeft f t a
+    → g ≡ fileLeft (fileInWords l p) (todayIn l) a
 left-read l p a f g t e q h = h ∙ (λ i. fileLeft (e i) (q i) a)
 
 -- ---- a fresh book

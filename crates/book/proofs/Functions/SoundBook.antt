@@ -27,7 +27,7 @@ use Rattle.file.specs.DecideLaws.{none-holds}
 use Rattle.file.specs.KeepsPositions.{none-sound, admitted-sound, lodged-sound, released-sound}
 use Rattle.file.specs.KeepsCalls.{open-count, opened-sound, settled-sound, annual-sound}
 use Rattle.layout.specs.Book.{Book}
-use Rattle.layout.specs.WellFormed.{openIn, BlankUnlessAdmitted, SoundBook}
+use Rattle.layout.specs.WellFormed.{openCount, BlankUnlessAdmitted, SoundBook}
 use Rattle.book.specs.Call.{Act, admit, lodge, release, settle, annualRun, Call, on, advance, statement, callsMade}
 use Rattle.book.specs.Account.{freshBook, fileAt, withFile, ifNumbered, ifAdmitted, fileAnswer, fileAfter, callsAdded, openedIfAdmitted}
 use Rattle.book.specs.Account.{openDay, openDays, answer, applied, step, run}
@@ -66,21 +66,21 @@ sound-opened t f h s =
 -- ---- the open calls of all files
 
 -- a sound file has at most four
-pub open-few : (t : ℕ) (files : List File) → All (Sound t) files → openIn files ≤ 4 * length files
-unfolding openIn
+pub open-few : (t : ℕ) (files : List File) → All (Sound t) files → openCount files ≤ 4 * length files
+unfolding openCount
 open-few t [] all = omega arith
 open-few t (f ∷ files) all = omega (arith, all .0 .count, open-few t files (all .1))
 
 -- one file is replaced by another with at least n more
 open-more : (files : List File) (p n : ℕ) (g : File) → p < length files → getD files p noFile .count + n ≤ g .count
-    → openIn files + n ≤ openIn (set files p g)
-unfolding openIn
+    → openCount files + n ≤ openCount (set files p g)
+unfolding openCount
 open-more [] p n g h k = absurd (omega arith)
 open-more (f ∷ files) zero n g h k = omega arith
 open-more (f ∷ files) (suc p) n g h k = omega (arith, open-more files p n g (omega arith) k)
 
-none-open : (n : ℕ) → openIn (replicate n noFile) ≡ 0
-unfolding openIn
+none-open : (n : ℕ) → openCount (replicate n noFile) ≡ 0
+unfolding openCount
 none-open zero = refl
 none-open (suc n) = omega (arith, none-open n)
 

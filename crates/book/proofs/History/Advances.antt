@@ -12,7 +12,7 @@ use Rattle.file.specs.Answer.{accepted}
 use Rattle.layout.specs.Book.{Book}
 use Rattle.book.specs.Call.{Call, on, advance, statement, callsMade}
 use Rattle.book.specs.Account.{openDay, openDays, answer, applied, step}
-use Rattle.book.specs.Life.{after, Advances, SameDays}
+use Rattle.book.specs.Life.{afterCalls, Advances, SameDays}
 
 -- Where cause 17 doesn't hold, the day is one of the calendar and not before today, and so are the days that are opened.
 pub not-outside : (day t : ℕ) → (ltb 29219 day || ltb day t) ≡ false → (day ≤ 29219) × (t ≤ day)
@@ -53,8 +53,8 @@ advance-days b day budget =
     (λ e. (0, cond-false (accepted (answer b (advance day budget))) (applied b (advance day budget)) b e))
 
 -- So does a list of advances.
-days-of : (b : Book) (calls : List Call) → Advances calls → (n : ℕ) × (after b calls ≡ openDays n b)
-unfolding after openDays
+days-of : (b : Book) (calls : List Call) → Advances calls → (n : ℕ) × (afterCalls b calls ≡ openDays n b)
+unfolding afterCalls openDays
 days-of b [] a = (0, refl)
 days-of b (on p x ∷ calls) a = absurd a
 days-of b (advance day budget ∷ calls) a =

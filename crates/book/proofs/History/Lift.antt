@@ -17,7 +17,7 @@ use Rattle.file.specs.declared.File.{File}
 use Rattle.file.specs.Answer.{Answer, accepted, statementSays}
 use Rattle.file.specs.Admit.{noFile}
 use Rattle.file.specs.DecideLaws.{none-holds}
-use Rattle.file.specs.Statement.{statementOf}
+use Rattle.file.specs.Statement.{fileStatement}
 use Rattle.layout.specs.Book.{Book}
 use Rattle.book.specs.Call.{Act, Call, on, advance, statement, callsMade}
 use Rattle.book.specs.Account.{freshBook, fileAt, withFile, ifNumbered, ifAdmitted, fileAnswer, fileAfter, callsAdded, openedIfAdmitted}
@@ -90,10 +90,10 @@ module _ (s : ℕ) (events : List Event) (lw : LawfulAll s events) where
 
   -- The statement of a participant, cause 2 before it.
   known-statement : (p : ℕ) → p < 64
-      → ifAdmitted (fileAt (bookIn s events) p) (statementSays (statementOf (fileAt (bookIn s events) p) t))
+      → ifAdmitted (fileAt (bookIn s events) p) (statementSays (fileStatement (fileAt (bookIn s events) p) t))
       ≡ ifAdmitted (fileIn t (mine p events)) (ownStatement t (mine p events))
   known-statement p h =
-      ap (λ (f : File). ifAdmitted f (statementSays (statementOf f t))) (file-at s p events h)
+      ap (λ (f : File). ifAdmitted f (statementSays (fileStatement f t))) (file-at s p events h)
       ∙ ap (ifAdmitted (fileIn t (mine p events))) (part p .stated)
 
   -- Each answer is the reading's decision.
@@ -106,7 +106,7 @@ module _ (s : ℕ) (events : List Event) (lw : LawfulAll s events) where
   answer-is (advance day budget) = refl
   answer-is (statement p) =
       decide-first (cause 1 (ltb 63 p)) (cause 2 (not (admittedIn (mine p events))) ∷ [])
-      (ifAdmitted (fileAt (bookIn s events) p) (statementSays (statementOf (fileAt (bookIn s events) p) t)))
+      (ifAdmitted (fileAt (bookIn s events) p) (statementSays (fileStatement (fileAt (bookIn s events) p) t)))
       (ownStatement t (mine p events))
       (λ e. known-statement p (omega (arith, ltb-false 63 p e)))
   answer-is callsMade = refl

@@ -9,7 +9,7 @@ use mathlib.Core.List.{List, _∷_}
 use lib.ListN.{length}
 use Rattle.file.specs.Answer.{refused, decide, statementSays}
 use Rattle.file.specs.Fields.{coverOf, shortfallOf}
-use Rattle.file.specs.Statement.{statementOf}
+use Rattle.file.specs.Statement.{fileStatement}
 use Rattle.book.specs.Call.{Act, admit, lodge, release, settle, annualRun}
 use Rattle.book.specs.Account.{fileAnswer, fileAfter, callsAdded, openedIfAdmitted}
 use Rattle.book.specs.Reading.Events.{Own, dayOpened, act, admittedIn}
@@ -34,7 +34,7 @@ pub record OnePart (t : ℕ) (own : List Own) : Type 0 where
   pub called : (a : Act) → NoneHolds (ownCauses t own a)
       → callsAdded (fileIn t own) t a + length (callsIn own) ≡ length (callsIn (act t a ∷ own))
   pub opened : suc t ≤ 29219 → openedIfAdmitted (suc t) (fileIn t own) ≡ fileIn (suc t) (dayOpened (suc t) ∷ own)
-  pub stated : statementSays (statementOf (fileIn t own) t) ≡ ownStatement t own
+  pub stated : statementSays (fileStatement (fileIn t own) t) ≡ ownStatement t own
   pub cover : coverOf (fileIn t own) t ≡ coverIn t own
   pub shortfall : shortfallOf (fileIn t own) t ≡ shortfallIn t own
   -- an accepted call raises no shortfall, and an admission begins with none

@@ -6,7 +6,7 @@ use mathlib.Core.Path.{_≡_, ap}
 use mathlib.Core.List.{List}
 use Rattle.file.specs.Answer.{stated, statementSays}
 use Rattle.file.specs.Fields.{coverOf, shortfallOf}
-use Rattle.file.specs.Statement.{statementOf}
+use Rattle.file.specs.Statement.{fileStatement}
 use Rattle.book.specs.Reading.Events.{Own}
 use Rattle.book.specs.Reading.Holdings.{coverIn}
 use Rattle.book.specs.Reading.Calls.{firmIn}
@@ -24,8 +24,8 @@ cover-of-file s own lw = cover-is s (todayIn s own) own lw (le-refl (todayIn s o
 
 -- The firm amount and the charges are read off, and the shortfall follows from the cover.
 pub statement-is : (s : ℕ) (own : List Own) → Lawful s own
-    → statementSays (statementOf (fileIn (todayIn s own) own) (todayIn s own)) ≡ ownStatement (todayIn s own) own
-unfolding statementOf shortfallOf fileIn ownStatement
+    → statementSays (fileStatement (fileIn (todayIn s own) own) (todayIn s own)) ≡ ownStatement (todayIn s own) own
+unfolding fileStatement shortfallOf fileIn ownStatement
 statement-is s own lw =
     let t = todayIn s own in
     ap (λ (cover : ℕ). stated (firmIn t own) cover (firmIn t own - cover) (chargedIn own) (accruedIn own)) (cover-of-file s own lw)

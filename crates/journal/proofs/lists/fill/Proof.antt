@@ -2,7 +2,7 @@
 -- give. The measure is how many are left.
 -- Assumes nothing.
 use Rattle.journal.proofs.ListLaws.{Filling, filling-starts, filling-goes, filling-faults, filling-full, filling-ends}
-use Rattle.journal.specs.Fields.{leftAt, numbersOf}
+use Rattle.journal.specs.Fields.{restOfLine, nextNumbers}
 use Prim.Native.Nat.{_-_, _≤_}
 use lib.ListN.{length}
 use borrow.Author.Needs.{needs}
@@ -12,8 +12,8 @@ use Rattle.journal.proofs.lists.fill.Tie as tie
 abbrev Inv-loop : tie.InvT-loop
 Inv-loop s count marks numbers₀ from at₀ i₀ k₀ numbers at i k =
     (k ≤ count)
-    × Filling (numbersOf marks (length numbers₀ - from) count (leftAt s at₀))
-    (numbersOf marks (length numbers₀ - i) (count - k) (leftAt s at)) numbers₀ from numbers i
+    × Filling (nextNumbers marks (length numbers₀ - from) count (restOfLine s at₀))
+    (nextNumbers marks (length numbers₀ - i) (count - k) (restOfLine s at)) numbers₀ from numbers i
 
 abbrev μ-loop : tie.MeasureT-loop
 μ-loop s count marks numbers₀ from at₀ i₀ k₀ numbers at i k = count - k

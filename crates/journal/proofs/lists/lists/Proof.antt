@@ -2,7 +2,7 @@
 -- all seven give. The measure is the number of lists left.
 -- Assumes nothing.
 use Rattle.journal.proofs.ListLaws.{Listing, listing-starts, listing-goes, listing-ends, list-grows}
-use Rattle.journal.specs.Fields.{leftAt, listsOf}
+use Rattle.journal.specs.Fields.{restOfLine, listsOf}
 use Rattle.journal.specs.Grammar.{areMarks}
 use Prim.Native.Nat.{_-_, _≤_}
 use mathlib.Core.Path.{_≡_}
@@ -14,8 +14,8 @@ use Rattle.journal.proofs.lists.lists.Tie as tie
 abbrev Inv-loop : tie.InvT-loop
 Inv-loop s numbers₀ lengths₀ at₀ end₀ i₀ numbers lengths at end i =
     (i ≤ 7) × (length lengths₀ ≡ 7)
-    × Listing (listsOf areMarks (length numbers₀) (leftAt s at₀))
-    (listsOf (drop i areMarks) (length numbers₀ - end) (leftAt s at)) numbers₀ numbers end lengths₀ lengths i
+    × Listing (listsOf areMarks (length numbers₀) (restOfLine s at₀))
+    (listsOf (drop i areMarks) (length numbers₀ - end) (restOfLine s at)) numbers₀ numbers end lengths₀ lengths i
 
 abbrev μ-loop : tie.MeasureT-loop
 μ-loop s numbers₀ lengths₀ at₀ end₀ i₀ numbers lengths at end i = 7 - i

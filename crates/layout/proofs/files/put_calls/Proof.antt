@@ -4,14 +4,15 @@ use Prim.Native.Nat.{_≤_, _-_}
 use mathlib.Core.Path.{_≡_}
 use borrow.Author.Needs.{needs}
 use lib.ListN.{length}
-use Rattle.layout.specs.Parts.{callWords, CallBack}
+use Rattle.layout.specs.Parts.{openCallWords, CallBack}
 use Rattle.layout.specs.Files.{SoFar}
 use Rattle.layout.proofs.Rows.{calls-none, calls-turn, calls-all, kept-length}
 use Rattle.layout.proofs.files.put_calls.Statement.{statement}
 use Rattle.layout.proofs.files.put_calls.Tie as tie
 
 abbrev Inv-loop : tie.InvT-loop
-Inv-loop words₀ at calls i₀ words i = (i ≤ 4) × (length calls ≡ 4) × (length words ≡ length words₀) × SoFar callWords CallBack calls words₀ at i words
+Inv-loop words₀ at calls i₀ words i =
+    (i ≤ 4) × (length calls ≡ 4) × (length words ≡ length words₀) × SoFar openCallWords CallBack calls words₀ at i words
 
 abbrev μ-loop : tie.MeasureT-loop
 μ-loop words₀ at calls i₀ words i = 4 - i

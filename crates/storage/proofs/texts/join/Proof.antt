@@ -6,14 +6,14 @@ use mathlib.Core.Path.{_≡_, refl}
 use mathlib.Core.List.{_++_}
 use lib.ListN.{length}
 use Rattle.laws.specs.Places.{Filling, filling-all}
-use Rattle.storage.specs.Texts.{padded}
+use Rattle.storage.specs.Texts.{withZeros}
 use Rattle.storage.proofs.Bytes.{padded-first, padded-next}
 use borrow.Author.Needs.{needs}
 use Rattle.storage.proofs.texts.join.Statement.{statement}
 use Rattle.storage.proofs.texts.join.Tie as tie
 
 abbrev Inv-loop : tie.InvT-loop
-Inv-loop front back out₀ i₀ out i = (length out ≡ length out₀) × Filling (length out₀) i (padded (length out₀) (front ++ back)) out₀ out
+Inv-loop front back out₀ i₀ out i = (length out ≡ length out₀) × Filling (length out₀) i (withZeros (length out₀) (front ++ back)) out₀ out
 
 abbrev μ-loop : tie.MeasureT-loop
 μ-loop front back out₀ i₀ out i = length out₀ - i

@@ -1,8 +1,7 @@
 -- `words::numbers::is_natural` meets its contract. The loop's invariant: each byte of the word is a digit exactly if each of those that
 -- are left is, and the word is a natural number exactly then. The measure is the number of bytes left.
 -- Assumes nothing.
-use Rattle.words.proofs.Scans.{each-later}
-use Rattle.words.proofs.NumberLaws.{natural-each, natural-empty, not-natural, all-digits}
+use Rattle.words.proofs.NumberLaws.{natural-each, natural-empty, digit-later, not-natural, all-digits}
 use Rattle.words.specs.Bytes.{each, digit}
 use Rattle.words.specs.Numerals.{natural}
 use Prim.Native.Nat.{_≤_, _-_}
@@ -13,7 +12,7 @@ use Rattle.words.proofs.numbers.is_natural.Statement.{statement}
 use Rattle.words.proofs.numbers.is_natural.Tie as tie
 
 abbrev Inv-loop : tie.InvT-loop
-Inv-loop w i₀ i = (i ≤ length w) × (each digit (drop i w) ≡ each digit w) × (each digit w ≡ natural w)
+Inv-loop w i₀ i = (i ≤ length w) × (each digit w ≡ each digit (drop i w)) × (each digit w ≡ natural w)
 
 abbrev μ-loop : tie.MeasureT-loop
 μ-loop w i₀ i = length w - i
@@ -37,7 +36,7 @@ loop-less : tie.Need-loop-less Inv-loop μ-loop
 loop-less c = search needs
 
 loop-again : tie.Need-loop-again Inv-loop μ-loop
-loop-again c = (search needs, search (each-later, needs), search needs)
+loop-again c = (search needs, search (digit-later, needs), search needs)
 
 returns-2 : tie.Need-returns-2 Inv-loop μ-loop
 returns-2 c = search (not-natural, needs)

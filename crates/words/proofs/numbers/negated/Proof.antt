@@ -1,6 +1,8 @@
 -- `words::numbers::negated` meets its contract: the negative of a number below 2^63 can be held.
 -- Assumes nothing.
-use Rattle.words.proofs.NumberLaws.{minus-fits, minus-small, minus-large}
+use Rattle.laws.specs.Magnitudes.{fits-negated}
+use Rattle.words.proofs.NumberLaws.{minus-small, minus-large}
+use native.Mathlib.Nat.{le-of-suc-le-suc}
 use borrow.Author.Needs.{needs}
 use Rattle.words.proofs.numbers.negated.Statement.{statement}
 use Rattle.words.proofs.numbers.negated.Tie as tie
@@ -9,7 +11,7 @@ cast-result : tie.Need-cast-result
 cast-result c = search needs
 
 sub-result : tie.Need-sub-result
-sub-result c = search (minus-fits, needs)
+sub-result c = search (fits-negated, le-of-suc-le-suc, needs)
 
 returns : tie.Need-returns
 returns c = search (minus-small, needs)
