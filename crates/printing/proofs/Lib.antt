@@ -3,6 +3,5 @@ pub mod DecimalLaws
 pub mod FieldsBack
 pub mod RoundTrip
 pub mod PutLaws
-pub mod Magnitudes
 pub mod LineLaws
 pub mod ParsedFits
