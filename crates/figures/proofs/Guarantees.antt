@@ -63,6 +63,7 @@ guarantees =
       least-negative = refl;
       amount-of = refl;
       semesters-summed = refl;
+      marked-not-in-ratio = refl;
       half-a-cent = refl;
       below-half-a-cent = refl;
       no-semester = refl;

@@ -33,6 +33,7 @@ pub record Dates : Type 0 where
   pub last-day : monthOf 29219 ≡ 959
   pub last-day-day : dayOfMonth 29219 ≡ 31
   pub past-the-last : monthOf 29220 ≡ 960
+  pub far-past-the-last : monthOf 29251 ≡ 960
   -- 31 August, 1 and 30 September and 1 October 2020 are the days 243, 244, 273 and 274
   pub august-no-september : isSeptember 7 ≡ false
   pub september : isSeptember 8 ≡ true
@@ -47,10 +48,17 @@ pub record Dates : Type 0 where
   pub annual-september-1 : inAnnualDays 244 ≡ true
   pub annual-september-10 : inAnnualDays 253 ≡ true
   pub annual-september-11 : inAnnualDays 254 ≡ false
+  -- .. and in no other month: 1 August and 1 October 2020
+  pub annual-august-1 : inAnnualDays 213 ≡ false
+  pub annual-october-1 : inAnnualDays 274 ≡ false
   -- .. of 2021, the days 609 to 618
   pub annual-2021-first : inAnnualDays 609 ≡ true
   pub annual-2021-last : inAnnualDays 618 ≡ true
   pub annual-2021-after : inAnnualDays 619 ≡ false
+  -- .. of 2099, the last: day 29,219 is 31 December, so 10 September is day 29,107 and 1 October day 29,128
+  pub annual-2099-last : inAnnualDays 29107 ≡ true
+  pub annual-2099-after : inAnnualDays 29108 ≡ false
+  pub first-october-2099 : isFirstOctober 29128 ≡ true
   -- "1 October 2021 day 639"
   pub first-october-2020 : isFirstOctober 274 ≡ true
   pub first-october-before : isFirstOctober 638 ≡ false

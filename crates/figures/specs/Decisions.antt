@@ -5,9 +5,9 @@ use Prim.Native.Nat.{ℕ, _≤_}
 use mathlib.Core.Path.{_≡_}
 use mathlib.Core.List.{List, [], _∷_, _++_}
 use lib.ListN.{replicate}
-use lib.IntN.{pos, negsuc}
+use lib.IntN.{ℤ, pos, negsuc}
 use Rattle.file.specs.declared.Position.the-variants.{Empty, Cash}
-use Rattle.file.specs.Answer.{Answer, refused, done, called, covered, recorded, annual, daysOpened, stated, counted}
+use Rattle.file.specs.Answer.{refused, done, called, covered, recorded, annual, daysOpened, stated, counted}
 use Rattle.book.specs.Call.{admit, lodge, release, settle, annualRun, Call, on, advance, statement, callsMade}
 use Rattle.book.specs.Account.{freshAnswer}
 use Rattle.figures.specs.History.{decides, answers, admits, cash, letter, releases, five, settles, runsAnnual, toDay}
@@ -27,6 +27,10 @@ nextOf500 = admits 3 ∷ settles 5 500 ∷ runsAnnual ∷ []
 -- A Producer with a call of 500 on day 213, 1 August 2020, whose June total is then 100, and the annual run on 1 September.
 abbrev pub lowerOctober : List Call
 lowerOctober = admits 3 ∷ settles 5 500 ∷ settles 5 100 ∷ toDay 244 ∷ runsAnnual ∷ []
+
+-- Five figures with a total of −5.
+abbrev pub credit : List ℤ
+credit = pos 10 ∷ negsuc 14 ∷ pos 0 ∷ pos 0 ∷ pos 0 ∷ []
 
 pub record Decisions : Type 0 where
   -- What the reading decides, the book answers.
@@ -121,6 +125,9 @@ pub record Decisions : Type 0 where
   -- the largest of them, not their sum: open calls of 2,000,000 and 3,000,000
   pub largest-left : decides 60 (admits 0 ∷ settles 0 3000000 ∷ cash 0 3000001 ∷ []) (releases 0 1) ≡ done
   pub largest-short : decides 60 (admits 0 ∷ settles 0 3000000 ∷ cash 0 3000001 ∷ []) (releases 0 2) ≡ refused 16
+  -- .. nor of the firm amount and an open call: 2,000,000 is firm on day 71, and 3,000,000 open
+  pub firm-and-call-left : decides 60 (admits 0 ∷ toDay 71 ∷ settles 0 3000000 ∷ cash 0 3000001 ∷ []) (releases 0 1) ≡ done
+  pub firm-and-call-short : decides 60 (admits 0 ∷ toDay 71 ∷ settles 0 3000000 ∷ cash 0 3000001 ∷ []) (releases 0 2) ≡ refused 16
   -- "the cover left today": a letter that has not begun is no cover today, so its release leaves as much
   pub unbegun-short : decides 0 (admits 0 ∷ letter 0 2000000 1 9 ∷ cash 1 1 ∷ []) (releases 1 1) ≡ refused 16
   pub release-2-before-5 : decides 0 [] (releases 8 1) ≡ refused 2
@@ -148,6 +155,9 @@ pub record Decisions : Type 0 where
   pub settle-september : decides 273 (admits 3 ∷ []) (settles 6 1) ≡ recorded (pos 1)
   pub settle-october : decides 274 (admits 3 ∷ []) (settles 7 1) ≡ called 1 1 284
   pub settle-p-3 : decides 274 (admits 3 ∷ []) (settles 6 1) ≡ recorded (pos 1)
+  -- a credit is covered, or recorded only
+  pub settle-credit : decides 60 (admits 3 ∷ []) (on 0 (settle 0 credit)) ≡ covered (negsuc 4)
+  pub settle-credit-recorded : decides 244 (admits 3 ∷ []) (on 0 (settle 4 credit)) ≡ recorded (negsuc 4)
   -- "D, the cover today": cash and a letter in force, not one that begins tomorrow
   pub settle-cover : decides 60 (admits 3 ∷ cash 0 40 ∷ letter 1 60 60 60 ∷ letter 2 500 61 99 ∷ []) (settles 0 120) ≡ called 120 20 70
   -- ".. E > D, 5 × E ≥ 6 × D"
@@ -187,6 +197,8 @@ pub record Decisions : Type 0 where
       ≡ annual 700 2
   -- "E .. is recorded for M, replacing an earlier total", also where no check is due
   pub annual-replaced : decides 244 (admits 3 ∷ settles 5 500 ∷ settles 5 100 ∷ []) runsAnnual ≡ annual 100 1
+  -- "totals may be negative (a credit)": of −5 and 3 the larger is 3
+  pub annual-credit : decides 244 (admits 3 ∷ on 0 (settle 4 credit) ∷ settles 5 3 ∷ []) runsAnnual ≡ annual 3 2
   -- .. and not where the settlement was refused with 13
   pub annual-not-recorded : decides 60 (fourCalls ++ settles 0 500 ∷ toDay 244 ∷ []) runsAnnual ≡ annual 400 1
   -- ---- 'Statement': "1, 2"; opening a day

@@ -98,6 +98,9 @@ pub record Guarantees : Type 0 where
       specialGuarantee rates rates unmarked (pos 20000000 ∷ pos 40000000 ∷ []) (pos 30000000 ∷ pos 0 ∷ [])
       (pos 40000 ∷ pos 0 ∷ []) (pos 0 ∷ pos 60000 ∷ [])
       ≡ Guarantee 800000
+  -- a marked rate has no part in the ratio: 1% of 100,000,000
+  pub marked-not-in-ratio :
+      specialGuarantee rates (pos 40000 ∷ rates) (1 ∷ unmarked) nothing (pos 100000000 ∷ []) nothing nothing ≡ Guarantee 1000000
   -- the least guarantee that is more than €5,000: 1% of 50,000,050 and 50,000,049 cents
   pub half-a-cent : ofSemester (pos 50000050) (pos 0) (pos 0) (pos 0) ≡ Guarantee 500001
   pub below-half-a-cent : ofSemester (pos 50000049) (pos 0) (pos 0) (pos 0) ≡ Guarantee 500000

@@ -3,10 +3,10 @@
 use Prim.Native.Nat.{ℕ}
 use mathlib.Core.Path.{_≡_}
 use mathlib.Core.Bool.{true, false, cond}
-use mathlib.Core.List.{List, [], _∷_, map}
+use mathlib.Core.List.{[], _∷_, map}
 use lib.Dec.{eqb}
 use lib.ListN.{replicate}
-use lib.IntN.{ℤ, pos, negsuc}
+use lib.IntN.{pos, negsuc}
 use Rattle.laws.specs.Causes.{decide}
 use Rattle.laws.specs.Integers.{sumOf, larger}
 use Rattle.manual.specs.declared.Check.the-variants.{Call, Covered}
@@ -16,7 +16,7 @@ use Rattle.manual.specs.Check.{exceedsTolerance, exceedsEach, callIsMade, check
 use Rattle.manual.specs.Annual.{largestTotal, annualAmount}
 use Rattle.manual.specs.Charge.{dayCharge}
 use Rattle.file.specs.declared.OpenCall.{OpenCall}
-use Rattle.file.specs.Answer.{Answer, refused, done, called, covered}
+use Rattle.file.specs.Answer.{refused, done, called, covered}
 use Rattle.file.specs.Calls.{largest, amountsOf, callOf, keep}
 use Rattle.file.specs.Settle.{outsideMonths, checkDue, checkSays}
 use Rattle.file.specs.Totals.{Total, none, total, totalsFrom, yearTotals}
