@@ -15,7 +15,7 @@ use Rattle.file.specs.Calls.{largest, keep}
 use Rattle.file.specs.Position.{countsOn, emptiedOn, outsideAmounts}
 use Rattle.file.specs.Settle.{outsideMonths, checkDue}
 use Rattle.file.specs.Totals.{totalsFrom}
-use Rattle.book.specs.Account.{freshAnswer}
+use Rattle.book.specs.Account.{freshBook, freshAnswer, freshBookBeside}
 use Rattle.book.specs.Reading.Calls.{baseIn, firmFrom, openOn, calledIn, callsIn, firmIn, openIn}
 use Rattle.book.specs.Reading.Charges.{before, openingShortfall, daysSince, countShort, sumCharges, chargedIn, accruedIn}
 use Rattle.book.specs.Reading.Decisions.{settlementAnswer, ownCauses, ownAnswer, ownStatement, callsBelow, decision, withCall, eventsOf}
@@ -42,15 +42,17 @@ both s calls c h = ap newest (life s (c ∷ newestFirst calls []) h .answers)
 pub decisions : Decisions
 unfolding decide larger sumOf leap lengthIn lengthOf firstDay holding monthOf dayOfMonth isSeptember inAnnualDays isFirstOctober
     largestTotal annualAmount dayCharge exceedsTolerance exceedsEach callIsMade checked wrongCount allWithin outOfRange minimumOf largest
-    keep countsOn emptiedOn outsideAmounts outsideMonths checkDue totalsFrom freshAnswer baseIn firmFrom openOn calledIn callsIn firmIn
-    openIn before openingShortfall daysSince countShort sumCharges chargedIn accruedIn settlementAnswer ownCauses ownAnswer ownStatement
-    callsBelow decision withCall eventsOf mine todayOf withDays admittedIn roleIn lastLodged releasedSince leftAt positionIn lodgedOn
-    releasedOn coverIn totalIn yearsTotals annualIn nextIn newestFirst decides
+    keep countsOn emptiedOn outsideAmounts outsideMonths checkDue totalsFrom freshBook freshAnswer freshBookBeside baseIn firmFrom openOn
+    calledIn callsIn firmIn openIn before openingShortfall daysSince countShort sumCharges chargedIn accruedIn settlementAnswer ownCauses
+    ownAnswer ownStatement callsBelow decision withCall eventsOf mine todayOf withDays admittedIn roleIn lastLodged releasedSince leftAt
+    positionIn lodgedOn releasedOn coverIn totalIn yearsTotals annualIn nextIn newestFirst decides
 decisions =
     record {
       both = both;
       fresh-last-day = refl;
       fresh-past = refl;
+      fresh-on-its-day = refl;
+      fresh-beside = refl;
       advance-last-day = refl;
       advance-past = refl;
       advance-back = refl;
@@ -118,6 +120,10 @@ decisions =
       largest-short = refl;
       firm-and-call-left = refl;
       firm-and-call-short = refl;
+      next-and-call-left = refl;
+      next-and-call-short = refl;
+      next-replaced-left = refl;
+      next-replaced = refl;
       unbegun-short = refl;
       release-2-before-5 = refl;
       release-5-before-7 = refl;

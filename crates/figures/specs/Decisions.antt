@@ -9,7 +9,7 @@ use lib.IntN.{ℤ, pos, negsuc}
 use Rattle.file.specs.declared.Position.the-variants.{Empty, Cash}
 use Rattle.file.specs.Answer.{refused, done, called, covered, recorded, annual, daysOpened, stated, counted}
 use Rattle.book.specs.Call.{admit, lodge, release, settle, annualRun, Call, on, advance, statement, callsMade}
-use Rattle.book.specs.Account.{freshAnswer}
+use Rattle.book.specs.Account.{freshAnswer, freshBookBeside}
 use Rattle.figures.specs.History.{decides, answers, admits, cash, letter, releases, five, settles, runsAnnual, toDay}
 
 -- A Producer with four open calls on day 60, 1 March 2020, each of its total: the fifth would be above them.
@@ -39,6 +39,9 @@ pub record Decisions : Type 0 where
   -- "day above 29,219" is 17
   pub fresh-last-day : freshAnswer 29219 ≡ done
   pub fresh-past : freshAnswer 29220 ≡ refused 17
+  -- "if fresh: a book on day 0 with no participants stands beside the number"
+  pub fresh-on-its-day : freshBookBeside 29219 .today .0 ≡ 29219
+  pub fresh-beside : freshBookBeside 29220 .today .0 ≡ 0
   pub advance-last-day : decides 29218 [] (advance 29219 100) ≡ daysOpened 1
   pub advance-past : decides 29218 [] (advance 29220 100) ≡ refused 17
   -- ".. or T before t"; T = t opens no day
@@ -128,6 +131,12 @@ pub record Decisions : Type 0 where
   -- .. nor of the firm amount and an open call: 2,000,000 is firm on day 71, and 3,000,000 open
   pub firm-and-call-left : decides 60 (admits 0 ∷ toDay 71 ∷ settles 0 3000000 ∷ cash 0 3000001 ∷ []) (releases 0 1) ≡ done
   pub firm-and-call-short : decides 60 (admits 0 ∷ toDay 71 ∷ settles 0 3000000 ∷ cash 0 3000001 ∷ []) (releases 0 2) ≡ refused 16
+  -- .. nor of an open call and the next amount, here each a Supplier's minimum
+  pub next-and-call-left : decides 244 (admits 0 ∷ runsAnnual ∷ cash 0 2000001 ∷ []) (releases 0 1) ≡ done
+  pub next-and-call-short : decides 244 (admits 0 ∷ runsAnnual ∷ cash 0 2000001 ∷ []) (releases 0 2) ≡ refused 16
+  -- "It becomes the next amount, replacing an earlier one": 900 after 500
+  pub next-replaced-left : decides 244 (nextOf500 ++ settles 5 900 ∷ runsAnnual ∷ cash 0 901 ∷ []) (releases 0 1) ≡ done
+  pub next-replaced : decides 244 (nextOf500 ++ settles 5 900 ∷ runsAnnual ∷ cash 0 901 ∷ []) (releases 0 2) ≡ refused 16
   -- "the cover left today": a letter that has not begun is no cover today, so its release leaves as much
   pub unbegun-short : decides 0 (admits 0 ∷ letter 0 2000000 1 9 ∷ cash 1 1 ∷ []) (releases 1 1) ≡ refused 16
   pub release-2-before-5 : decides 0 [] (releases 8 1) ≡ refused 2
