@@ -14,8 +14,8 @@
  * The library allocates nothing and has no state of its own: calls on different books may run in different threads at the same time. On one
  * book, questions (`const uint64_t *words`) may run at the same time, a call (`uint64_t *words`) only alone.
  *
- * Lists are lent for the time of the call and are not written. No pointer may be NULL, also that of an empty list, and no list may overlap
- * the words. */
+ * Lists, and the bytes of a batch, are lent for the time of the call and are not written. No pointer may be NULL, also that of an empty list, and
+ * no list may overlap the words. */
 #ifndef GUARANTEE_H
 #define GUARANTEE_H
 
@@ -51,6 +51,9 @@ enum {
     GUARANTEE_DAY = 17,               /* the day is above 29,219, or before today */
     GUARANTEE_FEW_RATES = 18,         /* a list has fewer than three usable rates */
     GUARANTEE_LIST_LENGTHS = 19,      /* more than 64 rates, marks not as many as low rates, or the four lists unequal or above 16 */
+    GUARANTEE_FILE_SHORT = 20,        /* a batch's file is too short for its pairs, or has none or more than 64 */
+    GUARANTEE_PARTS_ORDER = 21,       /* a batch's parts don't follow one another from its pairs to the end of the file */
+    GUARANTEE_PART_LENGTH = 22,       /* a part's length isn't that of its rows, or its participant has an earlier part */
     GUARANTEE_NOT_A_BOOK = 100        /* the words aren't GUARANTEE_WORDS many: none was read or written */
 };
 
@@ -79,6 +82,13 @@ typedef struct GuaranteeSettled {
     uint64_t asked;                   /* where called: what is asked beyond the cover */
     uint64_t last_free_day;           /* where called: the last day to lodge it without a charge */
 } GuaranteeSettled;
+
+/* What a batch answers. */
+typedef struct GuaranteeBatch {
+    uint64_t refusal;
+    uint64_t parts;                   /* where accepted: how many parts the file has, each settled */
+    uint64_t pair;                    /* where refused: the index of the pair that the refusal concerns, from 0 */
+} GuaranteeBatch;
 
 /* What an annual run answers: the next amount, and how many months were recorded. */
 typedef struct GuaranteeAnnual {
@@ -152,6 +162,18 @@ uint64_t guarantee_release(uint64_t *words, size_t length, uint64_t participant,
  * for more. The order of refusals is 1, 2, 12, 10, 11, 13. Writes only if accepted. */
 GuaranteeSettled guarantee_settle(uint64_t *words, size_t length, uint64_t participant, uint32_t month, const int64_t *figures,
                                   size_t count);
+
+/* Loads a batch: the file of one month for all participants, of which every part is settled, in pair order, or none. The file is, least byte first:
+ *   the month (2 bytes) and the count n of parts (2 bytes, 1 to 64);
+ *   n pairs, each the offset and the length of a part (4 bytes each), the offset counted from the start of the file;
+ *   n parts, each a participant (1 byte), a count r of rows (1 byte) and r figures (8 bytes each, signed, two's complement): 2 + 8 * r bytes.
+ * The first part begins at 4 + 8 * n, each next one where the one before it ended, and the last ends with the file. What the figures are and which
+ * month is lawful is said of guarantee_settle.
+ *
+ * The order of refusals is 20, 21 of any pair, 22 of any pair, and then those of the settlements, pair by pair, each in the order of
+ * guarantee_settle: 1, 2, 12, 10, 11, 13. `pair` is the index from 0 of the first pair of which the refusal holds: for 20 it is 0, for 21 where only
+ * the end of the file is wrong n - 1, for a participant twice that of the later part. Writes only if accepted. */
+GuaranteeBatch guarantee_batch(uint64_t *words, size_t length, const uint8_t *file, size_t bytes);
 
 /* Runs the annual calculation of a participant, from 1 to 10 September: the largest total from July of the year before to this June, or the
  * role's minimum if that is larger, becomes the firm amount on 1 October. The order of refusals is 1, 2, 14. Writes only if accepted. */

@@ -1,6 +1,7 @@
-"""Paper 01's 'Figures to reproduce' that concern the book, by the reference: python3 reference/check.py
+"""Paper 01's 'Figures to reproduce' that concern the book, and paper 02's batch, by the reference: python3 reference/check.py
 
-Each figure is reached by a history from a fresh book, so that cover, firm amount and charges are the reading's own. Exits 1 on a difference.
+Each figure is reached by a history from a fresh book, so that cover, firm amount and charges are the reading's own. The batches are bytes worked
+out by hand, on both sides of each bound. Exits 1 on a difference.
 """
 import sys
 
@@ -151,12 +152,143 @@ def two_calls():
     same('the second call is due', h.statement(0), statement(200, 0, 6, 600000000))
 
 
+# ---- batches (paper 02, ask 1): the bytes of files, in hexadecimal digits
+
+# Five figures: the first, least byte first, and four of 0. The part of a participant with five figures has 42 = 2a bytes.
+ZERO = '0000000000000000 '
+FIVE, SEVEN = '0500000000000000' + ZERO * 4, '0700000000000000' + ZERO * 4
+
+# Month 13 = 0d, February 2021. One pair begins its part at 12 = 0c, two at 20 = 14 and 62 = 3e, three at 28 = 1c, 70 = 46 and 112 = 70.
+ONE = '0d00 0100  0c000000 2a000000 '
+TWO = '0d00 0200  14000000 2a000000  3e000000 2a000000 '
+THREE = '0d00 0300  1c000000 2a000000  46000000 2a000000  70000000 2a000000 '
+
+
+def batch_book():
+    """1 April 2021, month 15: producers 0 and 1, with no cover, so that a total above 0 calls; and trader 2, whose minimum is called."""
+    h = History(day_number(2021, 4, 1))
+    for p, role in ((0, 3), (1, 4), (2, 2)):
+        h.admit(p, role)
+    return h
+
+
+def batch(what, text, due, h=None):
+    """Compares the answer to a batch, `n` or `number, index`. A refused one leaves every reading as it was."""
+    h = h or batch_book()
+    before = [(who.acts[:], h.statement(p)) for p, who in sorted(h.people.items())], h.calls_made()
+    answer = (9, due, 0, 0, 0, 0) if isinstance(due, int) else (10, *due, 0, 0, 0)
+    same(f'batch, {what}', h.batch(bytes.fromhex(text)), answer)
+    if answer[0] == 10:
+        after = [(who.acts[:], h.statement(p)) for p, who in sorted(h.people.items())], h.calls_made()
+        same(f'batch, {what}, the book', after, before)
+    return h
+
+
+def empty_parts(count):
+    """So many parts of two bytes, for participants 0, 1, .. with no rows."""
+    pairs = ''.join(f'{(4 + 8 * count + 2 * i).to_bytes(4, "little").hex()} 02000000 ' for i in range(count))
+    return f'0d00 {count:02x}00 ' + pairs + ''.join(f'{p:02x}00 ' for p in range(count))
+
+
+def batch_too_short():
+    """20: too short for its pairs, or n outside 1 to 64."""
+    batch('no bytes', '', (20, 0))
+    batch('3 bytes', '0d0001', (20, 0))
+    batch('n = 0', '0d00 0000', (20, 0))
+    batch('n = 0 before a part', '0d00 0000  0c000000 2a000000 0005' + FIVE, (20, 0))
+    batch('4 bytes, n = 1', '0d00 0100', (20, 0))
+    batch('11 bytes, n = 1', '0d00 0100  0c000000 000000', (20, 0))
+    batch('12 bytes, n = 1, a part of 0 bytes', '0d00 0100  0c000000 00000000', (22, 0))
+    batch('n = 256', '0d00 0001  0c000000 2a000000 0005' + FIVE, (20, 0))
+    batch('n = 64, no rows', empty_parts(64), (10, 0))
+    batch('n = 65, no rows', empty_parts(65), (20, 0))
+    batch('n = 64, one byte short of its pairs', '0d00 4000' + '00' * 511, (20, 0))
+    batch('n = 64, nothing behind its pairs', '0d00 4000' + '00' * 512, (21, 0))
+
+
+def batch_not_following():
+    """21: the first part at 4 + 8 n, each next one where the last ended, the last to the end of the file."""
+    batch('one part at 12', ONE + '0005' + FIVE, 1)
+    batch('one part at 11', ONE.replace('0c00', '0b00') + '0005' + FIVE, (21, 0))
+    batch('one part at 13', ONE.replace('0c00', '0d00') + '0005' + FIVE, (21, 0))
+    batch('one part at 13, and a byte before it', ONE.replace('0c00', '0d00') + 'ff 0005' + FIVE, (21, 0))
+    batch('two parts', TWO + '0005' + FIVE + '0105' + SEVEN, 2)
+    batch('the second at 61', TWO.replace('3e', '3d') + '0005' + FIVE + '0105' + SEVEN, (21, 1))
+    batch('the second at 63', TWO.replace('3e', '3f') + '0005' + FIVE + '0105' + SEVEN, (21, 1))
+    batch('the first at 21, the second at 63', TWO.replace('14', '15').replace('3e', '3f') + '0005' + FIVE + '0105' + SEVEN, (21, 0))
+    three = '0005' + FIVE + '0105' + SEVEN + '0205' + FIVE
+    batch('three parts', THREE + three, 3)
+    batch('the middle one at 69', THREE.replace('46', '45') + three, (21, 1))
+    batch('the last one at 113', THREE.replace('70', '71') + three, (21, 2))
+    batch('a byte behind the end', THREE + three + '00', (21, 2))
+    batch('a byte missing at the end', (THREE + three).replace(' ', '')[:-2], (21, 2))
+    batch('a last length of 41', THREE.replace('70000000 2a', '70000000 29') + three, (21, 2))
+    batch('a last length of 2^32 - 1', THREE.replace('70000000 2a000000', '70000000 ffffffff') + three, (21, 2))
+    # The first part is said to be 256 bytes longer, and the others follow on from there: only the end is wrong.
+    past = '0d00 0300  1c000000 2a010000  46010000 2a000000  70010000 2a000000 '
+    batch('the first ends past the file', past + three, (21, 2))
+    # Two lengths 2^31 too large: the end is right modulo 2^32.
+    batch('an end of 2^32 too much', '0d00 0200  14000000 2a000080  3e000080 2a000080 ' + '0005' + FIVE + '0105' + SEVEN, (21, 1))
+
+
+def batch_parts():
+    """22: a length of 2 + 8 r, and no participant twice; the later pair's index. 20, 21 and 22 come before any settlement, in that order."""
+    batch('a length of 1', '0d00 0100  0c000000 01000000  00', (22, 0))
+    batch('a length of 2, no rows', '0d00 0100  0c000000 02000000  0000', (10, 0))
+    batch('a length of 41', '0d00 0100  0c000000 29000000  0005' + FIVE[:-3], (22, 0))
+    batch('a length of 43', '0d00 0100  0c000000 2b000000  0005' + FIVE + '00', (22, 0))
+    batch('a length of 42, 4 rows', ONE + '0004' + FIVE, (22, 0))
+    batch('a length of 42, 6 rows', ONE + '0006' + FIVE, (22, 0))
+    batch('a participant twice', TWO + '0105' + FIVE + '0105' + SEVEN, (22, 1))
+    batch('a participant twice, apart', THREE + '0105' + FIVE + '0005' + SEVEN + '0105' + FIVE, (22, 2))
+    batch('a participant above 63 twice', TWO + '4005' + FIVE + '4005' + SEVEN, (22, 1))
+    batch('22 of pair 0 and 21 of pair 2', THREE.replace('70', '71') + '0004' + FIVE + '0105' + SEVEN + '0205' + FIVE, (21, 2))
+    batch('22 of pair 0, and the end', THREE + '0004' + FIVE + '0105' + SEVEN + '0205' + FIVE + '00', (21, 2))
+    batch('22 of pairs 1 and 2', THREE + '0005' + FIVE + '0005' + SEVEN + '0204' + FIVE, (22, 1))
+    batch('1 of pair 0 and 22 of pair 1', TWO + 'ff05' + FIVE + '0104' + SEVEN, (22, 1))
+    batch('12, and 22 of pair 1', '0e00' + TWO[4:] + '0005' + FIVE + '0104' + SEVEN, (22, 1))
+
+
+def batch_settlements():
+    """The settlements in pair order: the first refusal is answered with its pair's index, and the book is as before."""
+    batch('1 of pair 1', TWO + '0005' + FIVE + '4005' + SEVEN, (1, 1))
+    batch('2 of pair 1', TWO + '0005' + FIVE + '3f05' + SEVEN, (2, 1))
+    batch('2 of pair 0, 1 of pair 1', TWO + '3f05' + FIVE + '4005' + SEVEN, (2, 0))
+    batch('month 14 = P - 1', '0e00' + TWO[4:] + '0005' + FIVE + '0105' + SEVEN, (12, 0))
+    batch('month 1 = P - 14', '0100' + TWO[4:] + '0005' + FIVE + '0105' + SEVEN, 2)
+    batch('month 0 = P - 15', '0000' + TWO[4:] + '0005' + FIVE + '0105' + SEVEN, (12, 0))
+    batch('month 13 + 256', '0d01' + TWO[4:] + '0005' + FIVE + '0105' + SEVEN, (12, 0))
+    batch('4 rows', '0d00 0100  0c000000 22000000  0004' + ZERO * 4, (10, 0))
+    batch('16 rows', '0d00 0100  0c000000 82000000  0010' + ZERO * 16, 1)
+    batch('17 rows', '0d00 0100  0c000000 8a000000  0011' + ZERO * 17, (10, 0))
+    batch('255 rows', '0d00 0100  0c000000 fa070000  00ff' + ZERO * 255, (10, 0))
+    batch('10^12', ONE + '0005 0010a5d4e8000000' + ZERO * 4, 1)
+    batch('10^12 + 1', ONE + '0005 0110a5d4e8000000' + ZERO * 4, (11, 0))
+    batch('-10^12', ONE + '0005 00f05a2b17ffffff' + ZERO * 4, 1)
+    batch('-10^12 - 1', ONE + '0005 ffef5a2b17ffffff' + ZERO * 4, (11, 0))
+    batch('-2^63', ONE + '0005' + ZERO * 4 + '0000000000000080', (11, 0))
+    h = batch('called, called and a credit', THREE + '0105' + FIVE + '0005' + SEVEN + '0205 f9ffffffffffffff' + ZERO * 4, 3)
+    same('batch, the totals', [h.people[p].total(13) for p in (0, 1, 2)], [7, 5, -7])
+    same('batch, its calls', [h.people[p].calls() for p in (0, 1, 2)], [[(7, 466)], [(5, 466)], [(1000000, 466)]])
+    same('batch, calls made', h.calls_made(), (8, 3, 0, 0, 0, 0))
+    batch('the same month again', ONE + '0105 0400000000000000' + ZERO * 4, 1, h)
+    same('batch, a total replaced', (h.people[1].total(13), h.calls_made()), (4, (8, 3, 0, 0, 0, 0)))
+    go(h, 11)
+    same('batch, its call is due', h.statement(0), statement(7, 0, 1, 100000000))
+    h = batch_book()
+    for e in (1, 2, 3, 4):
+        same('batch, an open call', settle(h, 1, e), called(e, e, 466))
+    batch('13 of pair 1', TWO + '0005' + SEVEN + '0105' + FIVE, (13, 1), h)
+    batch('none of it is checked', '0c00' + TWO[4:] + '0005' + SEVEN + '0105' + FIVE, 2, h)
+    same('batch, calls made after 13', h.calls_made(), (8, 5, 0, 0, 0, 0))
+
+
 def main():
-    for part in (calendar, examples, checks, charges, two_calls):
+    for part in (calendar, examples, checks, charges, two_calls, batch_too_short, batch_not_following, batch_parts, batch_settlements):
         part()
     for line in differences:
         print(line)
-    print(f'paper 01, figures of the book: {done} compared, {len(differences)} different')
+    print(f'paper 01, figures of the book, and batches: {done} compared, {len(differences)} different')
     return 1 if differences else 0
 
 

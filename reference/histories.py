@@ -8,16 +8,18 @@ answer, each refusal and each corner was met. A file is decimal numbers: `START 
     0 P ROLE                     admit                  5 P           annual run
     1 P PLACE AMOUNT             lodge cash             6 DAY BUDGET  advance
     2 P PLACE AMOUNT FIRST LAST  lodge a letter         7 P           statement
-    3 P PLACE AMOUNT             release                8             the count of calls made
-    4 P MONTH K F1 .. FK         settle
+    3 P PLACE AMOUNT             release                8 K B1 .. BK  a batch of K bytes
+    4 P MONTH K F1 .. FK         settle                 9             the count of calls made
 
 Every history ends with a statement of each participant admitted by then and the question for the count. The answers are those to the text as
-written: `history START`, then six numbers for each call. Corners are counted by what a call met, not by what it was aimed at.
+written: `history START`, then six numbers for each call; to a batch `9 N 0 0 0 0`, or `10 NUMBER INDEX 0 0 0`. Corners are counted by what a call
+met, not by what it was aimed at.
 """
 import argparse
 import collections
 import os
 import random
+import struct
 import sys
 import time
 
@@ -26,13 +28,14 @@ sys.dont_write_bytecode = True
 from reading import LAST_DAY, MINIMUM, MOST, History, date, day_number, in_annual_days, is_september, month
 
 ANSWERS = {0: 'refused', 1: 'done', 2: 'called', 3: 'covered', 4: 'recorded only', 5: 'annual amount', 6: 'days opened', 7: 'statement',
-           8: 'count of calls'}
-NAMES = {0: 'admit', 1: 'lodge', 2: 'lodge', 3: 'release', 4: 'settle', 5: 'annual', 6: 'advance', 7: 'statement'}
+           8: 'count of calls', 9: 'batch', 10: 'batch refused'}
+NAMES = {0: 'admit', 1: 'lodge', 2: 'lodge', 3: 'release', 4: 'settle', 5: 'annual', 6: 'advance', 7: 'statement', 8: 'batch'}
 ORDER = {'admit': (1, 3, 4), 'lodge': (1, 2, 5, 6, 8, 9), 'release': (1, 2, 5, 7, 8, 15, 16), 'settle': (1, 2, 12, 10, 11, 13),
          'annual': (1, 2, 14), 'advance': (17,), 'statement': (1, 2)}
 MOST_CALLS = 400     # a history stays below each of these three
 MOST_BYTES = 60000
 MOST_FIGURES = 4000
+MOST_BATCH = 8192    # bytes of all batches of a history
 MOST_DAYS = 1500     # opened in a history of few participants
 WORD, HALF = 2 ** 64 - 1, 2 ** 32 - 1
 
@@ -197,7 +200,94 @@ annual: below the firm amount
 annual: a second run, amount higher
 annual: a second run, amount lower
 annual: a larger total was refused with 13
+annual: a larger total was in a refused batch
+annual: the amount is the total of a batch
 annual: September 2020
+batch: accepted, one part
+batch: accepted, 2 to 5 parts
+batch: accepted, 6 to 63 parts
+batch: accepted, 64 parts
+batch: accepted, a part of 16 rows
+batch: accepted, participants not in their order
+batch: accepted, participant 63
+batch: accepted, M = P - 2
+batch: accepted, M = P - 14
+batch: accepted, a call is made
+batch: accepted, several calls are made
+batch: accepted, a fourth open call
+batch: accepted, called and covered
+batch: accepted, covered
+batch: accepted, recorded only
+batch: accepted, September, would have called
+batch: accepted, a total replaced
+batch: accepted, a total below 0
+batch: accepted, a figure of 10^12 or -10^12
+batch: accepted, the same file was refused before
+batch: accepted, the same file again
+batch: no bytes (20)
+batch: 1 to 3 bytes (20)
+batch: n = 0 (20)
+batch: n = 65 (20)
+batch: n = 65, and nothing else wrong with the file (20)
+batch: n of 66 and more (20)
+batch: 4 bytes (20)
+batch: shorter than its pairs (20)
+batch: one byte shorter than its pairs (20)
+batch: nothing behind its pairs
+batch: the first offset of several (21)
+batch: a middle offset (21)
+batch: the last offset (21)
+batch: an offset of one pair alone (21)
+batch: an offset one too small (21)
+batch: an offset one too large (21)
+batch: several offsets, the first counts (21)
+batch: an offset and the end, the offset counts (21)
+batch: only the end, the file is longer (21)
+batch: only the end, the file is one byte longer (21)
+batch: only the end, the file is shorter (21)
+batch: only the end, the file is one byte shorter (21)
+batch: only the end, a part before the last ends past the file (21)
+batch: only the end, right modulo 2^32 (21)
+batch: an offset right modulo 2^32 (21)
+batch: a length of 0 (22)
+batch: a length of 1 (22)
+batch: a length below 2 + 8 r (22)
+batch: a length above 2 + 8 r (22)
+batch: a participant twice, neighbours (22)
+batch: a participant twice, apart (22)
+batch: a participant above 63 twice (22)
+batch: the first pair of several (22)
+batch: a middle pair (22)
+batch: the last pair (22)
+batch: several pairs, the first counts (22)
+batch: 20 where 21 holds
+batch: 20 where 22 holds
+batch: 21 where 22 holds of an earlier pair
+batch: 21 where a settlement would be refused
+batch: 22 where a settlement of an earlier pair would be refused
+batch: refused at the first pair of several
+batch: refused at the last of several pairs
+batch: refused at the 64th pair
+batch: refused with 1 at a later pair
+batch: refused with 2 at a later pair
+batch: refused with 12 at the first pair of several
+batch: refused with 10 at a later pair
+batch: refused with 11 at a later pair
+batch: refused with 13 at a later pair
+batch: 4 rows (10)
+batch: 17 rows (10)
+batch: no rows (10)
+batch: 255 rows (10)
+batch: a figure just beyond (11)
+batch: a figure of -2^63 (11)
+batch: M = P - 1 (12)
+batch: M = P - 15 (12)
+batch: M above 959 (12)
+batch: several settlements would be refused, the first counts
+batch: refused, an earlier part would have called
+batch: refused, an earlier part would have replaced a total
+batch: refused, then a statement of an earlier part's participant
+opening: a batch's call ends
 people: above 63 (1)
 people: not admitted (2)
 people: participant 63
@@ -228,6 +318,8 @@ def apply(book, kind, args):
         return book.advance(*args)
     if kind == 7:
         return book.statement(*args)
+    if kind == 8:
+        return book.batch(bytes(args[1:]))
     return book.calls_made()
 
 
@@ -243,6 +335,8 @@ def read(text):
 def causes(book, kind, args):
     """Every cause of refusal that holds of a call, as far as it can be judged beside the others; the reference gives the first in order."""
     if kind == 8:
+        return [number for number, _ in batch_causes(book, bytes(args[1:]))]
+    if kind == 9:
         return []
     if kind == 6:
         return [17] if args[0] > LAST_DAY or args[0] < book.today else []
@@ -274,6 +368,60 @@ def causes(book, kind, args):
     return [n for n in ORDER[NAMES[kind]] if holds.get(n)]
 
 
+class File:
+    """The parts of a batch's file, to be put together or damaged: the month, the count, the pairs and the parts' bytes."""
+
+    def __init__(self, m, parts):
+        self.month, self.count, self.more, self.cut = m, len(parts), b'', None
+        self.parts = [struct.pack(f'<BB{len(figures)}q', p, len(figures), *figures) for p, figures in parts]
+        self.place()
+
+    def place(self):
+        """Pairs by which the parts follow on as they must."""
+        self.pairs, at = [], 4 + 8 * len(self.parts)
+        for part in self.parts:
+            self.pairs.append([at, len(part)])
+            at += len(part)
+
+    def bytes(self):
+        """The file; a number that is too large for its bytes loses what is above them."""
+        head = struct.pack('<HH', self.month, self.count % 2 ** 16)
+        pairs = b''.join(struct.pack('<II', offset % 2 ** 32, length % 2 ** 32) for offset, length in self.pairs)
+        return (head + pairs + b''.join(self.parts) + self.more)[:self.cut]
+
+
+def taken_apart(data):
+    """A batch's month and count, those of its pairs that the file has, and for each of these its part's bytes as far as the file has them."""
+    m, n = struct.unpack('<HH', data[:4]) if len(data) >= 4 else (0, 0)
+    pairs = [struct.unpack_from('<II', data, at) for at in range(4, min(4 + 8 * n, len(data) - 7), 8)]
+    return m, n, pairs, [data[offset:offset + length] for offset, length in pairs]
+
+
+def read_part(part):
+    """A part's participant and figures, where it is one."""
+    return part[0], [figure for figure, in struct.iter_unpack('<q', part[2:])]
+
+
+def batch_causes(book, data):
+    """Every cause of refusal that holds of a batch, (number, index), as far as it can be judged beside the others, in the order that decides."""
+    m, n, pairs, parts = taken_apart(data)
+    held = [(20, 0)] * (n == 0 or n > 64 or len(data) < 4 + 8 * n)
+    ends = [4 + 8 * n] + [offset + length for offset, length in pairs]
+    wrong = [(21, i) for i, (offset, _) in enumerate(pairs) if offset != ends[i]]
+    held += wrong or [(21, n - 1)] * (len(pairs) == n > 0 and ends[-1] != len(data))
+    whole, seen = [], set()
+    for i, ((_, length), part) in enumerate(zip(pairs, parts)):
+        fits = len(part) == length >= 2 and length == 2 + 8 * part[1]
+        if not fits or part[0] in seen:
+            held.append((22, i))
+        seen |= set(part[:1])
+        if fits:
+            whole.append((i, *read_part(part)))
+    for i, p, figures in whole:
+        held += [(number, i) for number in causes(book, 4, (p, m, len(figures), *figures))]
+    return held
+
+
 class Full(Exception):
     """The history has as many calls, bytes or figures as it may."""
 
@@ -284,8 +432,13 @@ class Recorder:
     def __init__(self, start, calls):
         self.start, self.calls = start, calls
         self.book = History(start)
-        self.lines, self.bytes, self.figures = [], 0, 0
+        self.lines, self.bytes, self.figures, self.batches = [], 0, 0, 0
         self.fifths = []                         # what was refused with 13: (participant, month, total)
+        self.undone = []                         # the same of the parts before the one that a batch was refused for
+        self.spared = []                         # the participants of these parts, until another change is tried
+        self.batched = {}                        # totals that came by a batch: (participant, month) to total
+        self.batch_calls = []                    # last free days of calls that a batch made
+        self.files = {}                          # files entered before, and whether the last time accepted
         self.kinds, self.refusals, self.pairs, self.corners = (collections.Counter() for _ in range(4))
         self.met_start()
 
@@ -301,21 +454,23 @@ class Recorder:
         """Makes a call that adds nothing to watch for; the methods below watch."""
         line = ' '.join(map(str, (kind,) + args))
         if len(self.lines) >= self.calls or self.bytes + len(line) + 1 > MOST_BYTES - 2000 \
-                or (kind == 4 and self.figures + args[2] >= MOST_FIGURES):
+                or (kind == 4 and self.figures + args[2] >= MOST_FIGURES) or (kind == 8 and self.batches + args[0] > MOST_BATCH):
             raise Full()
         held = causes(self.book, kind, args)
         answer = apply(self.book, kind, args)
-        assert (answer[0] == 0) == (held != []) and (held == [] or answer[1] == held[0]), (line, answer, held)
+        assert (answer[0] in (0, 10)) == (held != []) and (held == [] or answer[1] == held[0]), (line, answer, held)
         self.lines.append(line)
         self.bytes += len(line) + 1
         self.figures += args[2] if kind == 4 else 0
+        self.batches += args[0] if kind == 8 else 0
+        self.spared = self.spared if kind in (7, 9) else []
         self.kinds[answer[0]] += 1
         if held:
             self.refusals[held[0]] += 1
             self.met('people: above 63 (1)', held[0] == 1)
             self.met('people: not admitted (2)', held[0] == 2)
             self.met('causes: more than one at once', len(held) > 1)
-            for other in held[1:]:
+            for other in set(held) - {held[0]}:
                 self.pairs[NAMES[kind], held[0], other] += 1
         return answer
 
@@ -329,7 +484,7 @@ class Recorder:
         self.calls = MOST_CALLS - 1
         for p in sorted(self.book.people):
             self.call(7, p)
-        self.call(8)
+        self.call(9)
 
     # -- the calls, with what they met -----------------------------------------------------------------------------------------------------
 
@@ -492,6 +647,137 @@ class Recorder:
         self.met('check: last free day 29,219', made and t + 10 == LAST_DAY)
         return ok
 
+    def batch(self, data):
+        t, people = self.t, self.book.people
+        m, n, pairs, parts = taken_apart(data)
+        held = batch_causes(self.book, data)
+        entered = [] if held and held[0][0] > 19 else [(*read_part(part), people.get(part[0])) for part in parts]
+        calls = [who is not None and who.would_call(t, m, figures) for _, figures, who in entered]
+        open_calls = [len(who.open_calls(t)) if who else 0 for _, _, who in entered]
+        replaced = [who is not None and who.total(m) is not None for _, _, who in entered]
+        ok = self.call(8, len(data), *data)
+        assert ok == ((10, *held[0], 0, 0, 0) if held else (9, n, 0, 0, 0, 0)), (data, ok, held)
+        if ok[0] == 9:
+            self.met_batch(m, entered, calls, open_calls, replaced)
+            self.met('batch: accepted, the same file was refused before', self.files.get(data) is False)
+            self.met('batch: accepted, the same file again', self.files.get(data) is True)
+        elif ok[1] == 20:
+            self.met_short_batch(data, n, held)
+        elif ok[1] == 21:
+            self.met_offsets(len(data), pairs, held)
+        elif ok[1] == 22:
+            self.met_parts(pairs, parts, held)
+        else:
+            self.met_refused_batch(m, entered, calls, replaced, held)
+        self.files[data] = ok[0] == 9
+        return ok
+
+    def met_batch(self, m, parts, calls, open_calls, replaced):
+        """What an accepted batch met."""
+        t, here, n = self.t, month(self.t), len(parts)
+        names, totals, checked = [p for p, _, _ in parts], [sum(figures) for _, figures, _ in parts], parts[0][2].check_due(t, m)
+        self.met('batch: accepted, ' + ('one part' if n == 1 else '2 to 5 parts' if n < 6 else '6 to 63 parts' if n < 64 else '64 parts'))
+        self.met('batch: accepted, a part of 16 rows', any(len(figures) == 16 for _, figures, _ in parts))
+        self.met('batch: accepted, participants not in their order', names != sorted(names))
+        self.met('batch: accepted, participant 63', 63 in names)
+        self.met('batch: accepted, M = P - 2', m == here - 2)
+        self.met('batch: accepted, M = P - 14', m == here - 14)
+        self.met('batch: accepted, a call is made', any(calls))
+        self.met('batch: accepted, several calls are made', sum(calls) > 1)
+        self.met('batch: accepted, a fourth open call', any(made and count == 3 for made, count in zip(calls, open_calls)))
+        self.met('batch: accepted, called and covered', any(calls) and not all(calls))
+        self.met('batch: accepted, covered', checked and not all(calls))
+        self.met('batch: accepted, recorded only', not checked)
+        self.met('batch: accepted, September, would have called', is_september(here) and m == here - 2 and any(
+            e > who.cover(t) and 5 * e >= 6 * who.cover(t) and e > max([who.firm(t)] + who.open_calls(t)) for e, (_, _, who) in zip(totals, parts)))
+        self.met('batch: accepted, a total replaced', any(replaced))
+        self.met('batch: accepted, a total below 0', min(totals) < 0)
+        self.met('batch: accepted, a figure of 10^12 or -10^12', any(abs(x) == MOST for _, figures, _ in parts for x in figures))
+        self.batched.update({(p, m): e for p, e in zip(names, totals)})
+        self.batch_calls += [t + 10] * any(calls)
+
+    def met_short_batch(self, data, n, held):
+        """What a batch met that was refused with 20."""
+        size = len(data)
+        if size < 4:
+            self.met('batch: 1 to 3 bytes (20)' if size else 'batch: no bytes (20)')
+            return
+        self.met('batch: n = 0 (20)', n == 0)
+        self.met('batch: n = 65 (20)', n == 65)
+        self.met('batch: n = 65, and nothing else wrong with the file (20)', n == 65 and not {21, 22} & {number for number, _ in held})
+        self.met('batch: n of 66 and more (20)', n > 65)
+        if 1 <= n <= 64:
+            self.met('batch: 4 bytes (20)', size == 4)
+            self.met('batch: shorter than its pairs (20)')
+            self.met('batch: one byte shorter than its pairs (20)', size == 4 + 8 * n - 1)
+        self.met('batch: 20 where 21 holds', 21 in [number for number, _ in held])
+        self.met('batch: 20 where 22 holds', 22 in [number for number, _ in held])
+
+    def met_offsets(self, size, pairs, held):
+        """What a batch met that was refused with 21."""
+        n, at = len(pairs), held[0][1]
+        begins = [4 + 8 * n] + [offset + length for offset, length in pairs]
+        wrong = [i for i in range(n) if pairs[i][0] != begins[i]]
+        self.met('batch: nothing behind its pairs', size == 4 + 8 * n)
+        if wrong:
+            self.met('batch: ' + ('an offset of one pair alone' if n == 1 else 'the first offset of several' if at == 0 else
+                                  'the last offset' if at == n - 1 else 'a middle offset') + ' (21)')
+            self.met('batch: an offset one too small (21)', pairs[at][0] == begins[at] - 1)
+            self.met('batch: an offset one too large (21)', pairs[at][0] == begins[at] + 1)
+            self.met('batch: several offsets, the first counts (21)', len(wrong) > 1)
+            self.met('batch: an offset and the end, the offset counts (21)', at < n - 1 and begins[-1] != size)
+            self.met('batch: an offset right modulo 2^32 (21)', (pairs[at][0] - begins[at]) % 2 ** 32 == 0)
+        else:
+            rest = size - begins[-1]
+            self.met('batch: only the end, the file is ' + ('longer' if rest > 0 else 'shorter') + ' (21)')
+            self.met('batch: only the end, the file is one byte longer (21)', rest == 1)
+            self.met('batch: only the end, the file is one byte shorter (21)', rest == -1)
+            self.met('batch: only the end, a part before the last ends past the file (21)', any(end > size for end in begins[1:-1]))
+            self.met('batch: only the end, right modulo 2^32 (21)', rest % 2 ** 32 == 0)
+        self.met('batch: 21 where 22 holds of an earlier pair', any(number == 22 and i < at for number, i in held))
+        self.met('batch: 21 where a settlement would be refused', any(number < 20 for number, _ in held))
+
+    def met_parts(self, pairs, parts, held):
+        """What a batch met that was refused with 22."""
+        n, at = len(pairs), held[0][1]
+        length, part = pairs[at][1], parts[at]
+        self.met('batch: a length of 0 (22)', length == 0)
+        self.met('batch: a length of 1 (22)', length == 1)
+        if length >= 2 and length != 2 + 8 * part[1]:
+            self.met('batch: a length ' + ('below' if length < 2 + 8 * part[1] else 'above') + ' 2 + 8 r (22)')
+        elif length >= 2:
+            first = [other[0] for other in parts].index(part[0])
+            self.met('batch: a participant twice, ' + ('neighbours' if first == at - 1 else 'apart') + ' (22)')
+            self.met('batch: a participant above 63 twice (22)', part[0] > 63)
+        if n > 1:
+            self.met('batch: ' + ('the first pair of several' if at == 0 else 'the last pair' if at == n - 1 else 'a middle pair') + ' (22)')
+        self.met('batch: several pairs, the first counts (22)', [number for number, _ in held].count(22) > 1)
+        self.met('batch: 22 where a settlement of an earlier pair would be refused', any(number < 20 and i < at for number, i in held))
+
+    def met_refused_batch(self, m, parts, calls, replaced, held):
+        """What a batch met of which a settlement was refused."""
+        number, at = held[0]
+        n, here, figures = len(parts), month(self.t), parts[at][1]
+        self.met('batch: refused at the first pair of several', at == 0 and n > 1)
+        self.met('batch: refused at the last of several pairs', at == n - 1 > 0)
+        self.met('batch: refused at the 64th pair', at == 63)
+        if number == 12:
+            self.met('batch: refused with 12 at the first pair of several', at == 0 and n > 1)
+            self.met('batch: M = P - 1 (12)', m == here - 1)
+            self.met('batch: M = P - 15 (12)', m == here - 15)
+            self.met('batch: M above 959 (12)', m > 959)
+        elif at > 0:
+            self.met(f'batch: refused with {number} at a later pair')
+        for rows, said in ((4, '4'), (17, '17'), (0, 'no'), (255, '255')):
+            self.met(f'batch: {said} rows (10)', number == 10 and len(figures) == rows)
+        self.met('batch: a figure just beyond (11)', number == 11 and max(abs(x) for x in figures) == MOST + 1)
+        self.met('batch: a figure of -2^63 (11)', number == 11 and -2 ** 63 in figures)
+        self.met('batch: several settlements would be refused, the first counts', len({i for _, i in held}) > 1)
+        self.met('batch: refused, an earlier part would have called', any(calls[:at]))
+        self.met('batch: refused, an earlier part would have replaced a total', any(replaced[:at]))
+        self.undone += [(p, m, sum(figures)) for p, figures, _ in parts[:at]]
+        self.spared = [p for p, _, _ in parts[:at]]
+
     def annual(self, p):
         t, who, d = self.t, self.book.people.get(p), date(self.t)
         before = who and who.next_amount(t)
@@ -521,6 +807,9 @@ class Recorder:
         self.met('annual: a second run, amount higher', before is not None and amount > before)
         self.met('annual: a second run, amount lower', before is not None and amount < before)
         self.met('annual: a larger total was refused with 13', any(q == p and m in window and e > amount for q, m, e in self.fifths))
+        undone = [e for q, m, e in self.undone if q == p and here - 14 <= m <= here - 3]
+        self.met('annual: a larger total was in a refused batch', any(e > amount for e in undone))
+        self.met('annual: the amount is the total of a batch', any(e == amount == self.batched.get((p, m)) for m, e in window.items()))
         self.met('annual: September 2020', here == 8)
         return ok
 
@@ -555,6 +844,7 @@ class Recorder:
         self.met('advance: crosses 1 October', len(octobers) > 0)
         self.met('advance: crosses two Octobers', len(octobers) > 1)
         self.met("advance: a month's end is crossed by one day", n == 1 and month(t) != month(now))
+        self.met("opening: a batch's call ends", any(t <= last < now for last in self.batch_calls))
         for p, who in people.items():
             self.met_openings(who, t, *known[p], octobers)
         return ok
@@ -594,10 +884,11 @@ class Recorder:
         self.met('charge: accrued above 2^53', who.accrued() > 2 ** 53)
 
     def statement(self, p):
+        self.met("batch: refused, then a statement of an earlier part's participant", p in self.spared)
         return self.call(7, p)
 
     def count(self):
-        return self.call(8)
+        return self.call(9)
 
 
 class Maker(Recorder):
@@ -607,6 +898,7 @@ class Maker(Recorder):
         self.rng, self.theme = rng, theme
         self.names = names                       # the participants to admit
         self.days = MOST_DAYS if len(names) <= 5 else 300 if len(names) <= 20 else 150
+        self.everyone = False                    # whether a batch for all 64 was entered
         self.scale = {p: rng.choice((1, 1, 10, 100, 1000, 10 ** 4, 10 ** 5, 10 ** 6, 10 ** 6, 2 * 10 ** 7, 10 ** 8, 10 ** 8, 10 ** 9, 10 ** 11))
                       for p in range(64)}
         super().__init__(start, calls)
@@ -1176,6 +1468,195 @@ class Maker(Recorder):
         if bad(0.2):
             self.statement(p)
 
+    # -- batches ---------------------------------------------------------------------------------------------------------------------------
+
+    def room(self):
+        """How many bytes a batch may have. A history that admits all 64 keeps some for a batch of them."""
+        kept = 4800 if len(self.names) == 64 and not self.everyone else 0
+        return MOST_BATCH - self.batches - kept
+
+    def parts(self):
+        """Participants and their figures, aimed at the check's corners."""
+        known = sorted(self.book.people)
+        chosen = self.rng.sample(known, min(len(known), self.among(1, 2, 2, 3, 3, 4, 5, 8)))
+        return [(p, self.figures_of(self.total(p, self.book.people[p]))) for p in chosen]
+
+    def batch_month(self):
+        here = month(self.t)
+        return max(here - self.among(2, 2, 2, 2, 2, 2, 3, 3, 14, self.rng.randint(2, 14)), 0)
+
+    def wrong_rows(self):
+        """Figures of which there are too few or too many, or one out of range."""
+        e = self.amount(0)
+        bad = self.among(MOST + 1, -MOST - 1, -2 ** 63, 2 ** 63 - 1, 2 ** 62, 1 - 2 ** 63)
+        some = [[e, 0, 0, 0], [], [e] + [0] * 16, [e] + [0] * 16, [e, 0, 0], [e] + [0] * self.among(31, 63), [e, 0, 0, 0, bad], [bad, 0, 0, 0, 0],
+                [0, bad, 0, 0, e], [bad], [0] * 16 + [bad]]
+        return [e] + [0] * 254 if self.likely(0.04) and self.room() > 2400 else self.rng.choice(some)
+
+    def full(self):
+        """A participant with four open calls and figures that would call; calls are made until there is one."""
+        full = [p for p, who in self.book.people.items() if len(who.open_calls(self.t)) == 4]
+        p = self.rng.choice(full or sorted(self.book.people))
+        who = self.book.people[p]
+        for _ in range(5):
+            e = who.release_floor(self.t) + who.cover(self.t) + self.amount(p)
+            if len(who.open_calls(self.t)) == 4 or e > 16 * MOST or self.settle(p, self.check_month(), self.figures_of(e))[0] != 2:
+                break
+        return p, self.figures_of(min(who.release_floor(self.t) + who.cover(self.t) + self.amount(p), 16 * MOST))
+
+    def refused_parts(self, m, parts):
+        """A month and parts of which one, mostly not the first, is refused; now and then two."""
+        here, style = month(self.t), self.rng.random()
+        at = self.among(0, 1, len(parts) - 1, len(parts))
+        if style < 0.2:
+            m = max(self.among(here - 1, here - 15, here, here + 1, here + 256, 959, 960, 65535), 0)
+        elif style < 0.4:
+            names = [p for p, _ in parts]
+            strange = [p for p in range(64) if p not in self.book.people and p not in names] + [64, 64, 65, 127, 128, 255] * 4
+            parts.insert(at, (self.rng.choice(strange), self.figures_of(self.amount(0))))
+        elif style < 0.55:
+            p, figures = self.full()
+            others = [part for part in parts if part[0] != p]
+            m, parts = self.check_month(), others[:1] + [(p, figures)] + others[1:]
+        else:
+            at = min(at, len(parts) - 1)
+            parts[at] = (parts[at][0], self.wrong_rows())
+        if self.likely(0.2):
+            parts[-1] = (parts[-1][0], self.wrong_rows())
+        return m, parts
+
+    def damage(self, file):
+        """One thing of a file is made wrong."""
+        self.among(self.short_file, self.moved_file, self.moved_file, self.ended_file, self.wrong_part, self.wrong_part, self.twice)(file)
+
+    def short_file(self, file):
+        """A count that there isn't, or fewer bytes than the pairs need."""
+        if self.likely(0.5):
+            file.count = self.among(0, 0, 65, 65, 66, 256, 257, 256 * file.count, 65535)
+        else:
+            size = 4 + 8 * len(file.pairs)
+            file.cut = self.among(0, 0, 1, 2, 3, 4, 4, 5, size - 1, size - 1, size - 8, size, self.rng.randrange(size))
+
+    def moved_file(self, file):
+        """An offset that isn't where it must be; or a part with a byte before it that belongs to none."""
+        i = self.rng.randrange(len(file.pairs))
+        offset, length = file.pairs[i]
+        if self.likely(0.15) and len(file.pairs) > 1:
+            file.pairs[0], file.pairs[-1] = file.pairs[-1], file.pairs[0]
+        elif self.likely(0.2):
+            for pair in file.pairs[i:]:
+                pair[0] += 1
+            file.parts[i] = bytes(1) + file.parts[i]
+        elif self.likely(0.12) and i > 0:
+            at = file.pairs[i - 1][0]
+            beyond = self.among(0, self.rng.randrange(at % 2 ** 32 or 1))
+            file.pairs[i - 1][1], file.pairs[i][0] = 2 ** 32 + beyond - at, beyond
+        else:
+            file.pairs[i][0] = self.among(offset - 1, offset + 1, offset - 1, offset + 1, 0, offset + 8, length, 2 ** 31 + offset, 2 ** 32 - 1,
+                                          self.rng.randrange(2 ** 32))
+
+    def ended_file(self, file):
+        """Parts that follow on, and an end that isn't the file's."""
+        i, style = self.rng.randrange(len(file.pairs)), self.rng.random()
+        if style < 0.25:
+            file.more = bytes(self.among(1, 1, 2, 8, 42))
+        elif style < 0.45:
+            file.parts[-1] = file.parts[-1][:-self.among(1, 1, 2, 8)]
+        elif style < 0.6:
+            file.pairs[-1][1] = max(file.pairs[-1][1] + self.among(1, -1, 8, -8, 2 ** 31, 256), 0)
+        elif style < 0.85:
+            more = self.among(1, 8, 1000, 2 ** 16, 2 ** 31, 2 ** 32 - 10000)
+            file.pairs[i][1] += more
+            for pair in file.pairs[i + 1:]:
+                pair[0] += more
+        elif len(file.pairs) > 1:
+            for pair in file.pairs[-2:]:
+                pair[1] += 2 ** 31
+            file.pairs[-1][0] += 2 ** 31
+        else:
+            file.pairs[0][1] = 2 ** 32 - 1
+
+    def wrong_part(self, file):
+        """A length that isn't that of its rows, with parts that follow on."""
+        i, style = self.rng.randrange(len(file.parts)), self.rng.random()
+        part = file.parts[i]
+        if style < 0.3:
+            file.parts[i] = part[:self.among(0, 1)]
+        elif style < 0.6 and len(part) > 1:
+            file.parts[i] = part[:1] + bytes([max(part[1] + self.among(1, -1, 1, -1, 100), 0) % 256]) + part[2:]
+        else:
+            file.parts[i] = self.among(part[:-1], part + b'\0', part[:-8], part + bytes(8), part[:2])
+        file.place()
+
+    def twice(self, file):
+        """A participant of two parts, now and then one above 63."""
+        if len(file.parts) < 2 or self.likely(0.2):
+            extra = File(0, [(self.among(64, 255, 7), [1, 0, 0, 0, 0])])
+            file.parts.insert(self.rng.randint(0, len(file.parts)), extra.parts[0])
+            file.count = len(file.parts)
+            file.place()
+        i, j = sorted(self.rng.sample(range(len(file.parts)), 2))
+        p = b'\x40' if self.likely(0.15) else file.parts[i][:1]
+        file.parts[i], file.parts[j] = p + file.parts[i][1:], p + file.parts[j][1:]
+
+    def whole_parts(self):
+        """Parts for all 64, of 5 to 14 rows."""
+        parts = []
+        for p in self.rng.sample(range(64), 64):
+            e = self.total(p, self.book.people[p])
+            parts.append((p, [max(min(e, MOST), -MOST)] + [0] * self.among(4, 4, 4, 4, 5, 6, 8, 13)))
+        return parts
+
+    def scene_everyone(self):
+        """A batch of 64 parts, before it now and then one that is refused for the last of them."""
+        parts, m = self.whole_parts(), self.check_month()
+        data = File(m, parts).bytes()
+        less = File(m, [(p, [1, 0, 0, 0, 0]) for p, _ in parts[:-1]] + [(parts[-1][0], [])]).bytes()
+        if self.likely(0.6) and len(less) + len(data) <= MOST_BATCH - self.batches:
+            self.enter(less, parts)
+        self.everyone = True
+        self.enter(data, parts)
+
+    def enter(self, data, parts):
+        """Enters a file, if there is room for it, and looks at what it left."""
+        if len(data) > MOST_BATCH - self.batches:
+            return
+        refused = self.batch(data)[0] == 10
+        if not parts:
+            return
+        p = self.rng.choice(parts)[0]
+        if self.likely(0.5 if refused else 0.35):
+            self.statement(parts[0][0] if refused else p)
+        if self.likely(0.35):
+            self.count()
+        if in_annual_days(self.t) and self.likely(0.7):
+            self.annual(p)
+        elif p in self.book.people and self.likely(0.12):
+            self.scene_late(p)
+
+    def scene_batch(self):
+        """A month's file: as it should be, with a settlement that is refused, with something wrong, or one of before."""
+        if len(self.book.people) == 64 and not self.everyone and self.likely(0.8):
+            return self.scene_everyone()
+        if not self.book.people:
+            self.scene_admit()
+        style, m, parts = self.rng.random(), self.batch_month(), self.parts()
+        if style > 0.74:
+            m, parts = self.refused_parts(m, parts)
+        file = File(m, parts)
+        if 0.42 < style < 0.74 or self.likely(0.03):
+            self.damage(file)
+            if self.likely(0.25):
+                self.damage(file)
+        data = file.bytes()
+        if style < 0.07 and self.files:
+            data, parts = self.rng.choice(list(self.files)[-3:]), []
+        elif style < 0.09:
+            data, parts = File(m, [(p, []) for p in range(self.among(64, 65, 65))]).bytes(), []
+        if len(data) <= self.room():
+            self.enter(data, parts)
+        return None
+
     def scene_ask(self):
         if self.likely(0.25):
             self.count()
@@ -1183,17 +1664,17 @@ class Maker(Recorder):
             self.statement(self.anyone(0.03))
 
     SCENES = ('admit', 'pay', 'lodge', 'letter', 'release', 'limit', 'check', 'even', 'rise', 'late', 'months', 'wrong_settle', 'turn', 'annual',
-              'summer', 'october', 'advance', 'wrong', 'ask')
+              'summer', 'october', 'advance', 'wrong', 'ask', 'batch')
     WEIGHTS = {
-        'mixed': (2, 5, 4, 3, 5, 4, 7, 4, 3, 5, 4, 2, 2, 3, 1, 2, 9, 6, 6),
-        'annual': (2, 4, 3, 2, 4, 4, 4, 2, 1, 3, 3, 1, 1, 12, 4, 5, 6, 3, 4),
-        'autumn': (3, 4, 3, 3, 4, 4, 5, 3, 2, 4, 3, 1, 3, 3, 1, 9, 9, 3, 5),
-        'checks': (2, 5, 2, 1, 3, 2, 10, 7, 7, 7, 4, 3, 3, 1, 2, 1, 6, 3, 4),
-        'guarantees': (2, 5, 8, 8, 9, 9, 2, 1, 1, 3, 1, 1, 1, 2, 1, 2, 7, 4, 5),
-        'refusals': (2, 3, 3, 2, 4, 2, 3, 1, 3, 2, 5, 6, 1, 2, 1, 1, 6, 18, 5),
-        'crowd': (26, 4, 3, 1, 3, 3, 5, 2, 2, 2, 3, 1, 1, 4, 1, 2, 6, 4, 6),
-        'end': (4, 5, 5, 3, 5, 4, 7, 4, 5, 3, 3, 2, 1, 2, 1, 1, 6, 4, 5),
-        'begin': (3, 5, 4, 3, 5, 3, 5, 3, 2, 4, 5, 2, 5, 4, 2, 3, 9, 4, 5),
+        'mixed': (2, 5, 4, 3, 5, 4, 7, 4, 3, 5, 4, 2, 2, 3, 1, 2, 9, 6, 6, 8),
+        'annual': (2, 4, 3, 2, 4, 4, 4, 2, 1, 3, 3, 1, 1, 12, 4, 5, 6, 3, 4, 8),
+        'autumn': (3, 4, 3, 3, 4, 4, 5, 3, 2, 4, 3, 1, 3, 3, 1, 9, 9, 3, 5, 6),
+        'checks': (2, 5, 2, 1, 3, 2, 10, 7, 7, 7, 4, 3, 3, 1, 2, 1, 6, 3, 4, 8),
+        'guarantees': (2, 5, 8, 8, 9, 9, 2, 1, 1, 3, 1, 1, 1, 2, 1, 2, 7, 4, 5, 5),
+        'refusals': (2, 3, 3, 2, 4, 2, 3, 1, 3, 2, 5, 6, 1, 2, 1, 1, 6, 18, 5, 10),
+        'crowd': (26, 4, 3, 1, 3, 3, 5, 2, 2, 2, 3, 1, 1, 4, 1, 2, 6, 4, 6, 9),
+        'end': (4, 5, 5, 3, 5, 4, 7, 4, 5, 3, 3, 2, 1, 2, 1, 1, 6, 4, 5, 7),
+        'begin': (3, 5, 4, 3, 5, 3, 5, 3, 2, 4, 5, 2, 5, 4, 2, 3, 9, 4, 5, 7),
     }
 
     def make(self):
@@ -1256,12 +1737,12 @@ def main():
             os.remove(os.path.join(data, name))
     width = max(3, len(str(words.histories - 1)))
     kinds, refusals, pairs, corners = (collections.Counter() for _ in range(4))
-    calls = size = largest = most_calls = most_figures = most_days = 0
+    calls = size = largest = most_calls = most_figures = most_batch = most_days = 0
     with open(os.path.join(words.out, 'stdout'), 'w') as answers:
         for i in range(words.histories):
             made = make(words.seed, i)
             text = made.text()
-            assert len(text) < MOST_BYTES and len(made.lines) < MOST_CALLS and made.figures < MOST_FIGURES
+            assert len(text) < MOST_BYTES and len(made.lines) < MOST_CALLS and made.figures < MOST_FIGURES and made.batches <= MOST_BATCH
             with open(os.path.join(data, f'h{i:0{width}}'), 'w') as file:
                 file.write(text)
             answers.write(read(text))
@@ -1270,18 +1751,20 @@ def main():
             calls, size = calls + len(made.lines), size + len(text)
             largest, most_calls = max(largest, len(text)), max(most_calls, len(made.lines))
             most_figures, most_days = max(most_figures, made.figures), max(most_days, made.t - made.start)
+            most_batch = max(most_batch, made.batches)
     print(f'{words.histories} histories of seed {words.seed}: {calls} calls, {size} bytes, {os.path.getsize(answers.name)} bytes of answers, '
           f'{time.time() - began:.0f} s')
-    print(f'largest: {largest} bytes, {most_calls} calls, {most_figures} figures, {most_days} days opened')
+    print(f'largest: {largest} bytes, {most_calls} calls, {most_figures} figures, {most_batch} bytes of batches, {most_days} days opened')
     print('answers: ' + ', '.join(f'{name} {kinds[kind]}' for kind, name in ANSWERS.items()))
-    print('refusals: ' + ', '.join(f'{n}: {refusals[n]}' for n in range(1, 18)))
+    numbers = [*range(1, 18), 20, 21, 22]
+    print('refusals: ' + ', '.join(f'{n}: {refusals[n]}' for n in numbers))
     print('first cause + another that held: ' + ', '.join(f'{name} {a}+{b}: {pairs[name, a, b]}' for name, a, b in sorted(pairs)))
     print('corners:')
     for corner in CORNERS:
         print(f'  {corners[corner]:6} {corner}')
     unknown = set(corners) - set(CORNERS)
     assert not unknown, unknown
-    missing = [corner for corner in CORNERS if not corners[corner]] + [n for n in range(1, 18) if not refusals[n]]
+    missing = [corner for corner in CORNERS if not corners[corner]] + [n for n in numbers if not refusals[n]]
     print(f'{len(CORNERS)} corners, {len(missing)} not met')
 
 

@@ -3,11 +3,13 @@
     python3 reference/ledger.py [--bail] [--end] < CALLS                the filter
     python3 reference/ledger.py [--bail] [--end] --keep FILE < CALLS    keeps the book in the journal FILE
     python3 reference/ledger.py [--bail] [--end] --read FILE < CALLS    answers questions to the journal FILE
+    python3 reference/ledger.py --load BATCH < CALLS                    the filter, and then a batch that is a file
+    python3 reference/ledger.py --load BATCH --keep FILE                enters a batch that is a file behind the journal FILE
     python3 reference/ledger.py --check                                 paper 01's starred figures, as calls and their answers
 
 A line is read to a tuple, the call's name first and its arguments after it, numbers as numbers; a settlement's last argument is the list of its
-figures, and a special guarantee's arguments are its seven lists. The book is reading.py's; the special guarantee stands here. What the program
-does with the system (locks, forced writes, what fails) is not here: reference/ledger_cases.py tries that.
+figures, a special guarantee's arguments are its seven lists, and a batch's is its bytes. The book is reading.py's; the special guarantee stands
+here. What the program does with the system (locks, forced writes, what fails) is not here: reference/ledger_cases.py tries that.
 """
 import datetime
 import os
@@ -19,7 +21,8 @@ sys.dont_write_bytecode = True
 import reading
 
 LONGEST = 65535                                     # bytes of a line without its newline
-DROPPED = 8191                                      # bytes behind a journal's last newline that are dropped at most
+LOADED = 32764                                      # bytes of a file that is entered as a batch, at most
+DROPPED = 20479                                     # bytes behind a journal's last newline that are dropped at most
 MARK = b'\xef\xbb\xbf'                              # a byte order mark, passed over at the start of an input
 QUESTIONS = ('statement', 'calls', 'special', 'report')
 NATURAL, DAY, SIGNED = 2 ** 64 - 1, 2 ** 32 - 1, 2 ** 63 - 1
@@ -27,6 +30,7 @@ ROLES = ('supplier', 'self-supplied', 'trader', 'producer', 'res-aggregator', 'd
 WORD = re.compile(rb'[^ \t\r]+')                    # blanks are spaces, tabs and carriage returns
 CONTROL = re.compile(rb'[\x00-\x08\x0a-\x0c\x0e-\x1f\x7f]')
 DIGITS = re.compile(rb'[0-9]+')
+HEXADECIMAL = re.compile(rb'(?:[0-9A-Fa-f]{2})+')
 DATE = re.compile(rb'([0-9]{4})-([0-9]{2})-([0-9]{2})')
 MONTH = re.compile(rb'([0-9]{4})-([0-9]{2})')
 
@@ -108,12 +112,19 @@ def kind(word):
     return word.decode()
 
 
+def file(word):
+    """The bytes of a batch."""
+    if not HEXADECIMAL.fullmatch(word):
+        raise Fault('not hexadecimal digits, two for each byte')
+    return bytes.fromhex(word.decode())
+
+
 # ---- a line
 
-# The arguments of the calls that have a fixed number of words; a lodging's go on after `cash` or `letter`.
+# The arguments of the calls that have a fixed number of words; a lodging's go on after `cash` or `letter`. A batch's word may be missing.
 ARGUMENTS = {'fresh': (day,), 'admit': (natural, role), 'lodge': (natural, natural, kind), 'release': (natural, natural, natural),
              'settle': (natural, month), 'annual': (natural,), 'advance': (day, natural), 'statement': (natural,), 'calls': (), 'special': (),
-             'report': ()}
+             'report': (), 'batch': ()}
 LODGED = {'cash': (natural,), 'letter': (natural, day, day)}
 
 
@@ -164,6 +175,8 @@ def call_of(line):
         call.append(figures)
     elif name == 'special':
         call += [words.numbers(due) for due in (signed, signed, mark, signed, signed, signed, signed)]
+    elif name == 'batch':
+        call.append(words.take(file) if words.more() else b'')
     if words.more():
         raise Fault('too many words')
     return tuple(call)
@@ -173,7 +186,9 @@ def numeric(call):
     """The line of a call in its numeric form."""
     words = []
     for argument in call:
-        if not isinstance(argument, list):
+        if isinstance(argument, bytes):
+            words.append(argument.hex())
+        elif not isinstance(argument, list):
             words.append(argument)
         else:
             words += argument if call[0] == 'settle' else [len(argument)] + argument
@@ -249,7 +264,7 @@ class Ledger:
             return self.report()
         found, *numbers = getattr(book, 'calls_made' if name == 'calls' else name)(*args)
         word, count = (('refused', 1), ('done', 0), ('called', 3), ('covered', 1), ('recorded', 1), ('annual', 2), ('opened', 1),
-                       ('statement', 5), ('calls', 1))[found]
+                       ('statement', 5), ('calls', 1), ('batch', 1), ('refused', 2))[found]
         return ' '.join([word] + [str(number) for number in numbers[:count]])
 
     def report(self):
@@ -417,6 +432,13 @@ def ended(to):
     return b'' if to.stopped else f'end {to.line} {to.accepted}\n'.encode()
 
 
+def load(to, data):
+    """The answer to a file that is entered as a batch, as bytes. In the kept way its line is kept like any other."""
+    if len(data) > LOADED:
+        raise Stop('too long for a batch')
+    return to.made(('batch', data)).encode() + b'\n'
+
+
 def run(to, end):
     """Answers standard input: every complete line that was read before more is waited for."""
     rest = []                # pieces of a line whose newline has not come
@@ -524,16 +546,24 @@ def main(words):
         return check()
     bail, end = '--bail' in words, '--end' in words
     words = [word for word in words if word not in ('--bail', '--end')]
+    batch = words[1] if len(words) > 1 and words[0] == '--load' else None
+    words = words if batch is None else words[2:]
+    name = words[-1] if words else batch
     try:
         to = book_of(words)
-        if to is None:
-            print('use: ledger.py [--bail] [--end] [--keep FILE | --read FILE], or ledger.py --check', file=sys.stderr)
+        if to is None or batch is not None and (bail or end or isinstance(to, Read)):
+            print('use: ledger.py [--bail] [--end] [--keep FILE | --read FILE], ledger.py --load BATCH [--keep FILE], or ledger.py --check',
+                  file=sys.stderr)
             return 2
         to.begin(bail)
-        run(to, end)
+        if batch is None or not words:
+            run(to, end)
+        if batch is not None:
+            name = batch
+            put(load(to, contents(batch)))
         return 0
     except Stop as stop:
-        print(f'ledger: {words[1]}: {stop}', file=sys.stderr)
+        print(f'ledger: {name}: {stop}', file=sys.stderr)
         return 1
 
 

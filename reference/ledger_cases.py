@@ -115,6 +115,10 @@ admit 1 1
 lodge 0 1 cash 500000
 release 0 1 10
 settle 0 2020-10 1 2 3 4 5 6
+batch 0b0001000C0000002A00000001050000000000000000000000000000000000000000000000000000000000000000000000000000007F
+batch 0b0001000c0000002a0000000105ff000000000000000000000000000000000000000000000000000000000000000000000000000000
+batch 0a0001000C0000002A0000000105fF000000000000000000000000000000000000000000000000000000000000000000000000000000
+batch 0b000
 special 0 0 0 0 0 0 0
 advance 2021-02-12 100
 annual 0
@@ -132,6 +136,21 @@ def joined(lines):
 def settled(numbers):
     """Changes that are all accepted, each with a line and an answer of its own."""
     return joined(b'settle 0 2020-10 %d 0 0 0 0' % n for n in numbers)
+
+
+def month_file(month, *parts):
+    """The bytes of a batch: participants, each with its figures."""
+    data = [p.to_bytes(1, 'little') + len(figures).to_bytes(1, 'little') + b''.join(x.to_bytes(8, 'little', signed=True) for x in figures)
+            for p, figures in parts]
+    numbers, at = [], 4 + 8 * len(parts)
+    for part in data:
+        numbers += [at, len(part)]
+        at += len(part)
+    return month.to_bytes(2, 'little') + len(parts).to_bytes(2, 'little') + b''.join(n.to_bytes(4, 'little') for n in numbers) + b''.join(data)
+
+
+def batch_line(data):
+    return b'batch ' + data.hex().encode() + b'\n'
 
 
 def many(count):
@@ -574,6 +593,34 @@ def kept_changes(place):
 
 
 @case
+def batch_lines(place):
+    """Accepted batches are kept in small digits, the largest too, refused ones are not, and the next run goes on from there."""
+    some = month_file(11, (0, [700, 0, 0, 0, 0]), (1, [-5] * 16))
+    less = month_file(11, (1, [900, 0, 0, 0, 0]), (2, [1, 0, 0, 0, 0]))
+    data = b'fresh 2021-02-01\nadmit 0 3\nadmit 1 4\n' + batch_line(some).upper().replace(b'BATCH', b'batch') + batch_line(less) + b'calls\n'
+    keeps(place, data + b'batch\nbatch 0\nbatch 00 00\n')
+    holds('the line is not there', place.got().endswith(batch_line(some)), place.got())
+    keeps(place, b'calls\nadmit 2 5\n' + batch_line(less) + b'calls\nadvance 2021-02-12 20\nreport\n', journal=place.got())
+    keeps(place, b'report\n', journal=place.got())
+    large = batch_line(month_file(11, *((p, [p, -1] * 8) for p in range(64))))
+    data = joined([b'fresh 2021-02-01'] + [b'admit %d 3' % p for p in range(64)]) + large * 5 + b'calls\nreport\n'
+    for words in ((), ('--batch',)):
+        keeps(place, data, *words, journal=b'')
+        keeps(place, large + b'calls\n', *words, journal=place.got())
+    for size in (65528, 65530):
+        keeps(place, b'admit 0 0\nbatch ' + b'0' * size + b'\ncalls\n', journal=b'')
+
+
+@case
+def journal_with_a_refused_batch(place):
+    """A batch in a journal that is refused or no call stops the ledger with nothing changed."""
+    for line, said in ((b'batch', 'refused 20 0'), (b'batch 0', 'error 2 not hexadecimal digits, two for each byte'),
+                       (batch_line(month_file(11, (0, [1] * 5)))[:-1], 'refused 12 0'), (b'batch 00 00', 'error 2 too many words')):
+        place.put(b'admit 0 3\n' + line + b'\nadmit 1 3\n')
+        refuses(place, place.path, texts=[f'ledger: {place.path}: line 2: {said}\n'.encode()])
+
+
+@case
 def fresh_behind_questions(place):
     """`fresh` is accepted until the first change, in this run or an earlier one."""
     keeps(place, b'calls\nreport\nfresh 29220\nfresh 2021-01-01\nfresh 7\nreport\n')
@@ -618,7 +665,7 @@ def relative_name(place):
 def torn_journal(place):
     """A short rest behind complete lines is cut off, and what it was is said."""
     journal = due(CALLS)[1]
-    for rest in (b'a', b'lodge 0 0 cash 777', b'admit 5 1', b'\x00\x1f\x7f\xff~ \t', b' ', b'#', b'\r', b'x' * 4096, b'y' * 8191):
+    for rest in (b'a', b'lodge 0 0 cash 777', b'admit 5 1', b'\x00\x1f\x7f\xff~ \t', b' ', b'#', b'\r', b'x' * 4096, b'y' * ledger.DROPPED):
         place.put(journal + rest)
         out, said = place.keep(b'report\nadmit 5 1\n')
         answers, left = due(b'report\nadmit 5 1\n', journal)
@@ -630,8 +677,9 @@ def torn_journal(place):
 
 @case
 def rest_that_is_not_dropped(place):
-    """A rest with no complete line before it, or of 8,192 bytes and more, stops the ledger with nothing changed."""
-    for journal, rest in ((b'', b'admit 0 0'), (b'', b'a'), (b'', b'x' * 200000), (b'admit 0 0\n', b'x' * 8192), (b'admit 0 0\n', b'y' * 65536),
+    """A rest with no complete line before it, or of more bytes than are dropped, stops the ledger with nothing changed."""
+    more = ledger.DROPPED + 1
+    for journal, rest in ((b'', b'admit 0 0'), (b'', b'a'), (b'', b'x' * 200000), (b'admit 0 0\n', b'x' * more), (b'admit 0 0\n', b'y' * 65536),
                           (b'admit 0 0\nadmit 1 0\n', b'z' * 200000), (b'', ledger.MARK + b'admit 0 0')):
         place.put(journal + rest)
         refuses(place, place.path, texts=[f'ledger: {place.path}: line {journal.count(10) + 1}: '.encode()])
@@ -1342,12 +1390,12 @@ def read_while_it_is_kept(place):
 @case
 def read_a_torn_journal(place):
     """--read passes over a rest behind the last newline and leaves it; what is no rest of a kept line stops it."""
-    for rest in (b'a', b'admit 1 1', b'x' * 8191):
+    for rest in (b'a', b'admit 1 1', b'x' * ledger.DROPPED):
         place.put(b'admit 0 0\n' + rest)
         before = snapshot(place.folder)
         same('the answers', place.run('--read', place.path, data=b'report\n')[0], due(b'report\n', b'admit 0 0\n')[0])
         same('the files', snapshot(place.folder), before)
-    for journal in (b'admit 0 0\n' + b'x' * 8192, b'admit 0 0\n' + b'x' * 200000, b'no journal'):
+    for journal in (b'admit 0 0\n' + b'x' * (ledger.DROPPED + 1), b'admit 0 0\n' + b'x' * 200000, b'no journal'):
         place.put(journal)
         refuses(place, '--read', place.path, texts=[f'ledger: {place.path}: line {journal.count(10) + 1}: '.encode()])
 
@@ -1386,7 +1434,7 @@ def usage_asked_for(place):
     for word in ('--help', '-h'):
         out, said = place.run(word, data=b'admit 0 0\n')
         same('on standard error', said, b'')
-        for text in (b'ledger', b'--bail', b'--end', b'--batch', b'--read', b'JOURNAL'):
+        for text in (b'ledger', b'--bail', b'--end', b'--batch', b'--read', b'--load', b'JOURNAL'):
             holds(f'{word}: no {text} in the usage', text in out, out)
     out, said = place.run('--version', data=b'admit 0 0\n')
     holds('the version', re.fullmatch(rb'ledger [0-9]+(\.[0-9]+)+\n', out), out)
@@ -1404,6 +1452,120 @@ def usage_after_a_mistake(place):
         same(f'{words[-2:]}: the answers', out, b'')
         same(f'{words[-2:]}: the files', snapshot(place.folder), before)
         holds(f'{words[-2:]}: no usage on standard error', b'JOURNAL' in said, said)
+
+
+# ---- a batch that is a file
+
+LOAD_BOOK = b'fresh 397\nadmit 0 3\nadmit 1 4\nlodge 0 0 cash 600\n'         # 1 February 2021, month 13
+GOOD_FILE = month_file(11, (1, [5, 0, 0, 0, 0]), (0, [700, 0, 0, 0, 20]))
+BAD_FILES = (month_file(11, (1, [5, 0, 0, 0, 0]), (2, [1] * 5)), month_file(12, (1, [5] * 5)), month_file(11, (0, [1] * 5), (0, [2] * 5)),
+             GOOD_FILE + b'\0', GOOD_FILE[:-1], GOOD_FILE[:19], b'', b'\n', b'batch 00\n', bytes(ledger.LOADED - 1), bytes(ledger.LOADED))
+
+
+def loads(place, data, journal=LOAD_BOOK, words=None):
+    """Loads a file behind a journal: its answer alone, its line in the journal if it is accepted, and no lock is left."""
+    place.put(journal)
+    place.put(data, 'month.batch')
+    model = Model(journal)
+    answer = ledger.load(model, data)
+    words = words or (place.path, '--load', place.at('month.batch'))
+    same('the answer', place.run(*words, data=b'admit 9 0\nreport\n'), (answer, b''))
+    same('the journal', place.got(), journal + model.appended())
+    same('the files', place.names(), ['book.journal', 'month.batch'])
+
+
+@case
+def load(place):
+    """--load enters a file as one batch behind the journal and answers it; standard input isn't read, and the next run goes on from there."""
+    loads(place, GOOD_FILE)
+    holds('it is not kept', place.got().endswith(batch_line(GOOD_FILE)), place.got())
+    keeps(place, b'calls\nstatement 0\nstatement 1\nadvance 408 20\nreport\n', journal=place.got())
+    loads(place, GOOD_FILE, words=('--load', place.at('month.batch'), place.path))
+    journal = joined([b'fresh 397'] + [b'admit %d 3' % p for p in range(64)])
+    loads(place, month_file(11, *((p, [p, -1] * 8) for p in range(64))), journal)
+    holds('the largest is not kept', place.got().count(b'\nbatch ') == 1, place.got())
+
+
+@case
+def load_a_refused_file(place):
+    """A file that is refused is answered with the number and the index, and leaves the journal as it is; an empty one too."""
+    for data in BAD_FILES:
+        loads(place, data)
+        same('the journal', place.got(), LOAD_BOOK)
+
+
+@case
+def load_what_is_no_file(place):
+    """A file that is absent, a directory, or too long for a batch is named in a message: nothing is answered, nothing is made or changed."""
+    place.put(LOAD_BOOK)
+    os.mkdir(place.at('inner'))
+    refuses(place, place.path, '--load', place.at('absent'), texts=[place.at('absent').encode(), b'No such file or directory'])
+    refuses(place, place.path, '--load', place.at('inner'), texts=[place.at('inner').encode()])
+    refuses(place, '--load', place.at('absent'), data=b'', texts=[place.at('absent').encode(), b'No such file or directory'])
+    for size in (ledger.LOADED + 1, 65536, 200000):
+        place.put(GOOD_FILE.ljust(size, b'\0'), 'long')
+        refuses(place, place.path, '--load', place.at('long'), texts=[place.at('long').encode()])
+        refuses(place, '--load', place.at('long'), data=b'', texts=[place.at('long').encode()])
+
+
+@case
+def load_as_a_filter(place):
+    """With no journal --load enters the file behind standard input, whose lines are answered to its end; nothing is made."""
+    for data in (GOOD_FILE,) + BAD_FILES:
+        for calls in (LOAD_BOOK, b'', LOAD_BOOK + b'admit 2 5\nfrob', CALLS):
+            place.put(data, 'month.batch')
+            book = ledger.Filter()
+            due_answers = ledger.answers(calls, book) + ledger.load(book, data)
+            same('the answers', place.run('--load', place.at('month.batch'), data=calls), (due_answers, b''))
+            same('the files', place.names(), ['month.batch'])
+
+
+@case
+def load_that_can_not_be_kept(place):
+    """A loaded file whose line can't be appended or forced to disk is not answered, and the journal is as it was."""
+    place.put(GOOD_FILE, 'month.batch')
+    for calls in (APPEND, FORCE):
+        place.put(LOAD_BOOK)
+        out, said = place.run(place.path, '--load', place.at('month.batch'), before=fault(place.path, (calls, 'EIO', 1)))
+        same('the answers', out, b'')
+        same('the journal', place.got(), LOAD_BOOK)
+        holds('no message on standard error', said.startswith(b'ledger: ') and place.path.encode() in said, said)
+        same('the lock that is left', place.got('book.journal.lock'), None)
+
+
+@case
+def load_of_a_held_journal(place):
+    """--load on a journal that another ledger keeps names that one and changes nothing; a journal that does not replay stops it too."""
+    place.put(GOOD_FILE, 'month.batch')
+    model = Model()
+    with place.talk() as first:
+        first.ask(LOAD_BOOK, model)
+        said = refuses(place, place.path, '--load', place.at('month.batch'))
+        same('on standard error', said, f'ledger: {place.path}: kept by process {first.process.pid}, see {place.lock}\n'.encode())
+        same('the end of the first', first.end(), (b'', b''))
+    place.put(LOAD_BOOK + b'admit 0 3\n')
+    refuses(place, place.path, '--load', place.at('month.batch'), texts=[f'ledger: {place.path}: line 5: refused 3\n'.encode()])
+
+
+@case
+def load_usage(place):
+    """--load without a file, or with --read, gives the usage on standard error, and does nothing else."""
+    place.put(LOAD_BOOK)
+    place.put(GOOD_FILE, 'month.batch')
+    file = place.at('month.batch')
+    for words in (('--load',), (place.path, '--load'), ('--read', place.path, '--load', file), ('--load', file, '--read', place.path),
+                  (place.path, place.at('b'), '--load', file), ('--load', file, '--frob')):
+        said = refuses_usage(place, words)
+        holds(f'{words}: no usage on standard error', b'JOURNAL' in said, said)
+
+
+def refuses_usage(place, words):
+    """A run whose words are wrong: nothing answered, nothing made or changed. Gives what it said."""
+    before = snapshot(place.folder)
+    out, said = place.run(*words, data=b'admit 5 0\ncalls\n', cwd=place.folder)
+    same(f'{words}: the answers', out, b'')
+    same(f'{words}: the files', snapshot(place.folder), before)
+    return said
 
 
 # ---- all of them

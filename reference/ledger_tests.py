@@ -14,6 +14,7 @@ import io
 import os
 import random
 import re
+import subprocess
 import sys
 import tempfile
 
@@ -563,7 +564,124 @@ statement 63                            #= statement 16000000000000 0 1600000000
 statement 10                            #= statement 0 8000000000000 0 0 0
 statement 5                             #= statement 1 0 1 366 36600000000
 
+# ---- A month in one file, in hexadecimal digits: month, count, pairs of offset and length, parts; the least byte first.
+fresh 2022-03-01                        #= done | month 26: month 24 = 18 is checked
+admit 0 supplier                        #= done
+admit 1 trader                          #= done
+admit 2 producer                        #= done
+admit 63 demand-response                #= done
+lodge 0 0 cash 2000000                  #= done
+calls                                   #= calls 2
+batch {1800 0100  0c000000 2a000000  0005 ff9e240000000000 <4>}  #= batch 1 | 2,399,999: covered
+calls                                   #= calls 2
+batch {1800 0200  14000000 2a000000 3e000000 2a000000  0005 009f240000000000 <4> 0205 0500000000000000 <4>}  #= batch 2
+calls                                   #= calls 4 | 2,400,000 is 20% above the cover, and the producer has none
+batch {1800 0100  0C000000 2A000000  0005 FF9E240000000000 <4>}  #= batch 1 | capital digits; the total is replaced
+batch {1800 0100  0c000000 2A000000  3F05 F1fFfFFFffffFFff <4>}  #= batch 1 | both; -15 is covered
+batch {1700 0300  1c000000 2a000000 46000000 2a000000 70000000 2a000000  3f05 0100000000000000 <4> 0105 <5> 0005 <5>}  #= batch 3 | recorded
+batch {0c00 0100  0c000000 82000000  0110 00f05a2b17ffffff 0010a5d4e8000000 <14 0100000000000000>}  #= batch 1 | 16 rows, the bounds
+calls                                   #= calls 4
+settle 0 2022-01 2400000 0 0 0 0        #= covered 2400000 | not above the open call that the batch made
+# Refusal 20: too short for its pairs, or a count outside 1 to 64.
+batch                                   #= refused 20 0 | an empty file
+batch 18                                #= refused 20 0
+batch 180001                            #= refused 20 0
+batch 18000000                          #= refused 20 0 | a count of 0
+batch 18000100                          #= refused 20 0
+batch {1800 0100  0c000000 2a0000}      #= refused 20 0 | one byte short of its pair
+batch {1800 0001  0c000000 2a000000  0005 <5>}  #= refused 20 0 | a count of 256
+batch {1800 4000  <63> 00000000000000}  #= refused 20 0 | one byte short of 64 pairs
+batch {1800 4100  <65>}  #= refused 20 0 | a count of 65
+batch {1800 ffff  <65>}  #= refused 20 0
+# Refusal 21: the parts don't follow on.
+batch {1800 4000  <64>}  #= refused 21 0
+batch {1800 0100  0b000000 2a000000  0005 <5>}  #= refused 21 0
+batch {1800 0100  0d000000 2a000000  0005 <5>}  #= refused 21 0
+batch {1800 0100  0d000000 2a000000  00 0005 <5>}  #= refused 21 0 | a byte before the first part
+batch {1800 0100  0000000c 2a000000  0005 <5>}  #= refused 21 0 | the greatest byte first
+batch {1800 0200  14000000 2a000000 3d000000 2a000000  0005 <5> 0205 <5>}  #= refused 21 1
+batch {1800 0200  14000000 2a000000 3f000000 2a000000  0005 <5> 0205 <5>}  #= refused 21 1
+batch {1800 0200  15000000 2a000000 3f000000 2a000000  0005 <5> 0205 <5>}  #= refused 21 0
+batch {1800 0300  1c000000 2a000000 45000000 2a000000 70000000 2a000000  0005 <5> 0105 <5> 0205 <5>}  #= refused 21 1
+batch {1800 0100  0c000000 2a000000  0005 <5> 00}  #= refused 21 0 | a byte behind the end
+batch {1800 0200  14000000 2a000000 3e000000 2a000000  0005 <5> 0205 <5> 00}  #= refused 21 1
+batch {1800 0200  14000000 2a000000 3e000000 2a000000  0005 <5> 0205 <4> 00000000000000}  #= refused 21 1 | a byte is missing
+batch {1800 0200  14000000 2a000000 3e000000 29000000  0005 <5> 0205 <5>}  #= refused 21 1 | the last length
+batch {1800 0300  1c000000 2a010000 46010000 2a000000 70010000 2a000000  0005 <5> 0105 <5> 0205 <5>}  #= refused 21 2 | the first ends past the file
+batch {1800 0200  14000000 2a000080 3e000080 2a000080  0005 <5> 0205 <5>}  #= refused 21 1 | the end is right modulo 2^32
+batch {1800 0200  14000000 ecffffff 00000000 3e000000  0005 <5> 0205 <5>}  #= refused 21 1 | the offset is right modulo 2^32
+# Refusal 22: a wrong length, or a participant twice.
+batch {1800 0100  0c000000 00000000}    #= refused 22 0
+batch {1800 0100  0c000000 01000000  00}  #= refused 22 0
+batch {1800 0100  0c000000 29000000  0005 <4> 00000000000000}  #= refused 22 0
+batch {1800 0100  0c000000 2b000000  0005 <5> 00}  #= refused 22 0
+batch {1800 0100  0c000000 2a000000  0004 <5>}  #= refused 22 0
+batch {1800 0100  0c000000 2a000000  0006 <5>}  #= refused 22 0
+batch {1800 0200  14000000 2a000000 3e000000 2a000000  0205 <5> 0205 <5>}  #= refused 22 1 | a participant twice
+batch {1800 0300  1c000000 2a000000 46000000 2a000000 70000000 2a000000  0205 <5> 0105 <5> 0205 <5>}  #= refused 22 2
+batch {1800 0300  1c000000 2a000000 46000000 2a000000 71000000 2a000000  0004 <5> 0105 <5> 0205 <5>}  #= refused 21 2 | before 22 of an earlier pair
+batch {ffff 0200  14000000 2a000000 3e000000 2a000000  ff05 <5> ff05 <5>}  #= refused 22 1 | before 1 and 12
+# The settlements' own refusals, with the pair's index: the book is as before.
+batch {1800 0200  14000000 2a000000 3e000000 2a000000  0105 00f2052a01000000 <4> 4005 <5>}  #= refused 1 1 | the first part would call
+batch {1800 0200  14000000 2a000000 3e000000 2a000000  0105 00f2052a01000000 <4> 0305 <5>}  #= refused 2 1
+batch {1900 0200  14000000 2a000000 3e000000 2a000000  0105 00f2052a01000000 <4> 0205 <5>}  #= refused 12 0 | one month back
+batch {0b00 0100  0c000000 2a000000  0105 <5>}  #= refused 12 0 | fifteen
+batch {1801 0100  0c000000 2a000000  0105 <5>}  #= refused 12 0 | not month 24
+batch {ffff 0100  0c000000 02000000  0100}  #= refused 12 0 | before 10
+batch {1800 0100  0c000000 02000000  0100}  #= refused 10 0 | no rows
+batch {1800 0200  14000000 2a000000 3e000000 22000000  0105 00f2052a01000000 <4> 0204 <4>}  #= refused 10 1 | 4 rows
+batch {1800 0200  14000000 2a000000 3e000000 8a000000  0105 00f2052a01000000 <4> 0211 <17>}  #= refused 10 1 | 17 rows
+batch {1800 0100  0c000000 fa070000  00ff <255>}  #= refused 10 0 | 255 rows
+batch {1800 0200  14000000 2a000000 3e000000 2a000000  0105 00f2052a01000000 <4> 0205 0110a5d4e8000000 <4>}  #= refused 11 1 | 10^12 + 1
+batch {1800 0200  14000000 2a000000 3e000000 2a000000  0105 00f2052a01000000 <4> 0205 ffef5a2b17ffffff <4>}  #= refused 11 1 | -10^12 - 1
+batch {1800 0100  0c000000 2a000000  0205 <4> 0000000000000080}  #= refused 11 0 | -2^63
+batch {1800 0200  14000000 2a000000 3e000000 2a000000  4005 <5> 0305 <5>}  #= refused 1 0 | the first of two
+calls                                   #= calls 4
+settle 2 2022-01 6 0 0 0 0              #= called 6 6 800
+settle 2 2022-01 7 0 0 0 0              #= called 7 7 800
+settle 2 2022-01 8 0 0 0 0              #= called 8 8 800 | its fourth open call
+batch {1800 0200  14000000 2a000000 3e000000 2a000000  0105 00f2052a01000000 <4> 0205 0900000000000000 <4>}  #= refused 13 1
+batch {1800 0200  14000000 2a000000 3e000000 2a000000  0105 00f2052a01000000 <4> 0205 0800000000000000 <4>}  #= batch 2 | the first is called
+calls                                   #= calls 8
+advance 2022-03-12 100                  #= opened 11
+statement 0                             #= statement 2400000 2000000 400000 1 100000000
+statement 1                             #= statement 5000000000 0 5000000000 1 5000000000
+statement 2                             #= statement 8 0 8 1 100000000
+statement 63                            #= statement 0 0 0 0 0
+# The line of a batch: one word of hexadecimal digits, or none.
+batch 0                                 #= error not hexadecimal digits, two for each byte
+batch 180                               #= error not hexadecimal digits, two for each byte
+batch 18g0                              #= error not hexadecimal digits, two for each byte
+batch 18G0                              #= error not hexadecimal digits, two for each byte
+batch 0x18                              #= error not hexadecimal digits, two for each byte
+batch -18                               #= error not hexadecimal digits, two for each byte
+batch -1                                #= error not hexadecimal digits, two for each byte
+batch 1/                                #= error not hexadecimal digits, two for each byte | the byte before 0
+batch 1:                                #= error not hexadecimal digits, two for each byte | the byte after 9
+batch 1@                                #= error not hexadecimal digits, two for each byte | the byte before A
+batch `1                                #= error not hexadecimal digits, two for each byte | the byte before a
+batch \xff\xff                          #= error not hexadecimal digits, two for each byte
+batch 2022-01                           #= error not hexadecimal digits, two for each byte
+batch 1800 0100                         #= error too many words
+batch 18 x                              #= error too many words
+batch 1 2                               #= error not hexadecimal digits, two for each byte | the first fault from the left
+batch \x00                              #= error a control byte
+batch 18\x7f                            #= error a control byte
+Batch 18                                #= error no such call
+BATCH                                   #= error no such call
+batc 18                                 #= error no such call
+batches                                 #= error no such call
+batch18                                 #= error no such call
+\tbatch\t\r18 \r                        #= refused 20 0
+batch 0aAfF9Cb                          #= refused 20 0 | a count of 52,217
+calls                                   #= calls 8 | the book is as before
+batch#18
+batch 18#00
+
 # ---- Cut, doubled and joined lines.
+fresh 2021-03-01                        #= done
+admit 3 producer                        #= done
+lodge 3 0 cash 9                        #= done
 admit 6 0admit 7 0                      #= error not a role
 admit 6 0 admit 7 0                     #= error too many words
 admit admit 6 0                         #= error not a number
@@ -599,6 +717,7 @@ KEPT_JOURNAL = br'''\xef\xbb\xbf# The journal that is found: a byte order mark, 
 admit 0 supplier
 admit 01 trader#s
 admit 2 producer
+admit 6 res-aggregator
 lodge 0 0 cash 2000000                           # the minimum
 lodge 1 0 letter 1000000 2021-01-01 2021-06-30   # until the end of June
   advance 2021-02-01 1000
@@ -608,11 +727,12 @@ report
 calls
 special 3 126 4 0 3 3253 4048 4723 3 0 0 0 1 1000000 1 1000000 1 0 1 0
 lodge 0 1 cash 500000
+batch {0B00 0200 14000000 2A000000 3E000000 2A000000 0605 0500000000000000 <4> 0105 <5>}  # December 2020
 lodge\t2 0 cash 77'''
 
-KEPT_STDIN = br'''\xef\xbb\xbf# What was kept is there: three participants, 1 February 2021.
+KEPT_STDIN = br'''\xef\xbb\xbf# What was kept is there: four participants, 1 February 2021.
 report
-calls                                            #= calls 3 | two minimums and the settlement
+calls                                            #= calls 4 | two minimums, the settlement and the one of the batch
 statement 0                                      #= statement 2000000 2500000 0 0 0
 statement 2                                      #= statement 0 0 0 0 0 | the cut line was dropped
 fresh 2021-01-01                                 #= error fresh is not the first call
@@ -630,6 +750,16 @@ admit 4 res-aggregator # with a comment
 settle 4 2020-12 -00 -01 0001 00 0               #= covered 0
 settle 4 2020-11 1 2 3 4 5 6                     #= recorded 21
 settle 4 2020-12 1 2 3 4                         #= refused 10
+batch {0b00 0100 0c000000 2a000000 0405 0300000000000000 <4>}  #= batch 1 | called to 3
+batch {0B00 0200 14000000 2A000000 3E000000 2A000000 0605 0600000000000000 <4> 0405 FDFFFFFFFFFFFFFF <4>}  #= batch 2 | called to 6; a credit
+batch {0b00 0200 14000000 2a000000 3e000000 2a000000 0605 0700000000000000 <4> 0505 <5>}  #= refused 2 1 | not kept
+batch {0c00 0100 0c000000 2a000000 0605 <5>}  #= refused 12 0
+batch {0b00 0100 0c000000 2a000000 0604 <5>}  #= refused 22 0
+batch {0b00 0100 0c000000 2b000000 0605 <5>}  #= refused 21 0
+batch                                            #= refused 20 0
+batch 0b0                                        #= error not hexadecimal digits, two for each byte
+batch 0b 00                                      #= error too many words
+calls                                            #= calls 7
 special 3 0126 +4 0                              #= error not a number
 special 3 00126 04 -0 3 3253 4048 4723 3 0 00 0 1 1000000 1 01000000 1 0 1 0  #= special 500000
 special 0 0 0 0 0 0 0                            #= refused 18
@@ -646,10 +776,12 @@ cal                                              #= error no such call
 statement 3                                      #= statement 0 0 0 0 0
 advance 2021-02-12 1                             #= opened 1
 statement 3                                      #= statement 2000000 0 2000000 1 100000000
+statement 4                                      #= statement 3 0 3 1 100000000
+statement 6                                      #= statement 6 0 6 1 100000000
 statement 5                                      #= refused 2
 report
 \xef\xbb\xbfcalls                                #= error no such call | a mark stands only at the start
-calls                                            #= calls 4
+calls                                            #= calls 7
 lodge 1 7 cash 5                                 #= error line without newline, not taken'''
 
 
@@ -665,13 +797,15 @@ def monthly(month):
 
 def call_words(kind, args):
     """A call of histories.py as the words of a line, each with what is due there."""
-    names = ('admit', 'lodge', 'lodge', 'release', 'settle', 'annual', 'advance', 'statement', 'calls')
-    dues = ('nr', 'nncn', 'nncndd', 'nnn', 'nm' + 's' * len(args), 'n', 'dn', 'n', '')[kind]
+    names = ('admit', 'lodge', 'lodge', 'release', 'settle', 'annual', 'advance', 'statement', 'batch', 'calls')
+    dues = ('nr', 'nncn', 'nncndd', 'nnn', 'nm' + 's' * len(args), 'n', 'dn', 'n', 'h', '')[kind]
     args = list(args)
     if kind in (1, 2):
         args.insert(2, ('cash', 'letter')[kind - 1])
     elif kind == 4:
         args.pop(2)
+    elif kind == 8:
+        args = [bytes(args[1:]).hex()]
     return [('x', names[kind])] + list(zip(dues, args))
 
 
@@ -690,6 +824,8 @@ def written(rng, words):
             word = sign + '0' * rng.randint(1, 30) + digits
         elif due == 's' and word == 0 and rng.random() < 0.05:
             word = '-0'
+        elif due == 'h' and rng.random() < 0.3:
+            word = rng.choice((word.upper(), ''.join(rng.choice((digit, digit.upper())) for digit in word)))
         out.append(str(word))
     if rng.random() < 0.9:
         line = ' '.join(out)
@@ -765,7 +901,9 @@ def special_line(rng):
 SHORT = [b'lodge 0 0 cash 2000000', b'lodge 0 1 letter 500000 2022-03-01 2022-12-31', b'lodge 1 0 letter 1000000 700 29219', b'lodge 2 7 cash 5',
          b'release 0 0 1000000', b'release 1 0 1000000', b'release 2 7 5', b'settle 0 2022-01 2400000 0 0 0 -5', b'settle 1 24 1 2 3 4 5 6',
          b'settle 2 2021-12 900 0 0 0 0', b'settle 2 2022-07 900 0 0 0 0', b'annual 0', b'annual 2', b'advance 2022-03-12 3',
-         b'advance 2022-10-01 40', b'statement 0', b'statement 1', b'statement 2', b'calls', b'report', b'admit 3 trader', b'admit 63 5']
+         b'advance 2022-10-01 40', b'statement 0', b'statement 1', b'statement 2', b'calls', b'report', b'admit 3 trader', b'admit 63 5',
+         b'batch 180001000c0000002a0000000005' + b'00' * 40, b'batch 170001000C0000002A0000000205' + b'FF' * 40,
+         b'batch 18000200140000002a0000003e0000002a0000000005' + b'00' * 39 + b'7f0205' + b'01' + b'00' * 39]
 
 
 def random_lines():
@@ -793,12 +931,24 @@ def random_lines():
     return lines
 
 
-EXAMPLES = ('year', 'manual')
+EXAMPLES = ('year', 'manual', 'month')
 
 
 def example(name):
     with open(os.path.join(ROOT, 'examples', name + '.journal'), 'rb') as file:
         return file.read()
+
+
+def month_differs():
+    """What differs between examples/month.csv, the file that tools/make_batch makes of it, and the line in examples/month.journal."""
+    def made(*words):
+        words = [sys.executable, os.path.join(ROOT, 'tools', 'make_batch'), *words, '2021-01', os.path.join(ROOT, 'examples', 'month.csv')]
+        return subprocess.run(words, stdout=subprocess.PIPE, check=True).stdout
+
+    with open(os.path.join(ROOT, 'examples', 'month.batch'), 'rb') as file:
+        data = file.read()
+    wrong = ['month.batch is not what tools/make_batch makes of month.csv'] * (made() != data)
+    return wrong + ['month.journal has not the line of month.csv'] * (b'\n' + made('--hex')[:-1] + b'  #= batch 4\n' not in example('month'))
 
 
 def example_lines():
@@ -808,6 +958,19 @@ def example_lines():
         calls = [line.partition(b'#')[0].rstrip() for line in example(name).splitlines()]
         lines += [b'', f'# ---- The calls of examples/{name}.journal.'.encode()] + [line for line in calls if line]
     return lines
+
+
+def largest_batch():
+    """A batch for all 64 participants with 16 rows each, the largest that is accepted; and the same with the last part of an unknown one."""
+    lines = [b'', b'# ---- A batch of 64 parts with 16 rows.', b'fresh 2022-03-01'] + [b'admit %d producer' % p for p in range(63)]
+    data = histories.File(24, [(p, [p] * 16) for p in range(64)]).bytes()
+    assert len(data) == 4 + 8 * 64 + 64 * (2 + 8 * 16) == 8836
+    line = b'batch ' + data.hex().encode()
+    return lines + [line,                                           # refused 2 63
+                    b'calls #= calls 0', b'admit 63 producer #= done',
+                    line,                                           # batch 64
+                    b'calls #= calls 63', b'advance 801 11 #= opened 11', b'statement 0 #= statement 0 0 0 0 0',
+                    b'statement 63 #= statement 1008 0 1008 1 100000000']
 
 
 def long_lines():
@@ -822,14 +985,20 @@ def long_lines():
             b'calls' + b' ' * (most - 5) + b'x',                    # too long, though it would be no call
             b'calls #= calls 0',
             b'# too long, though a comment ' + b'. ' * most,
+            b'batch ' + b'0' * 65528,                               # refused 20 0
+            b'batch  ' + b'0' * 65528,                              # the same, at the largest length
+            b'batch ' + b'0' * 65530,                               # too long
             b'lodge 0 0 cash ' + b'0' * 4985 + b'100 #= done',
             b'statement 0 #= statement 0 100 0 0 0']
 
 
 def lines_of(text):
-    r"""The lines of a text above: \t, \r, \xHH and \\ are the bytes that they name, and <16 1> is sixteen words 1."""
+    r"""The lines of a text above: \t, \r, \xHH and \\ are the bytes that they name, <16 1> is sixteen words 1, and {18 00} is one word of the
+    digits between the braces, where <4> is four figures of 0."""
     text = text.strip(b'\n').decode('unicode_escape').encode('latin-1')
-    return re.sub(rb'<([0-9]+) ([0-9]+)>', lambda run: b' '.join([run[2]] * int(run[1])), text).split(b'\n')
+    text = re.sub(rb'<([0-9]+) ([0-9]+)>', lambda run: b' '.join([run[2]] * int(run[1])), text)
+    text = re.sub(rb'<([0-9]+)>', lambda run: b'00' * 8 * int(run[1]), text)
+    return re.sub(rb'\{([0-9A-Fa-f ]+)\}', lambda digits: digits[1].replace(b' ', b''), text).split(b'\n')
 
 
 def due_answers(lines, to):
@@ -839,7 +1008,7 @@ def due_answers(lines, to):
         answer = to.answer(line, n < len(lines))
         if answer is not None:
             out.append(answer)
-        if b'#= ' in line and len(line) < 1000:
+        if b'#= ' in line and len(line) < 10000:
             due = line.partition(b'#= ')[2].partition(b' | ')[0].strip().decode('latin-1')
             got = answer.replace(f'error {to.line} ', 'error ') if answer else 'no answer'
             if got != due:
@@ -870,11 +1039,12 @@ def write(folder, name, data):
 
 
 def main():
-    wrong = []
+    wrong = month_differs()
     for name in EXAMPLES:
         wrong += [f'{name}, {line}' for line in due_answers(example(name).splitlines(), ledger.Filter())[1]]
         write(ROOT, f'examples/{name}.expected', ledger.answers(example(name)))
-    lines = lines_of(BEFORE) + example_lines() + random_lines() + long_lines() + [b'', b'# ---- The last line has no newline.', b'statement 0']
+    lines = lines_of(BEFORE) + example_lines() + random_lines() + largest_batch() + long_lines()
+    lines += [b'', b'# ---- The last line has no newline.', b'statement 0']
     out, more = due_answers(lines, ledger.Filter())
     wrong += more
     stdin, stdout = b'\n'.join(lines), ''.join(answer + '\n' for answer in out).encode()
@@ -891,12 +1061,13 @@ def main():
     kinds = {}
     for answer in stdout.decode().splitlines():
         words = answer.split()
-        key = words[0] if words[0] not in ('refused', 'error') else answer if words[0] == 'refused' else ' '.join(words[2:])
+        at = ' at a pair' if len(words) == 3 else ''
+        key = words[0] if words[0] not in ('refused', 'error') else f'refused {words[1]}{at}' if words[0] == 'refused' else ' '.join(words[2:])
         kinds[key] = kinds.get(key, 0) + 1
-    due = [f'refused {n}' for n in range(1, 20)] + [
+    due = [f'refused {n}' for n in range(1, 20)] + [f'refused {n} at a pair' for n in (1, 2, 10, 11, 12, 13, 20, 21, 22)] + [
         'a control byte', 'no such call', 'too few words', 'too many words', 'not a number', 'not a day', 'not a month', 'not a role',
-        'neither cash nor letter', 'line too long',
-        'done', 'called', 'covered', 'recorded', 'annual', 'opened', 'statement', 'calls', 'special', 'report']
+        'neither cash nor letter', 'line too long', 'not hexadecimal digits, two for each byte',
+        'batch', 'done', 'called', 'covered', 'recorded', 'annual', 'opened', 'statement', 'calls', 'special', 'report']
     print(f'filter: {stdin.count(10) + 1} lines, {len(stdin)} bytes; {stdout.count(10)} lines of answers, {len(stdout)} bytes')
     print('answers: ' + ', '.join(f'{key}: {kinds.get(key, 0)}' for key in due))
     for line in wrong + more + [f'not met: {key}' for key in due if key not in kinds]:

@@ -1,10 +1,10 @@
 """Paper 01's reading of the history, in Python's standard library: the reference that the book's answers are compared with.
 
-Written from the section 'The reading of the history' and the table of causes alone. A participant's figures are read from its accepted calls,
-each with its arguments and the day it was made on, and from the days opened. Nothing is summed up in between: cover, firm amount, open calls,
-month totals and the next amount are worked out afresh from the calls whenever they are asked for. What is kept is the history itself and what
-the reading once gave and no later call can change: beside a settlement whether it called, beside an annual run its amount, beside an opened
-day its shortfall.
+Written from the section 'The reading of the history' and the table of causes alone, and for a batch from paper 02's ask 1. A participant's
+figures are read from its accepted calls, each with its arguments and the day it was made on, and from the days opened. Nothing is summed up in
+between: cover, firm amount, open calls, month totals and the next amount are worked out afresh from the calls whenever they are asked for. What
+is kept is the history itself and what the reading once gave and no later call can change: beside a settlement whether it called, beside an
+annual run its amount, beside an opened day its shortfall. An accepted batch is in the history as its settlements.
 """
 import datetime
 
@@ -14,6 +14,7 @@ MOST = 10 ** 12
 MINIMUM = {0: 2000000, 1: 2000000, 2: 1000000, 3: 0, 4: 0, 5: 0}
 DAY_MINIMUM = 100000000  # mills
 FREE_DAYS = 10
+MOST_PARTS = 64
 
 
 def date(day):
@@ -58,6 +59,39 @@ def firm_on(day, periods, calls):
     """The largest of the base and every called amount with R <= last free day < day; R and the base are those of the latest period by then."""
     r, base = [period for period in periods if period[0] <= day][-1]
     return max([base] + [amount for amount, last in calls if r <= last < day])
+
+
+# ---- a month in one file (paper 02, ask 1)
+
+def least_first(data):
+    """The number that bytes give, the least first."""
+    return int.from_bytes(data, 'little')
+
+
+def pairs_of(data):
+    """The pairs of offset and length; None where the file is too short for them, or their count isn't 1 to 64."""
+    count = least_first(data[2:4])
+    if len(data) < 4 or not 1 <= count <= MOST_PARTS or len(data) < 4 + 8 * count:
+        return None
+    return [(least_first(data[at:at + 4]), least_first(data[at + 4:at + 8])) for at in range(4, 4 + 8 * count, 8)]
+
+
+def not_following(pairs, size):
+    """The first pair that doesn't begin where it must: the first part behind the pairs, each next one where the last ended. If they all do, and
+    the last doesn't end with the file, the last pair. None where the parts follow on as said."""
+    begins = 4 + 8 * len(pairs)
+    for index, (offset, length) in enumerate(pairs):
+        if offset != begins:
+            return index
+        begins = offset + length
+    return None if begins == size else len(pairs) - 1
+
+
+def part_of(data):
+    """The participant and the figures that a part's bytes hold; None where their number isn't 2 + 8 x the row count."""
+    if len(data) < 2 or len(data) != 2 + 8 * data[1]:
+        return None
+    return data[0], [int.from_bytes(data[at:at + 8], 'little', signed=True) for at in range(2, len(data), 8)]
 
 
 class Participant:
@@ -184,6 +218,11 @@ class History:
     def refused(n):
         return (0, n, 0, 0, 0, 0)
 
+    @staticmethod
+    def refused_at(n, index):
+        """A refused batch: the number, and the index of the pair."""
+        return (10, n, index, 0, 0, 0)
+
     DONE = (1, 0, 0, 0, 0, 0)
 
     def unknown(self, p):
@@ -258,6 +297,33 @@ class History:
         if calls:
             return (2, e, e - d, t + FREE_DAYS, 0, 0)
         return (3 if who.check_due(t, m) else 4, e, 0, 0, 0, 0)
+
+    def batch(self, data):
+        """A month's file, as bytes. What is wrong with the file comes before any settlement: 20, then 21 of any pair, then 22 of any pair."""
+        pairs = pairs_of(data)
+        if pairs is None:
+            return self.refused_at(20, 0)
+        wrong = not_following(pairs, len(data))
+        if wrong is not None:
+            return self.refused_at(21, wrong)
+        parts = []
+        for index, (offset, length) in enumerate(pairs):
+            part = part_of(data[offset:offset + length])
+            if part is None or part[0] in [p for p, _ in parts]:
+                return self.refused_at(22, index)
+            parts.append(part)
+        return self.settle_all(least_first(data[:2]), parts)
+
+    def settle_all(self, m, parts):
+        """The settlements in pair order, all or none: with the first that is refused, those before it are taken out of the history again. No
+        participant stands twice, so that each has its settlement last."""
+        for index, (p, figures) in enumerate(parts):
+            answer = self.settle(p, m, figures)
+            if answer[0] == 0:
+                for q, _ in parts[:index]:
+                    self.people[q].acts.pop()
+                return self.refused_at(answer[1], index)
+        return (9, len(parts), 0, 0, 0, 0)
 
     def annual(self, p):
         no = self.unknown(p)

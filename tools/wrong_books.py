@@ -11,10 +11,31 @@ def letter(amount, first, last):
     return f'on 0 (lodge 0 (Letter {amount} (record {{ 0 = {first} }}) (record {{ 0 = {last} }})))'
 
 
+def loaded(month, *parts):
+    """A batch by its bytes: parts of a participant and a total, each of five figures with this total."""
+    numbers = [(month, 2), (len(parts), 2)]
+    for i in range(len(parts)):
+        numbers += [(4 + 8 * len(parts) + 42 * i, 4), (42, 4)]
+    for participant, total in parts:
+        numbers += [(participant, 1), (5, 1), (total, 8), (0, 8), (0, 8), (0, 8), (0, 8)]
+    bytes_of = [byte for number, size in numbers for byte in number.to_bytes(size, 'little')]
+    return 'batch ({} ∷ [])'.format(' ∷ '.join(map(str, bytes_of)))
+
+
 ACCOUNT = 'book/specs/Account.antt'
 OPENING, POSITION, SETTLE = 'file/specs/Opening.antt', 'file/specs/Position.antt', 'file/specs/Settle.antt'
 # An admission's call that becomes firm with nothing lodged.
 LATE = ['on 0 (admit 0)', 'advance 11 100', 'statement 0']
+
+# Two Producers.
+TWO = ['on 0 (admit 3)', 'on 1 (admit 3)']
+# What a refused call leaves, where a batch leaves what its parts before the refused one did.
+PARTLY = '''abbrev pub partly : Book → Call → Book
+partly b (on p a) = b
+partly b (advance day budget) = b
+partly b (statement p) = b
+partly b callsMade = b
+partly b (batch file) = afterParts b file (Rattle.book.specs.Call.firstRefused (partAnswer b file) (countIn file))'''
 
 
 def october(total):
@@ -140,6 +161,25 @@ MUTANTS = [
      [(ACCOUNT, 'daysToOpen b day budget = min budget (day - b .today .0)', 'daysToOpen b day budget = day - b .today .0')],
      0, ['advance 5 1'],
      [6, 5], [6, 1]),
+    # Batches.
+    ('a batch that leaves its last part unsettled',
+     [(ACCOUNT, 'afterParts b file (countIn file)', 'afterParts b file (countIn file - 1)')],
+     60, TWO + [loaded(0, (0, 100), (1, 200)), 'callsMade'],
+     [8, 1], [8, 2]),
+    ("a batch that settles every part by the first one's figures",
+     [(ACCOUNT, 'appliedOn (afterParts b file k) (participantAt file k) (partAct file k)',
+       'appliedOn (afterParts b file k) (participantAt file k) (partAct file 0)')],
+     60, TWO + [loaded(0, (0, 100), (1, 0)), 'callsMade'],
+     [8, 2], [8, 1]),
+    ('a batch whose refusals have indices from the last pair on',
+     [(ACCOUNT, 'batchSays (formOf file) (partAnswer b file)', 'batchSays (formOf file) (λ k. partAnswer b file (countIn file - 1 - k))')],
+     60, ['on 0 (admit 3)', loaded(0, (0, 100), (1, 200))],
+     [10, 2, 0], [10, 2, 1]),
+    ('a refused batch that keeps what was settled before the refusal',
+     [(ACCOUNT, 'unfoldable pub step : Book → Call → Book', f'{PARTLY}\n\nunfoldable pub step : Book → Call → Book'),
+      (ACCOUNT, 'step b c = cond (accepted (answer b c)) (applied b c) b', 'step b c = cond (accepted (answer b c)) (applied b c) (partly b c)')],
+     60, ['on 0 (admit 3)', loaded(0, (0, 100), (1, 200)), 'callsMade'],
+     [8, 1], [8, 0]),
     # What the account shares with the book that the readings make up (crates/book/specs/Kept.antt), but not with the readings.
     ('open calls kept behind the empty places',
      [('file/specs/Calls.antt', 'inPlaces calls = calls ++ replicate (4 - length calls) (callOf 0 0)',

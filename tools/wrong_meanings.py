@@ -12,6 +12,7 @@ FIGURES, MINIMUM = 'manual/specs/Figures.antt', 'manual/specs/Minimum.antt'
 LENGTHS, GUARANTEE, RANGES, RATIO = (f'special/specs/{name}.antt' for name in ('Causes', 'Guarantee', 'Ranges', 'Ratio'))
 DECISIONS, READ_CALLS, CHARGES = (f'book/specs/Reading/{name}.antt' for name in ('Decisions', 'Calls', 'Charges'))
 HOLDINGS, MONTHS = (f'book/specs/Reading/{name}.antt' for name in ('Holdings', 'Months'))
+BYTES, BATCH, SAYS, LEAST = 'batch/specs/Bytes.antt', 'batch/specs/Batch.antt', 'book/specs/Call.antt', 'laws/specs/Least.antt'
 
 
 def swapped(path, one, other):
@@ -93,6 +94,27 @@ def admission_free_day(days):
 OUTSIDE = named(11, 'outsideRanges medium low marks zeroMedium zeroLow excessMedium excessLow')
 TOO_FEW = named(18, 'tooFew medium (usable low marks)')
 FIRST = '    record {\n      number = 19;'
+
+
+# The three causes of a file that is no batch, and the pair that cause 21 names.
+SHORT, APART = 'refusedIf 20 0 (tooShort file)', 'refusedIf 21 (min (firstMisplaced file) (countIn file - 1)) (notFollowing file)'
+WRONG = 'refusedIf 22 (firstWrong file) (ltb (firstWrong file) (countIn file))'
+# How the least place begins.
+FOUND = 'least test (suc n) = cond (test zero) zero'
+# Whether a participant comes again behind pair i.
+AGAIN = 'ltb (least (λ k. eqb (participantAt file (i + 1 + k)) (participantAt file i)) (countIn file - (i + 1))) (countIn file - (i + 1))'
+
+
+def parts_settled(count):
+    """How many parts of a batch are settled, in both accounts."""
+    return [(ACCOUNT, 'afterParts b file (countIn file)', f'afterParts b file ({count})'),
+            (DECISIONS, 'withParts (todayOf s events) file (countIn file) events', f'withParts (todayOf s events) file ({count}) events')]
+
+
+def settled_for(participant):
+    """For whom part k of a batch is settled, in both accounts."""
+    return [(ACCOUNT, 'appliedOn (afterParts b file k) (participantAt file k)', f'appliedOn (afterParts b file k) ({participant})'),
+            (DECISIONS, 'did t (participantAt file k)', f'did t ({participant})')]
 
 
 # A change: its name; its edits; and the record that must refuse it with the fact that it is expected of.
@@ -301,8 +323,8 @@ SHARED = [
      + swapped(DECISIONS, 'cause 3 (admittedIn own)', 'cause 4 (ltb 5 role)'),
      'Decisions.admit-3-before-4'),
     ('admit: 1 after the others',
-     [(ACCOUNT, 'answer b (on p a) = ifNumbered p (fileAnswer (fileAt b p) (b .today .0) a)',
-       'answer b (on p a) = cond (accepted (fileAnswer (fileAt b p) (b .today .0) a)) (ifNumbered p (fileAnswer (fileAt b p) (b .today .0) a)) '
+     [(ACCOUNT, 'answerOn b p a = ifNumbered p (fileAnswer (fileAt b p) (b .today .0) a)',
+       'answerOn b p a = cond (accepted (fileAnswer (fileAt b p) (b .today .0) a)) (ifNumbered p (fileAnswer (fileAt b p) (b .today .0) a)) '
        '(fileAnswer (fileAt b p) (b .today .0) a)'),
       (DECISIONS, '(cause 1 (ltb 63 p) ∷ ownCauses (todayOf s events) (mine p events) a)',
        '(mathlib.Core.List._++_ (ownCauses (todayOf s events) (mine p events) a) (cause 1 (ltb 63 p) ∷ []))')],
@@ -433,6 +455,170 @@ SHARED = [
      [(ANSWER, '(s .cover) (s .shortfall)', '(s .shortfall) (s .cover)'),
       (DECISIONS, '(coverIn t own) (firmIn t own - coverIn t own)', '(firmIn t own - coverIn t own) (coverIn t own)')],
      'Decisions.first-charged-day'),
+    # ---- the file of a month: its bytes
+    ('most significant byte first',
+     [(BYTES, 'getD file at 0 + 256 * numberAt file (suc at) n', 'getD file (at + n) 0 + 256 * numberAt file at n')], 'Files.two-bytes'),
+    ('bytes of 255', [(BYTES, '256 * numberAt', '255 * numberAt')], 'Files.two-bytes'),
+    ('bytes of 257', [(BYTES, '256 * numberAt', '257 * numberAt')], 'Files.two-bytes'),
+    ('the next byte for the first', [(BYTES, 'getD file at 0 +', 'getD file (suc at) 0 +')], 'Files.two-bytes'),
+    ('a number of no bytes is 1', [(BYTES, 'numberAt file at zero = 0', 'numberAt file at zero = 1')], 'Files.two-bytes'),
+    ('the first byte again and again', [(BYTES, 'numberAt file (suc at) n', 'numberAt file at n')], 'Files.two-bytes'),
+    ('2^63 − 1 cents taken for negative', [(BYTES, 'ltb w 9223372036854775808', 'ltb w 9223372036854775807')], 'Files.cents-largest'),
+    ('−2^63 cents taken for positive', [(BYTES, 'ltb w 9223372036854775808', 'ltb w 9223372036854775809')], 'Files.cents-least'),
+    ('cents without a sign',
+     [(BYTES, 'cond (ltb w 9223372036854775808) (pos w) (negsuc (18446744073709551615 - w))', 'pos w')], 'Files.cents-least'),
+    ('negative cents one too low', [(BYTES, 'negsuc (18446744073709551615 - w)', 'negsuc (18446744073709551616 - w)')], 'Files.cents-least'),
+    ('negative cents one too high', [(BYTES, 'negsuc (18446744073709551615 - w)', 'negsuc (18446744073709551614 - w)')], 'Files.cents-least'),
+    ('negative cents as a sign and an amount',
+     [(BYTES, 'negsuc (18446744073709551615 - w)', 'negsuc (w - 9223372036854775808)')], 'Files.cents-least'),
+    # .. its month and count
+    ('a month of one byte', [(BATCH, 'numberAt file 0 2', 'numberAt file 0 1')], 'Files.month'),
+    ('a month of four bytes', [(BATCH, 'numberAt file 0 2', 'numberAt file 0 4')], 'Files.month'),
+    ('month and count exchanged', swapped(BATCH, 'numberAt file 0 2', 'numberAt file 2 2'), 'Files.month'),
+    ('a count of one byte', [(BATCH, 'numberAt file 2 2', 'numberAt file 2 1')], 'Files.count'),
+    ('a count of four bytes', [(BATCH, 'numberAt file 2 2', 'numberAt file 2 4')], 'Files.count'),
+    ('a count behind four bytes', [(BATCH, 'numberAt file 2 2', 'numberAt file 4 2')], 'Files.count'),
+    # .. its pairs
+    ('pairs that begin at byte 3', [(BATCH, '(4 + 8 * i) 4', '(3 + 8 * i) 4')], 'Files.first-offset'),
+    ('pairs that begin at byte 5', [(BATCH, '(4 + 8 * i) 4', '(5 + 8 * i) 4')], 'Files.first-offset'),
+    ('offsets of two bytes', [(BATCH, '(4 + 8 * i) 4', '(4 + 8 * i) 2')], 'Files.first-offset'),
+    ('offsets of three bytes', [(BATCH, '(4 + 8 * i) 4', '(4 + 8 * i) 3')], 'Files.first-offset'),
+    ('offsets every four bytes', [(BATCH, '(4 + 8 * i) 4', '(4 + 4 * i) 4')], 'Files.second-offset'),
+    ("the first pair's offset for all", [(BATCH, '(4 + 8 * i) 4', '4 4')], 'Files.second-offset'),
+    ('lengths at byte 7', [(BATCH, '(8 + 8 * i) 4', '(7 + 8 * i) 4')], 'Files.first-length'),
+    ('lengths at byte 9', [(BATCH, '(8 + 8 * i) 4', '(9 + 8 * i) 4')], 'Files.first-length'),
+    ('lengths of two bytes', [(BATCH, '(8 + 8 * i) 4', '(8 + 8 * i) 2')], 'Files.first-length'),
+    ('lengths of three bytes', [(BATCH, '(8 + 8 * i) 4', '(8 + 8 * i) 3')], 'Files.first-length'),
+    ('lengths every four bytes', [(BATCH, '(8 + 8 * i) 4', '(8 + 4 * i) 4')], 'Files.second-length'),
+    ('offset and length exchanged', swapped(BATCH, '(4 + 8 * i)', '(8 + 8 * i)'), 'Files.first-offset'),
+    ('a length taken for the end',
+     [(BATCH, 'endAt file i = offsetAt file i + lengthAt file i', 'endAt file i = lengthAt file i')], 'Files.first-end'),
+    ('an end one byte too far', [(BATCH, 'endAt file i = offsetAt file i +', 'endAt file i = 1 + offsetAt file i +')], 'Files.first-end'),
+    ('ends in 32 bits',
+     [(BATCH, 'offsetAt file i + lengthAt file i', 'Prim.Native.Nat._%_ (offsetAt file i + lengthAt file i) 4294967296')], 'Files.offset-past-2-32'),
+    ('a first part at 3 + 8 n', [(BATCH, 'zero = 4 + 8 * countIn file', 'zero = 3 + 8 * countIn file')], 'Files.first-begins'),
+    ('a first part at 5 + 8 n', [(BATCH, 'zero = 4 + 8 * countIn file', 'zero = 5 + 8 * countIn file')], 'Files.first-begins'),
+    ('a first part at 4 + 7 n', [(BATCH, 'zero = 4 + 8 * countIn file', 'zero = 4 + 7 * countIn file')], 'Files.first-begins'),
+    ('a first part at 4 + 9 n', [(BATCH, 'zero = 4 + 8 * countIn file', 'zero = 4 + 9 * countIn file')], 'Files.first-begins'),
+    ('a first part behind one pair', [(BATCH, 'zero = 4 + 8 * countIn file', 'zero = 12')], 'Files.first-begins'),
+    ('a next part a byte behind the last', [(BATCH, '(suc i) = endAt file i', '(suc i) = 1 + endAt file i')], 'Files.second-begins'),
+    ('a next part a byte before the end of the last', [(BATCH, '(suc i) = endAt file i', '(suc i) = endAt file i - 1')], 'Files.second-begins'),
+    ('a next part where the last began', [(BATCH, '(suc i) = endAt file i', '(suc i) = offsetAt file i')], 'Files.second-begins'),
+    ('a next part anywhere', [(BATCH, '(suc i) = endAt file i', '(suc i) = offsetAt file (suc i)')], 'Files.second-before'),
+    # .. its parts
+    ('a participant behind the row count',
+     [(BATCH, 'getD file (offsetAt file i) 0', 'getD file (offsetAt file i + 1) 0')], 'Files.participant-of-first'),
+    ('a participant of two bytes', [(BATCH, 'getD file (offsetAt file i) 0', 'numberAt file (offsetAt file i) 2')], 'Files.participant-of-first'),
+    ('the participant taken for the row count',
+     [(BATCH, 'getD file (offsetAt file i + 1) 0', 'getD file (offsetAt file i + 0) 0')], 'Files.rows-of-first'),
+    ('a row count behind two bytes', [(BATCH, 'getD file (offsetAt file i + 1) 0', 'getD file (offsetAt file i + 2) 0')], 'Files.rows-of-first'),
+    ('a row count of two bytes', [(BATCH, 'getD file (offsetAt file i + 1) 0', 'numberAt file (offsetAt file i + 1) 2')], 'Files.rows-of-second'),
+    ('figures behind one byte', [(BATCH, 'offsetAt file i + 2 + 8 * k', 'offsetAt file i + 1 + 8 * k')], 'Files.figures-of-first'),
+    ('figures behind three bytes', [(BATCH, 'offsetAt file i + 2 + 8 * k', 'offsetAt file i + 3 + 8 * k')], 'Files.figures-of-first'),
+    ('figures every seven bytes', [(BATCH, 'offsetAt file i + 2 + 8 * k', 'offsetAt file i + 2 + 7 * k')], 'Files.figures-of-second'),
+    ('figures every nine bytes', [(BATCH, 'offsetAt file i + 2 + 8 * k', 'offsetAt file i + 2 + 9 * k')], 'Files.figures-of-second'),
+    ('figures of four bytes', [(BATCH, '8 * k) 8)', '8 * k) 4)')], 'Files.figures-of-second'),
+    ('figures of seven bytes', [(BATCH, '8 * k) 8)', '8 * k) 7)')], 'Files.figures-of-second'),
+    ('figures without a sign',
+     [(BATCH, 'signedOf (numberAt file (offsetAt file i + 2 + 8 * k) 8)', 'lib.IntN.pos (numberAt file (offsetAt file i + 2 + 8 * k) 8)')],
+     'Files.figures-of-second'),
+    ('the last figure left out', [(BATCH, 'table (rowsAt file i)', 'table (rowsAt file i - 1)')], 'Files.figures-of-first'),
+    ('a figure behind the last', [(BATCH, 'table (rowsAt file i)', 'table (rowsAt file i + 1)')], 'Files.figures-of-first'),
+    # .. cause 20
+    ('a batch of no parts', [(BATCH, 'leb 1 (countIn file)', 'leb 0 (countIn file)')], 'Files.count-0'),
+    ('no batch of one part', [(BATCH, 'leb 1 (countIn file)', 'leb 2 (countIn file)')], 'Files.one-is-batch'),
+    ('a batch of 65 parts', [(BATCH, 'leb (countIn file) 64', 'leb (countIn file) 65')], 'Files.count-65'),
+    ('no batch of 64 parts', [(BATCH, 'leb (countIn file) 64', 'leb (countIn file) 63')], 'Files.count-64'),
+    ('pairs one byte short', [(BATCH, 'ltb (length file) (4 + 8 *', 'ltb (length file) (3 + 8 *')], 'Files.pair-too-short'),
+    ('a byte wanted behind the pairs', [(BATCH, 'ltb (length file) (4 + 8 *', 'ltb (length file) (5 + 8 *')], 'Files.pair-just-there'),
+    ('a file that ends with its pairs too short', [(BATCH, 'ltb (length file) (4 + 8 *', 'leb (length file) (4 + 8 *')], 'Files.pair-just-there'),
+    ('pairs of seven bytes', [(BATCH, 'ltb (length file) (4 + 8 *', 'ltb (length file) (4 + 7 *')], 'Files.pair-too-short'),
+    ('pairs of nine bytes', [(BATCH, 'ltb (length file) (4 + 8 *', 'ltb (length file) (4 + 9 *')], 'Files.pair-just-there'),
+    ('room wanted for one pair alone', [(BATCH, 'ltb (length file) (4 + 8 * countIn file)', 'ltb (length file) 12')], 'Files.second-pair-too-short'),
+    ('no file too short for its pairs',
+     [(BATCH, '64) || ltb (length file) (4 + 8 * countIn file)', '64) || false')], 'Files.no-64-pairs'),
+    ('a file of twelve bytes too short', [(BATCH, 'ltb (length file) 4\n', 'ltb (length file) 13\n')], 'Files.pair-just-there'),
+    # .. cause 21
+    ('a part behind its place',
+     [(BATCH, 'not (eqb (offsetAt file i) (beginsAt file i))', 'ltb (offsetAt file i) (beginsAt file i)')], 'Files.first-behind'),
+    ('a part before its place',
+     [(BATCH, 'not (eqb (offsetAt file i) (beginsAt file i))', 'ltb (beginsAt file i) (offsetAt file i)')], 'Files.first-before'),
+    ('a part at its place refused',
+     [(BATCH, 'not (eqb (offsetAt file i) (beginsAt file i))', 'eqb (offsetAt file i) (beginsAt file i)')], 'Files.one-is-batch'),
+    ("the last part's place not looked at",
+     [(BATCH, 'ltb (firstMisplaced file) (countIn file) ||', 'ltb (firstMisplaced file) (countIn file - 1) ||')], 'Files.first-before'),
+    ('no place looked at', [(BATCH, 'ltb (firstMisplaced file) (countIn file) ||', 'false ||')], 'Files.first-before'),
+    ("the file's end not looked at", [(BATCH, ' || not (eqb (endAt file (countIn file - 1)) (length file))', '')], 'Files.one-byte-less'),
+    ('bytes behind the last part',
+     [(BATCH, 'not (eqb (endAt file (countIn file - 1)) (length file))', 'ltb (length file) (endAt file (countIn file - 1))')],
+     'Files.one-byte-more'),
+    ("a last part past the file's end",
+     [(BATCH, 'not (eqb (endAt file (countIn file - 1)) (length file))', 'ltb (endAt file (countIn file - 1)) (length file)')],
+     'Files.one-byte-less'),
+    ("the first part's end for the last one's", [(BATCH, 'eqb (endAt file (countIn file - 1))', 'eqb (endAt file 0)')], 'Files.two-is-batch'),
+    ('index n where only the end is wrong',
+     [(BATCH, '(min (firstMisplaced file) (countIn file - 1))', '(firstMisplaced file)')], 'Files.one-byte-less'),
+    ('index 0 where only the end is wrong',
+     [(BATCH, '(min (firstMisplaced file) (countIn file - 1))', '(min (firstMisplaced file) 0)')], 'Files.second-before'),
+    ('index n − 1 wherever a part is', [(BATCH, '(min (firstMisplaced file) (countIn file - 1))', '(countIn file - 1)')], 'Files.first-of-two'),
+    # .. cause 22
+    ('no part of two bytes', [(BATCH, 'ltb (lengthAt file i) 2', 'ltb (lengthAt file i) 3')], 'Files.count-1'),
+    ('parts of 1 + 8 r bytes', [(BATCH, '(2 + 8 * rowsAt file i)', '(1 + 8 * rowsAt file i)')], 'Files.one-is-batch'),
+    ('parts of 3 + 8 r bytes', [(BATCH, '(2 + 8 * rowsAt file i)', '(3 + 8 * rowsAt file i)')], 'Files.one-is-batch'),
+    ('parts of 2 + 7 r bytes', [(BATCH, '(2 + 8 * rowsAt file i)', '(2 + 7 * rowsAt file i)')], 'Files.one-is-batch'),
+    ('parts of 2 + 9 r bytes', [(BATCH, '(2 + 8 * rowsAt file i)', '(2 + 9 * rowsAt file i)')], 'Files.one-is-batch'),
+    ('a part too long for its rows',
+     [(BATCH, 'not (eqb (lengthAt file i) (2 + 8 * rowsAt file i))', 'ltb (lengthAt file i) (2 + 8 * rowsAt file i)')], 'Files.length-3'),
+    ('a part too short for its rows',
+     [(BATCH, 'not (eqb (lengthAt file i) (2 + 8 * rowsAt file i))', 'ltb (2 + 8 * rowsAt file i) (lengthAt file i)')], 'Files.length-9'),
+    ('a participant twice', [(BATCH, ' || isBefore file i (participantAt file i))', ')')], 'Files.twice'),
+    ("the earlier pair's index for a participant twice", [(BATCH, '|| isBefore file i (participantAt file i))', f'|| {AGAIN})')], 'Files.twice'),
+    ('a participant compared with the pair before alone',
+     [(BATCH, 'eqb (participantAt file i) p || isBefore file i p', 'eqb (participantAt file i) p')], 'Files.third-is-first'),
+    ('a participant compared with the first alone',
+     [(BATCH, 'eqb (participantAt file i) p || isBefore file i p', 'eqb (participantAt file 0) p')], 'Files.third-is-second'),
+    ('every first participant twice', [(BATCH, 'isBefore file zero p = false', 'isBefore file zero p = not false')], 'Files.one-is-batch'),
+    ('the last part not judged',
+     [(BATCH, '(ltb (firstWrong file) (countIn file))', '(ltb (firstWrong file) (countIn file - 1))')], 'Files.pair-just-there'),
+    ('index 0 for every wrong part', [(BATCH, 'refusedIf 22 (firstWrong file)', 'refusedIf 22 0')], 'Files.second-length-3'),
+    ('index n − 1 for every wrong part',
+     [(BATCH, 'refusedIf 22 (firstWrong file)', 'refusedIf 22 (countIn file - 1)')], 'Files.second-pair-just-there'),
+    # .. their numbers, their order and what is none of them
+    ('19 for 20', [(BATCH, 'refusedIf 20 0', 'refusedIf 19 0')], 'Files.no-bytes'),
+    ('index 1 for 20', [(BATCH, 'refusedIf 20 0', 'refusedIf 20 1')], 'Files.no-bytes'),
+    ('22 for 21', [(BATCH, 'refusedIf 21 (min', 'refusedIf 22 (min')], 'Files.first-before'),
+    ('23 for 22', [(BATCH, 'refusedIf 22 (firstWrong', 'refusedIf 23 (firstWrong')], 'Files.pair-just-there'),
+    ('21 before 20', swapped(BATCH, SHORT, APART), 'Files.three-bytes'),
+    ('22 before 21', swapped(BATCH, APART, WRONG), 'Files.first-before'),
+    ('22 before 20', swapped(BATCH, SHORT, WRONG), 'Files.three-bytes'),
+    ('number and index exchanged', [(BATCH, 'λ n. Refused n pair', 'λ n. Refused pair n')], 'Files.no-bytes'),
+    ('a batch of one part less', [(BATCH, 'Parts (countIn file)', 'Parts (countIn file - 1)')], 'Files.one-is-batch'),
+    ('a place counted from 1', [(LEAST, 'cond (test zero) zero', 'cond (test zero) (suc zero)')], 'Files.pair-just-there'),
+    ('a place n + 1 where there is none', [(LEAST, 'least test zero = zero', 'least test zero = suc zero')], 'Files.least-none'),
+    ('the first place alone',
+     [(LEAST, f'{FOUND} (suc (least (λ k. test (suc k)) n))', f'{FOUND} (suc n)')],
+     'Files.second-before'),
+    # .. its settlements' answers
+    ('a refusal without its number', [(SAYS, 'refusalOf (refused n) = n', 'refusalOf (refused n) = 0')], 'Files.number-of-refusal'),
+    ('the first settlement that is accepted', [(SAYS, 'not (accepted (answers k))', 'accepted (answers k)')], 'Files.first-refused'),
+    ('the last settlement not judged',
+     [(SAYS, 'cond (ltb (firstRefused answers n) n)', 'cond (ltb (Prim.Native.Nat.suc (firstRefused answers n)) n)')], 'Files.says-last-pair'),
+    ("the first settlement's number", [(SAYS, 'refusalOf (answers (firstRefused answers n))', 'refusalOf (answers 0)')], 'Files.says-refused-pair'),
+    ('indices from 1', [(SAYS, ')) (firstRefused answers n))', ')) (Prim.Native.Nat.suc (firstRefused answers n)))')], 'Files.says-refused-pair'),
+    ('index 0 for every settlement', [(SAYS, ')) (firstRefused answers n))', ')) 0)')], 'Files.says-refused-pair'),
+    ("a refused file's number and index exchanged", [(SAYS, 'answers = refusedPair n i', 'answers = refusedPair i n')], 'Files.says-refused-file'),
+    ('a refused file at index 0', [(SAYS, 'answers = refusedPair n i', 'answers = refusedPair n 0')], 'Files.says-refused-file'),
+    ('an accepted batch that answers its last index', [(SAYS, '    (batched n)', '    (batched (Prim.Native.Nat._-_ n 1))')], 'Files.says-accepted'),
+    # .. what a part asks, and what is left, on histories
+    ('every part settled for month 0', [(SAYS, 'settle (monthIn file)', 'settle 0')], 'Batches.month-p-1'),
+    ("the first part's figures for all", [(SAYS, '(figuresAt file k)', '(figuresAt file 0)')], 'Batches.second-rows-4'),
+    ('an accepted batch that leaves nothing', [(ANSWER, 'accepted (batched n) = true', 'accepted (batched n) = false')], 'Batches.two-made'),
+    ('a refused batch that is settled',
+     [(ANSWER, 'accepted (refusedPair n i) = false', 'accepted (refusedPair n i) = true')], 'Batches.refused-made'),
+    ('the last part left unsettled', parts_settled('countIn file - 1'), 'Batches.two-made'),
+    ('the first part alone settled', parts_settled('1'), 'Batches.two-made'),
+    ("every part settled for the first one's participant", settled_for('participantAt file 0'), 'Batches.second-firm'),
+    ('parts settled for the next participant', settled_for('suc (participantAt file k)'), 'Batches.firm'),
     # ---- the special guarantee
     ('64 medium rates made 65', [(LENGTHS, 'ltb 64 medium', 'ltb 65 medium')], 'Guarantees.medium-65'),
     ('64 medium rates made 63', [(LENGTHS, 'ltb 64 medium', 'ltb 63 medium')], 'Guarantees.medium-64'),

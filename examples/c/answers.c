@@ -120,6 +120,35 @@ static void settle(void)
         sprintf(answer, "called %" PRId64 " %" PRIu64 " %" PRIu64, s.total, s.asked, s.last_free_day);
 }
 
+/* The value of a hexadecimal digit, 16 for another byte. */
+static unsigned digit(char byte)
+{
+    static const char digits[] = "0123456789abcdef0123456789ABCDEF";
+    const char *found = byte == '\0' ? NULL : strchr(digits, byte);
+    return found == NULL ? 16 : (unsigned)(found - digits) % 16;
+}
+
+/* A batch's bytes: two hexadecimal digits for each; no word is no bytes. */
+static void batch(void)
+{
+    static uint8_t file[LINE / 2];
+    const char *found = word();
+    size_t bytes = 0;
+    GuaranteeBatch b;
+    for (; !wrong && *found != '\0'; found += 2) {
+        unsigned high = digit(found[0]), low = digit(found[1]);
+        wrong |= high == 16 || low == 16;
+        file[bytes++] = (uint8_t)(16 * high + low);
+    }
+    if (wrong)
+        return;
+    b = guarantee_batch(book, GUARANTEE_WORDS, file, bytes);
+    if (b.refusal == GUARANTEE_ACCEPTED)
+        sprintf(answer, "batch %" PRIu64, b.parts);
+    else
+        sprintf(answer, "refused %" PRIu64 " %" PRIu64, b.refusal, b.pair);
+}
+
 static void advance(void)
 {
     uint32_t day = number32();
@@ -184,6 +213,8 @@ static void make(const char *name)
         outcome(guarantee_release(book, GUARANTEE_WORDS, a, b, c));
     } else if (strcmp(name, "settle") == 0)
         settle();
+    else if (strcmp(name, "batch") == 0)
+        batch();
     else if (strcmp(name, "annual") == 0)
         annual();
     else if (strcmp(name, "advance") == 0)

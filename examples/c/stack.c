@@ -24,6 +24,21 @@ static void lodge_letter(void)
 }
 static void release(void) { for (uint64_t p = 0; p < 64; p++) guarantee_release(book, GUARANTEE_WORDS, p, 0, 1); }
 static void settle(void) { for (uint64_t p = 0; p < 64; p++) guarantee_settle(book, GUARANTEE_WORDS, p, 10, figures, 16); }
+/* A part of five figures for each participant; the first is 2^24 cents, which calls. */
+static void batch(void)
+{
+    static uint8_t file[4 + 64 * (8 + 42)] = {10, 0, 64};
+    for (size_t p = 0; p < 64; p++) {
+        size_t at = 516 + 42 * p;
+        file[4 + 8 * p] = (uint8_t)at;
+        file[5 + 8 * p] = (uint8_t)(at >> 8);
+        file[8 + 8 * p] = 42;
+        file[at] = (uint8_t)p;
+        file[at + 1] = 5;
+        file[at + 5] = 1;
+    }
+    guarantee_batch(book, GUARANTEE_WORDS, file, sizeof file);
+}
 static void advance(void) { guarantee_advance(book, GUARANTEE_WORDS, 612, 1000); }
 static void annual_run(void) { for (uint64_t p = 0; p < 64; p++) guarantee_annual_run(book, GUARANTEE_WORDS, p); }
 static void statement(void) { for (uint64_t p = 0; p < 65; p++) guarantee_statement(book, GUARANTEE_WORDS, p); }
@@ -33,7 +48,7 @@ static void special(void) { guarantee_special(rates, 5, rates, 5, marks, 5, zero
 
 static const struct { const char *name; void (*calls)(void); } rows[] = {
     {"fresh", fresh}, {"admit", admit}, {"lodge_cash", lodge_cash}, {"lodge_letter", lodge_letter}, {"release", release}, {"settle", settle},
-    {"advance", advance}, {"annual_run", annual_run}, {"statement", statement}, {"calls_made", calls_made}, {"today", today},
+    {"batch", batch}, {"advance", advance}, {"annual_run", annual_run}, {"statement", statement}, {"calls_made", calls_made}, {"today", today},
     {"special", special},
 };
 

@@ -7,7 +7,7 @@ import struct as structs
 
 WORDS = 6147
 KINDS = {1: 'called', 2: 'covered', 3: 'recorded'}
-U64, U32, I64, SIZE = ctypes.c_uint64, ctypes.c_uint32, ctypes.c_int64, ctypes.c_size_t
+U8, U64, U32, I64, SIZE = ctypes.c_uint8, ctypes.c_uint64, ctypes.c_uint32, ctypes.c_int64, ctypes.c_size_t
 
 
 def struct(name, *fields):
@@ -16,6 +16,7 @@ def struct(name, *fields):
 
 
 SETTLED = struct('Settled', 'kind', 'total', 'asked', 'last_free_day')
+BATCH = struct('Batch', 'parts', 'pair')
 ANNUAL = struct('Annual', 'amount', 'months')
 ADVANCED = struct('Advanced', 'opened')
 STATEMENT = struct('Statement', 'firm', 'cover', 'shortfall', 'days_charged', 'accrued_mills')
@@ -25,9 +26,10 @@ SPECIAL = struct('Special', 'cents')
 
 # What each function on words returns, and what it takes behind the words.
 FUNCTIONS = {'fresh': (U64, U32), 'admit': (U64, U64, U64), 'lodge_cash': (U64, U64, U64, U64), 'lodge_letter': (U64, U64, U64, U64, U32, U32),
-             'release': (U64, U64, U64, U64), 'settle': (SETTLED, U64, U32, list), 'annual_run': (ANNUAL, U64), 'advance': (ADVANCED, U32, U64),
-             'statement': (STATEMENT, U64), 'calls_made': (COUNT,), 'today': (DAY,), 'check': (U64,)}
-BOUNDS = {U64: (0, 2 ** 64 - 1), U32: (0, 2 ** 32 - 1), I64: (-2 ** 63, 2 ** 63 - 1)}
+             'release': (U64, U64, U64, U64), 'settle': (SETTLED, U64, U32, list), 'batch': (BATCH, bytes), 'annual_run': (ANNUAL, U64),
+             'advance': (ADVANCED, U32, U64), 'statement': (STATEMENT, U64), 'calls_made': (COUNT,), 'today': (DAY,), 'check': (U64,)}
+LENT = {list: I64, bytes: U8}
+BOUNDS = {U8: (0, 255), U64: (0, 2 ** 64 - 1), U32: (0, 2 ** 32 - 1), I64: (-2 ** 63, 2 ** 63 - 1)}
 
 
 def held(number, kind):
@@ -42,7 +44,7 @@ def lent(numbers, kind=I64):
 
 
 class Book:
-    """Words, and the functions on them: book.admit(0, 2), book.settle(0, 10, [1, 2, 3, 4, 5]).total and so on."""
+    """Words, and the functions on them: book.admit(0, 2), book.settle(0, 10, [1, 2, 3, 4, 5]).total, book.batch(b'..').parts and so on."""
 
     def __init__(self, library, length=WORDS):
         self.library = ctypes.CDLL(library)
@@ -58,7 +60,7 @@ class Book:
         def call(*arguments):
             passed = [self.words, SIZE(self.length)]
             for argument, kind in zip(arguments, kinds, strict=True):
-                passed += lent(argument) if kind is list else [held(argument, kind)]
+                passed += lent(argument, LENT[kind]) if kind in LENT else [held(argument, kind)]
             return function(*passed)
         return call
 

@@ -41,6 +41,9 @@ def answer(book, name, *words):
     if name == 'lodge':
         name = 'lodge_' + words[2]
         words = words[:2] + words[3:]
+    if name == 'batch':
+        found = book.batch(bytes.fromhex(''.join(words)))
+        return f'refused {found.refusal} {found.pair}' if found.refusal else f'batch {found.parts}'
     numbers = [number(word) for word in words]
     if name == 'special':
         found = book.special(*lists(numbers))

@@ -16,7 +16,7 @@ use Rattle.layout.specs.Book.{Book}
 use Rattle.layout.specs.Words.{bookOfWords, bookWords}
 use Rattle.layout.specs.WellFormed.{WellFormed}
 use Rattle.book.specs.declared.Stated.{Stated}
-use Rattle.book.specs.Call.{Call, on, admit, lodge, release, settle, annualRun, advance, statement, callsMade, statedSays}
+use Rattle.book.specs.Call.{Call, on, admit, lodge, release, settle, annualRun, advance, statement, callsMade, batch, statedSays}
 use Rattle.book.specs.Account.{freshAnswer, freshBook, freshBookBeside}
 use Rattle.book.specs.Reached.{Given}
 use Rattle.book.specs.InWords.{GivenWords, BegunWords}
@@ -25,7 +25,7 @@ use Rattle.journal.specs.declared.Request.{Request}
 use Rattle.journal.specs.declared.Lengths.{Lengths}
 use Rattle.printing.specs.declared.Answer.{Answer}
 use Rattle.answering.specs.Shown.{shown, guaranteeShown}
-use Rattle.answering.specs.Asked.{Asked, call, fresh, guarantee, nothing, fault, guaranteeOf, asked, answerTo, bookAfter, Answered}
+use Rattle.answering.specs.Asked.{Asked, call, fresh, guarantee, nothing, fault, guaranteeOf, fileIn, asked, answerTo, bookAfter, Answered}
 use Rattle.answering.specs.Kept.{takes}
 use Rattle.answering.specs.InWords.{AnsweredWords}
 use Rattle.answering.proofs.Session.{not-taken}
@@ -157,3 +157,6 @@ module _ (l : List ℕ) (line : ℕ) (request : Request) (zs : List ℤ) where
       pub as-advance : (t : Day) (k : ℕ) → request ≡ Request.Advance t k → GivenWords l (advance (t .0) k) x m
           → AnsweredWords l line (asked request zs) y m
       as-advance t k e g = rw e (gave l m line (advance (t .0) k) x y w g h)
+
+      pub as-batch : (n : ℕ) → request ≡ Request.Batch n → GivenWords l (batch (fileIn n zs)) x m → AnsweredWords l line (asked request zs) y m
+      as-batch n e g = rw e (gave l m line (batch (fileIn n zs)) x y w g h)

@@ -3,8 +3,7 @@
 use Prim.Native.Nat.{ℕ, _+_, _-_, _≤_, _<_, min}
 use mathlib.Core.Path.{_≡_, refl, sym, ap, _∙_}
 use mathlib.Core.Bool.{true, false, false≢true}
-use mathlib.Core.List.{List, [], _∷_, _++_, map, map-append}
-use native.Mathlib.Numerals.{add-one}
+use mathlib.Core.List.{List, map}
 use native.Mathlib.Omega.{arith}
 use borrow.Author.Tests.{ltb-true, ltb-false, ne-eqb}
 use mir.Facts.{toZ-ofZ}
@@ -13,8 +12,8 @@ use mir.Val.{SFits, toZ, ofZ}
 use lib.Dec.{ltb}
 use lib.IntN.{ℤ, pos, negsuc, natAbs}
 use lib.Signed.{ltZ}
-use lib.ListN.{length, getD, set, take, drop, length-drop, length-map, length-set}
-use lib.Seq.{take-suc, take-set-le, take-all, getD-set-same}
+use lib.ListN.{length, getD, set, take, drop, length-drop, length-map}
+use lib.Seq.{take-all}
 use Rattle.laws.specs.Cases.{split}
 use Rattle.laws.specs.Clipped.{drop-clipped}
 use Rattle.journal.specs.declared.Lengths.{Lengths}
@@ -25,6 +24,7 @@ use Rattle.special.specs.Guarantee.{specialGuarantee}
 use Rattle.printing.specs.declared.Answer.{Answer}
 use Rattle.answering.specs.Shown.{guaranteeShown}
 use Rattle.answering.specs.Asked.{markOf, semestersOf, guaranteeOf}
+use Rattle.answering.proofs.MappedLaws.{mapped-more, mapped-done}
 
 -- The numbers behind a place that is clipped to their number.
 pub behind-is : (zs : List ℤ) (n m : ℕ) → m ≡ min n (length zs) → take (length zs - m) (drop m zs) ≡ drop n zs
@@ -44,21 +44,11 @@ mark-natural (negsuc k) s t = let g : ltZ (negsuc k) (pos 0) ≡ false = rw (toZ
 pub marks-more : (zs : List ℤ) (m : List ℕ) (i y : ℕ) (z : ℤ) → i < length zs → length zs ≤ 64 → length m ≡ 64
     → take i m ≡ map markOf (take i zs) → z ≡ getD zs i (pos 0) → y ≡ markOf z
     → take (i + 1) (set m i y) ≡ map markOf (take (i + 1) zs)
-marks-more zs m i y z h k l w e f =
-    ap (λ (j : ℕ). take j (set m i y)) (add-one i)
-    ∙ take-suc (set m i y) i 0 (omega (arith, length-set m i y))
-    ∙ rw (take-set-le i m i y (omega arith), getD-set-same m i y 0 (omega arith), w, f, e) (back zs i h)
-  where
-    back : (zs : List ℤ) (i : ℕ) → i < length zs → map markOf (take i zs) ++ (markOf (getD zs i (pos 0)) ∷ []) ≡ map markOf (take (i + 1) zs)
-    back zs i h =
-        sym (ap (map markOf) (ap (λ (j : ℕ). take j zs) (add-one i) ∙ take-suc zs i (pos 0) h)
-        ∙ map-append markOf (take i zs) (getD zs i (pos 0) ∷ []))
+marks-more zs m i y z h k l w e f = mapped-more markOf zs m i y h (omega arith) w (f ∙ ap markOf e)
 
 pub marks-done : (zs : List ℤ) (m : List ℕ) (i : ℕ) → i ≤ length zs → length zs ≤ i → take i m ≡ map markOf (take i zs)
     → take (length zs) m ≡ map markOf zs
-marks-done zs m i h k w =
-    let e : i ≡ length zs = omega arith in
-    ap (λ (j : ℕ). take j m) (sym e) ∙ w ∙ ap (map markOf) (take-all i zs k)
+marks-done zs m i h k w = mapped-done markOf zs m i h k w
 
 -- More than 64 marks are refused: either the low rates are more than 64 too, or they are fewer than the marks.
 marks-wrong : (a b c d e f g : ℕ) → 64 < c → wrongLengths a b c d e f g ≡ true

@@ -29,7 +29,7 @@ pub fresh-first : (request : Request) (kept : ℕ) (f : Bool) → f ≡ isFresh 
 unfolding freshFirst
 fresh-first request kept f e t = let g : (isFresh request && ltb 0 kept) ≡ false = ap (λ (x : Bool). x && ltb 0 kept) (sym e) ∙ t in rw g
 
--- How many numbers a settlement and a special guarantee have.
+-- How many numbers a settlement, a special guarantee and a batch have.
 pub count-settle : (request : Request) (p : ℕ) (m : Month) (n most r : ℕ) → request ≡ Request.Settle p m n → r ≡ min n most
     → r ≡ numbersIn request most
 count-settle request p m n most r e h = rw e h
@@ -37,6 +37,9 @@ count-settle request p m n most r e h = rw e h
 pub count-special : (request : Request) (n : Lengths) (most r : ℕ) → request ≡ Request.Special n → r ≡ min (total (lengthList n)) most
     → r ≡ numbersIn request most
 count-special request n most r e h = rw e h
+
+pub count-batch : (request : Request) (n most r : ℕ) → request ≡ Request.Batch n → r ≡ min n most → r ≡ numbersIn request most
+count-batch request n most r e h = rw e h
 
 -- The places where seven lists end, one after the other.
 ends-next : (s x most a b : ℕ) → a ≡ min s most → b ≡ min (a + x) most → b ≡ min (s + x) most

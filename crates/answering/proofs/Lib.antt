@@ -1,7 +1,10 @@
 pub mod ShownLaws
+pub mod MappedLaws
 pub mod GuaranteeLaws
+pub mod BatchLaws
 pub mod CallLaws
 pub mod KeptLaws
 pub mod Session
 pub mod OwnNumbers
 pub mod ParsedLines
+pub mod ParsedFile

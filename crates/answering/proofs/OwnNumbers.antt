@@ -2,17 +2,17 @@
 -- Assumes nothing.
 use Prim.Native.Nat.{ℕ, zero, suc, _+_, min}
 use mathlib.Core.Path.{_≡_, refl, ap, _∙_}
-use mathlib.Core.List.{List, [], _∷_}
+use mathlib.Core.List.{List, [], _∷_, map}
 use native.Mathlib.Omega.{arith}
 use lib.IntN.{ℤ}
 use lib.ListN.{length, take, drop}
 use lib.Seq.{take-take}
 use Rattle.laws.specs.Clipped.{take-clipped}
-use Rattle.book.specs.Call.{on, settle}
+use Rattle.book.specs.Call.{on, settle, batch}
 use Rattle.journal.specs.Grammar.{lengthList, total}
 use Rattle.journal.specs.declared.Lengths.{Lengths}
 use Rattle.journal.specs.declared.Request.{Request}
-use Rattle.answering.specs.Asked.{call, guarantee, semestersOf, guaranteeOf, asked}
+use Rattle.answering.specs.Asked.{call, guarantee, semestersOf, guaranteeOf, byteOf, fileIn, asked}
 use Rattle.answering.specs.Kept.{numbersIn}
 
 -- ---- parts of the front of a row
@@ -66,6 +66,12 @@ row-cut n zs =
     )
     (semesters-cut n _ _ (drop (n .marks) (drop (n .low) (drop (n .medium) zs))) _)
 
+-- The bytes of a file likewise.
+file-cut : (n : ℕ) (zs : List ℤ) → fileIn n (take (min n (length zs)) zs) ≡ fileIn n zs
+unfolding fileIn
+file-cut n zs =
+    ap (fileIn n) (take-clipped n (min n (length zs)) zs refl) ∙ ap (map byteOf) (take-take (min n 32768) n zs (omega arith))
+
 -- The numbers of a request's lists.
 abbrev pub own : Request → List ℤ → List ℤ
 own r zs = take (numbersIn r (length zs)) zs
@@ -87,5 +93,6 @@ asked-cut Request.Calls zs = refl
 asked-cut (Request.Special n) zs =
     ap guarantee
     (ap (guaranteeOf n) (take-clipped (total (lengthList n)) (min (total (lengthList n)) (length zs)) zs refl) ∙ row-cut n zs)
+asked-cut (Request.Batch n) zs = ap (λ (w : List ℕ). call (batch w)) (file-cut n zs)
 asked-cut Request.Report zs = refl
 asked-cut (Request.Error e) zs = refl

@@ -18,9 +18,13 @@ use Rattle.file.specs.Lodge.{lodgeAnswer}
 use Rattle.file.specs.Release.{releaseAnswer}
 use Rattle.file.specs.CheckLaws.{settled-answer}
 use Rattle.file.specs.Settle.{settlementCalls, checkDue, settledAnswer, settleAnswer}
+use Rattle.batch.specs.Batch.{formOf}
+use Rattle.batch.specs.declared.Form.{Form}
+use Rattle.batch.specs.declared.Form.the-variants as Forms
 use Rattle.layout.specs.Book.{Book}
-use Rattle.book.specs.Call.{Call, Act, on, admit, lodge, release, settle, annualRun, advance, statement, callsMade}
-use Rattle.book.specs.Account.{freshBook, freshAnswer, fileAt, ifNumbered, ifAdmitted, fileAnswer, answer, applied, step, run}
+use Rattle.book.specs.Call.{Call, Act, on, admit, lodge, release, settle, annualRun, advance, statement, callsMade, batch}
+use Rattle.book.specs.Call.{firstRefused, batchSays}
+use Rattle.book.specs.Account.{freshBook, freshAnswer, fileAt, ifNumbered, ifAdmitted, fileAnswer, partAnswer, answer, applied, step, run}
 use Rattle.book.specs.Reading.Decisions.{decision, eventsOf}
 use Rattle.book.proofs.History.Life.{life, given}
 use Rattle.answering.specs.Shown.{shown}
@@ -92,6 +96,8 @@ tells (Said.annual a n) = false
 tells (Said.daysOpened n) = false
 tells (Said.stated f c s d a) = true
 tells (Said.counted n) = true
+tells (Said.batched n) = false
+tells (Said.refusedPair n i) = false
 
 -- A call that is not taken is refused, or its answer tells what was asked for.
 untaken : (x : Said.Answer) → takes (shown x) ≡ false → tells x ≡ false → accepted x ≡ false
@@ -104,6 +110,8 @@ untaken (Said.annual a n) h k = h
 untaken (Said.daysOpened n) h k = h
 untaken (Said.stated f c s d a) h k = k
 untaken (Said.counted n) h k = k
+untaken (Said.batched n) h k = h
+untaken (Said.refusedPair n i) h k = refl
 
 -- Only questions are told what they ask for: causes of refusal tell nothing, nor does the answer behind them.
 decided-untold : (causes : List Cause) (x : Said.Answer) → tells x ≡ false → tells (decide Said.refused causes x) ≡ false
@@ -133,6 +141,15 @@ advance-untold : (b : Book) (day k : ℕ) → tells (answer b (advance day k)) �
 unfolding answer
 advance-untold b day k = decided-untold _ _ refl
 
+says-untold : (form : Form) (x : ℕ → Said.Answer) → tells (batchSays form x) ≡ false
+unfolding batchSays
+says-untold (Forms.Refused n i) x = refl
+says-untold (Forms.Parts n) x = split (ltb (firstRefused x n) n) (λ e. rw e refl) (λ e. rw e refl)
+
+batch-untold : (b : Book) (file : List ℕ) → tells (answer b (batch file)) ≡ false
+unfolding answer
+batch-untold b file = says-untold (formOf file) (partAnswer b file)
+
 fresh-untold : (d : ℕ) → tells (freshAnswer d) ≡ false
 unfolding freshAnswer
 fresh-untold d = decided-untold _ _ refl
@@ -149,6 +166,7 @@ not-taken b n (call (on p a)) h = rw (untaken (answer b (on p a)) h (act-untold 
 not-taken b n (call (advance day k)) h = rw (untaken (answer b (advance day k)) h (advance-untold b day k)) refl
 not-taken b n (call (statement p)) h = question-leaves (accepted (answer b (statement p))) b
 not-taken b n (call callsMade) h = question-leaves (accepted (answer b callsMade)) b
+not-taken b n (call (batch file)) h = rw (untaken (answer b (batch file)) h (batch-untold b file)) refl
 not-taken b n (fresh d) h = rw (untaken (freshAnswer d) h (fresh-untold d)) refl
 not-taken b n (guarantee x) h = refl
 not-taken b n nothing h = refl

@@ -10,8 +10,9 @@ use Rattle.file.specs.declared.AnnualRun.{AnnualRun}
 use Rattle.file.specs.declared.Statement.{Statement}
 use Rattle.file.specs.Answer.{outcomeSays, settledSays, annualSays}
 use Rattle.book.specs.declared.Advanced.{Advanced}
+use Rattle.book.specs.declared.Loaded.{Loaded}
 use Rattle.book.specs.declared.Stated.{Stated}
-use Rattle.book.specs.Call.{advancedSays, statedSays}
+use Rattle.book.specs.Call.{advancedSays, statedSays, loadedSays}
 use Rattle.special.specs.declared.Special.{Special}
 use Rattle.printing.specs.declared.Answer.{Answer}
 use Rattle.answering.specs.Shown.{shown, guaranteeShown}
@@ -46,6 +47,12 @@ advanced-opened a n h = rw h
 
 pub advanced-refused : (a : Advanced) (n : ℕ) → a ≡ Advanced.Refused n → Answer.Refused n ≡ shown (advancedSays a)
 advanced-refused a n h = rw h
+
+pub loaded-parts : (a : Loaded) (n : ℕ) → a ≡ Loaded.Parts n → Answer.Batch n ≡ shown (loadedSays a)
+loaded-parts a n h = rw h
+
+pub loaded-refused : (a : Loaded) (n i : ℕ) → a ≡ Loaded.Refused n i → Answer.RefusedPair n i ≡ shown (loadedSays a)
+loaded-refused a n i h = rw h
 
 pub stated-is : (a : Stated) (s : Statement) → a ≡ Stated.Is s
     → Answer.Statement (s .firm) (s .cover) (s .shortfall) (s .charged) (s .accrued) ≡ shown (statedSays a)

@@ -1,6 +1,6 @@
 -- What a line of the journal asks, what it is answered, and the book that it leaves.
 -- Assumes nothing.
-use Prim.Native.Nat.{ℕ}
+use Prim.Native.Nat.{ℕ, _%_, min}
 use mathlib.Core.Path.{_≡_}
 use mathlib.Core.Bool.{cond}
 use mathlib.Core.List.{List, map}
@@ -11,7 +11,7 @@ use Rattle.file.specs.Answer.{accepted}
 use Rattle.special.specs.declared.Special.{Special}
 use Rattle.special.specs.Guarantee.{specialGuarantee}
 use Rattle.layout.specs.Book.{Book}
-use Rattle.book.specs.Call.{Call, on, admit, lodge, release, settle, annualRun, advance, statement, callsMade}
+use Rattle.book.specs.Call.{Call, on, admit, lodge, release, settle, annualRun, advance, statement, callsMade, batch}
 use Rattle.book.specs.Account.{freshAnswer, freshBook, answer, step}
 use Rattle.book.specs.Reached.{Reached}
 use Rattle.journal.specs.declared.Reason.{Reason}
@@ -55,7 +55,16 @@ guaranteeOf n zs =
     let fromMarks = drop (n .low) fromLow in
     semestersOf n (take (n .medium) zs) (take (n .low) fromLow) (map markOf (take (n .marks) fromMarks)) (drop (n .marks) fromMarks)
 
--- What a request asks, with the numbers of its lists in a row: `settle` has as many figures as it says.
+-- A number as a byte: a natural number's last eight bits; a negative one counts as 0. A line has only numbers from 0 to 255 there.
+abbrev pub byteOf : ℤ → ℕ
+byteOf (pos n) = n % 256
+byteOf (negsuc n) = 0
+
+-- Paper 02, Ask 1: the file of a batch, whose n bytes stand as numbers in a row. There is room for 32,768 of them, as for a line's numbers.
+unfoldable pub fileIn : ℕ → List ℤ → List ℕ
+fileIn n zs = map byteOf (take (min n 32768) zs)
+
+-- What a request asks, with the numbers of its lists in a row: `settle` has as many figures as it says, and `batch` as many bytes.
 abbrev pub asked : Request → List ℤ → Asked
 asked Request.Nothing zs = nothing
 asked (Request.Fresh d) zs = fresh (d .0)
@@ -69,6 +78,7 @@ asked (Request.Advance t b) zs = call (advance (t .0) b)
 asked (Request.Statement p) zs = call (statement p)
 asked Request.Calls zs = call callsMade
 asked (Request.Special n) zs = guarantee (guaranteeOf n zs)
+asked (Request.Batch n) zs = call (batch (fileIn n zs))
 asked Request.Report zs = nothing
 asked (Request.Error e) zs = fault e
 

@@ -27,6 +27,8 @@ takes (Answer.Opened d) = true
 takes (Answer.Statement f c s d m) = false
 takes (Answer.Calls n) = false
 takes (Answer.Special c) = false
+takes (Answer.Batch n) = true
+takes (Answer.RefusedPair n i) = false
 
 -- Whether an answer is a refusal or an error.
 abbrev pub refuses : Answer → Bool
@@ -42,6 +44,8 @@ refuses (Answer.Opened d) = false
 refuses (Answer.Statement f c s d m) = false
 refuses (Answer.Calls n) = false
 refuses (Answer.Special c) = false
+refuses (Answer.Batch n) = false
+refuses (Answer.RefusedPair n i) = true
 
 -- Whether a request is a call that may change the book: all but the questions, an empty line and an error.
 abbrev pub changes : Request → Bool
@@ -57,6 +61,7 @@ changes (Request.Advance t b) = true
 changes (Request.Statement p) = false
 changes Request.Calls = false
 changes (Request.Special n) = false
+changes (Request.Batch n) = true
 changes Request.Report = false
 changes (Request.Error e) = false
 
@@ -74,6 +79,7 @@ isFresh (Request.Advance t b) = false
 isFresh (Request.Statement p) = false
 isFresh Request.Calls = false
 isFresh (Request.Special n) = false
+isFresh (Request.Batch n) = false
 isFresh Request.Report = false
 isFresh (Request.Error e) = false
 
@@ -81,8 +87,8 @@ isFresh (Request.Error e) = false
 unfoldable pub freshFirst : ℕ → Request → Request
 freshFirst kept r = cond (isFresh r && ltb 0 kept) (Request.Error Reason.FreshLater) r
 
--- How many numbers a request's lists have, where so many numbers stand in a row: a settlement's figures, and the seven lists of a special
--- guarantee.
+-- How many numbers a request's lists have, where so many numbers stand in a row: a settlement's figures, the seven lists of a special
+-- guarantee, and the bytes of a batch.
 abbrev pub numbersIn : Request → ℕ → ℕ
 numbersIn Request.Nothing most = 0
 numbersIn (Request.Fresh d) most = 0
@@ -96,6 +102,7 @@ numbersIn (Request.Advance t b) most = 0
 numbersIn (Request.Statement p) most = 0
 numbersIn Request.Calls most = 0
 numbersIn (Request.Special n) most = min (total (lengthList n)) most
+numbersIn (Request.Batch n) most = min n most
 numbersIn Request.Report most = 0
 numbersIn (Request.Error e) most = 0
 

@@ -7,7 +7,7 @@ use Rattle.printing.specs.declared.Answer.{Answer}
 
 -- The answer of the journal for each answer of the book:
 -- "done | refused N | called E ASKED LAST_FREE_DAY | covered E | recorded E | annual AMOUNT MONTHS | opened DAYS
--- | statement FIRM COVER SHORTFALL DAYS_CHARGED MILLS | calls N".
+-- | statement FIRM COVER SHORTFALL DAYS_CHARGED MILLS | calls N"; and those of paper 02, Ask 1: "batch N | refused N PAIR".
 abbrev pub shown : Said.Answer → Answer
 shown (Said.refused n) = Answer.Refused n
 shown Said.done = Answer.Done
@@ -18,6 +18,8 @@ shown (Said.annual a n) = Answer.Annual a n
 shown (Said.daysOpened n) = Answer.Opened n
 shown (Said.stated f c s d a) = Answer.Statement f c s d a
 shown (Said.counted n) = Answer.Calls n
+shown (Said.batched n) = Answer.Batch n
+shown (Said.refusedPair n i) = Answer.RefusedPair n i
 
 -- "special CENTS", or the number of the refusal.
 abbrev pub guaranteeShown : Special → Answer

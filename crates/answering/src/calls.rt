@@ -2,6 +2,7 @@
 ghost use Rattle.layout.specs.WellFormed.{WellFormed};
 ghost use Rattle.answering.specs.Asked.{fresh as Asked·fresh, asked};
 ghost use Rattle.answering.specs.InWords.{AnsweredWords};
+use crate::batches::load_file;
 use crate::guarantee::front;
 use crate::guarantee::guarantee;
 use crate::shown;
@@ -46,6 +47,7 @@ pub fn apply(book: &mut [u64], request: Request, numbers: &[i64], line: u64) -> 
         Request::Statement(p) => shown::stated_shown(book::statement(book, p)),
         Request::Calls => Answer::Calls(book::calls_made(book)),
         Request::Special(n) => guarantee(n, numbers),
+        Request::Batch(n) => shown::loaded_shown(load_file(book, numbers, n)),
         Request::Report => Answer::Nothing,
         Request::Error(why) => Answer::Error(line, why),
     }

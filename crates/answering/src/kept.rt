@@ -29,6 +29,8 @@ pub fn is_kept(answer: Answer) -> bool
         Answer::Statement(_, _, _, _, _) => false,
         Answer::Calls(_) => false,
         Answer::Special(_) => false,
+        Answer::Batch(_) => true,
+        Answer::RefusedPair(_, _) => false,
         Answer::Error(_, _) => false,
         Answer::Nothing => false,
     }
@@ -49,6 +51,8 @@ pub fn is_refusal(answer: Answer) -> bool
         Answer::Statement(_, _, _, _, _) => false,
         Answer::Calls(_) => false,
         Answer::Special(_) => false,
+        Answer::Batch(_) => false,
+        Answer::RefusedPair(_, _) => true,
         Answer::Error(_, _) => true,
         Answer::Nothing => false,
     }
@@ -71,6 +75,7 @@ pub fn is_change(request: Request) -> bool
         Request::Statement(_) => false,
         Request::Calls => false,
         Request::Special(_) => false,
+        Request::Batch(_) => true,
         Request::Report => false,
         Request::Error(_) => false,
     }
@@ -93,6 +98,7 @@ fn is_fresh(request: Request) -> bool
         Request::Statement(_) => false,
         Request::Calls => false,
         Request::Special(_) => false,
+        Request::Batch(_) => false,
         Request::Report => false,
         Request::Error(_) => false,
     }
@@ -138,6 +144,7 @@ fn number_count(request: Request, most: usize) -> usize
         Request::Statement(_) => 0,
         Request::Calls => 0,
         Request::Special(n) => listed(n, most),
+        Request::Batch(n) => smaller(n, most),
         Request::Report => 0,
         Request::Error(_) => 0,
     }

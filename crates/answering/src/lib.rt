@@ -2,6 +2,7 @@
 
 mod shown; // shown.rt: the answers of the book's calls as answers of the journal
 mod guarantee; // guarantee.rt: the special guarantee of lists in a row
+mod batches; // batches.rt: a batch whose bytes stand as numbers in a row
 mod calls; // calls.rt: the application of one call
 mod kept; // kept.rt: what a kept journal takes
 mod requests; // requests.rt: the request that a line of an input is

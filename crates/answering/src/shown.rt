@@ -1,9 +1,10 @@
 // The answers of the book's calls and of the special guarantee, as answers of the journal.
 ghost use mathlib.Core.Path.{_≡_};
 ghost use Rattle.file.specs.Answer.{outcomeSays, settledSays, annualSays};
-ghost use Rattle.book.specs.Call.{advancedSays, statedSays};
+ghost use Rattle.book.specs.Call.{advancedSays, statedSays, loadedSays};
 ghost use Rattle.answering.specs.Shown.{shown, guaranteeShown};
 use book::Advanced;
+use book::Loaded;
 use book::Stated;
 use file::AnnualRun;
 use file::Outcome;
@@ -50,6 +51,16 @@ pub fn advanced_shown(answer: Advanced) -> Answer
     match answer {
         Advanced::Opened(days) => Answer::Opened(days),
         Advanced::Refused(n) => Answer::Refused(n),
+    }
+}
+
+// The answer of a batch.
+pub fn loaded_shown(answer: Loaded) -> Answer
+    ensures { λ r. ⌜ r ≡ shown (loadedSays answer) ⌝ }
+{
+    match answer {
+        Loaded::Parts(n) => Answer::Batch(n as u64),
+        Loaded::Refused(n, pair) => Answer::RefusedPair(n, pair as u64),
     }
 }
 

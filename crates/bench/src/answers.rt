@@ -1,5 +1,6 @@
 // Answers as numbers, for the check sum.
 use book::Advanced;
+use book::Loaded;
 use book::Stated;
 use file::AnnualRun;
 use file::Outcome;
@@ -48,5 +49,13 @@ pub fn days(answer: Advanced) -> u64 {
     match answer {
         Advanced::Opened(days) => days as u64,
         Advanced::Refused(_) => 0,
+    }
+}
+
+// A batch's answer.
+pub fn loaded(answer: Loaded) -> u64 {
+    match answer {
+        Loaded::Parts(parts) => parts as u64,
+        Loaded::Refused(number, _) => number as u64,
     }
 }

@@ -1,9 +1,10 @@
-// A benchmark of the book: one advance over the whole calendar for 64 participants, mixed calls without and with advances, and questions. It
-// writes what was done; with an argument it makes ten times as many calls and a hundred times as many questions, and writes a sum of all
+// A benchmark of the book: one advance over the whole calendar for 64 participants, mixed calls without and with advances, questions, and
+// a month by settlements and by a batch. It writes what was done; with an argument it makes ten times as many calls and a hundred times as many questions, and writes a sum of all
 // answers and the processor time of each part too.
 use mixed::Plan;
 
 mod answers;
+mod batches;
 mod calendar_opened;
 mod calls;
 mod clock;
@@ -49,4 +50,5 @@ fn main() {
     );
     let count = if timed { 10000000 } else { 100000 };
     questions::run(timed, count);
+    batches::run(timed, rounds);
 }

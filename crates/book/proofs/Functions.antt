@@ -5,5 +5,6 @@ pub mod Begins
 pub mod Answers
 pub mod DaysOpened
 pub mod OnWords
+pub mod OnBatches
 pub mod OnPositions
 pub mod FilesInWords

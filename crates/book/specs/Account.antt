@@ -15,7 +15,9 @@ use Rattle.file.specs.Annual.{annualAnswer, annualFile}
 use Rattle.file.specs.Opening.{openedFile}
 use Rattle.file.specs.Statement.{fileStatement}
 use Rattle.layout.specs.Book.{Book}
-use Rattle.book.specs.Call.{Act, admit, lodge, release, settle, annualRun, Call, on, advance, statement, callsMade}
+use Rattle.batch.specs.Batch.{countIn, participantAt, formOf}
+use Rattle.book.specs.Call.{Act, admit, lodge, release, settle, annualRun, Call, on, advance, statement, callsMade, batch}
+use Rattle.book.specs.Call.{partAct, batchSays}
 
 -- "Fresh book on a day: no participants."
 unfoldable pub freshBook : ℕ → Book
@@ -70,6 +72,22 @@ callsAdded f t (release k a) = 0
 callsAdded f t (settle m figures) = cond (settlementCalls f t m figures) 1 0
 callsAdded f t annualRun = 0
 
+-- What a call that names participant p answers, and the book that it leaves where it is accepted.
+abbrev pub answerOn : Book → ℕ → Act → Answer
+answerOn b p a = ifNumbered p (fileAnswer (fileAt b p) (b .today .0) a)
+
+abbrev pub appliedOn : Book → ℕ → Act → Book
+appliedOn b p a = withFile b p (fileAfter (fileAt b p) (b .today .0) a) (callsAdded (fileAt b p) (b .today .0) a)
+
+-- Paper 02, Ask 1: "Parts are settled in pair order." The book after the settlements of the first k parts of a batch, each accepted ..
+unfoldable pub afterParts : Book → List ℕ → ℕ → Book
+afterParts b file zero = b
+afterParts b file (suc k) = appliedOn (afterParts b file k) (participantAt file k) (partAct file k)
+
+-- .. and what the next one answers on it.
+unfoldable pub partAnswer : Book → List ℕ → ℕ → Answer
+partAnswer b file k = answerOn (afterParts b file k) (participantAt file k) (partAct file k)
+
 -- 'Advance': "Opening day d, for every admitted participant".
 unfoldable pub openedIfAdmitted : ℕ → File → File
 openedIfAdmitted d f = cond (f .admitted) (openedFile f d) f
@@ -94,7 +112,7 @@ daysToOpen b day budget = min budget (day - b .today .0)
 
 -- What each call answers.
 unfoldable pub answer : Book → Call → Answer
-answer b (on p a) = ifNumbered p (fileAnswer (fileAt b p) (b .today .0) a)
+answer b (on p a) = answerOn b p a
 answer b (advance day budget) =
     decide refused
     (record { number = 17; holds = ltb 29219 day || ltb day (b .today .0) } ∷ [])
@@ -102,14 +120,15 @@ answer b (advance day budget) =
 answer b (statement p) =
     ifNumbered p (ifAdmitted (fileAt b p) (statementSays (fileStatement (fileAt b p) (b .today .0))))
 answer b callsMade = counted (b .made)
+answer b (batch file) = batchSays (formOf file) (partAnswer b file)
 
 -- The book that an accepted call leaves.
 unfoldable pub applied : Book → Call → Book
-applied b (on p a) =
-    withFile b p (fileAfter (fileAt b p) (b .today .0) a) (callsAdded (fileAt b p) (b .today .0) a)
+applied b (on p a) = appliedOn b p a
 applied b (advance day budget) = openDays (daysToOpen b day budget) b
 applied b (statement p) = b
 applied b callsMade = b
+applied b (batch file) = afterParts b file (countIn file)
 
 -- The book that a call leaves: a refused one leaves it as it was.
 unfoldable pub step : Book → Call → Book

@@ -2,14 +2,22 @@
 -- Assumes nothing.
 use Prim.Native.Nat.{ℕ}
 use mathlib.Core.List.{List}
+use lib.Dec.{ltb}
 use lib.IntN.{ℤ}
 use Rattle.file.specs.declared.Position.{Position}
-use mathlib.Core.Bool.{Bool, true, false}
-use Rattle.file.specs.Answer.{Answer, refused, done, called, covered, recorded, annual, daysOpened, stated, counted, statementSays}
+use mathlib.Core.Bool.{Bool, true, false, not, cond}
+use Rattle.file.specs.Answer.{Answer, refused, done, called, covered, recorded, annual, daysOpened, stated, counted, batched, refusedPair}
+use Rattle.file.specs.Answer.{accepted, statementSays}
+use Rattle.laws.specs.Least.{least}
+use Rattle.batch.specs.declared.Form.{Form}
+use Rattle.batch.specs.declared.Form.the-variants as Forms
+use Rattle.batch.specs.Batch.{monthIn, figuresAt}
 use Rattle.book.specs.declared.Advanced.{Advanced}
 use Rattle.book.specs.declared.Advanced.the-variants as Advances
 use Rattle.book.specs.declared.Stated.{Stated}
 use Rattle.book.specs.declared.Stated.the-variants as Statements
+use Rattle.book.specs.declared.Loaded.{Loaded}
+use Rattle.book.specs.declared.Loaded.the-variants as Loads
 
 -- What a call asks of one participant's file.
 pub data Act : Type 0 where
@@ -34,6 +42,8 @@ pub data Call : Type 0 where
   statement : (participant : ℕ) → Call
   -- the question for the count of calls made
   callsMade : Call
+  -- paper 02, Ask 1: "A month in one file", by its bytes
+  batch : (file : List ℕ) → Call
 
 -- The answer that each case of an advance stands for.
 abbrev pub advancedSays : Advanced → Answer
@@ -56,3 +66,41 @@ isCalled (annual a n) = false
 isCalled (daysOpened n) = false
 isCalled (stated f c s d a) = false
 isCalled (counted n) = false
+isCalled (batched n) = false
+isCalled (refusedPair n i) = false
+
+-- The answer that each case of a batch stands for.
+abbrev pub loadedSays : Loaded → Answer
+loadedSays (Loads.Parts n) = batched n
+loadedSays (Loads.Refused n i) = refusedPair n i
+
+-- Paper 02, Ask 1: what part k of a batch asks of its participant's file, the settlement of the batch's month by the part's figures.
+abbrev pub partAct : List ℕ → ℕ → Act
+partAct file k = settle (monthIn file) (figuresAt file k)
+
+-- The number of a refusal.
+abbrev pub refusalOf : Answer → ℕ
+refusalOf (refused n) = n
+refusalOf done = 0
+refusalOf (called e asked last) = 0
+refusalOf (covered e) = 0
+refusalOf (recorded e) = 0
+refusalOf (annual a n) = 0
+refusalOf (daysOpened n) = 0
+refusalOf (stated f c s d a) = 0
+refusalOf (counted n) = 0
+refusalOf (batched n) = 0
+refusalOf (refusedPair n i) = n
+
+-- The first of n settlements, each with its answer, that is refused; n where none is.
+unfoldable pub firstRefused : (ℕ → Answer) → ℕ → ℕ
+firstRefused answers n = least (λ k. not (accepted (answers k))) n
+
+-- "The first refusal is answered with its pair's index, from 0, ..; an accepted batch answers n": what a batch of this form answers, whose
+-- settlements answer so, "all three [20, 21, 22] come before any settlement".
+unfoldable pub batchSays : Form → (ℕ → Answer) → Answer
+batchSays (Forms.Refused n i) answers = refusedPair n i
+batchSays (Forms.Parts n) answers =
+    cond (ltb (firstRefused answers n) n)
+    (refusedPair (refusalOf (answers (firstRefused answers n))) (firstRefused answers n))
+    (batched n)

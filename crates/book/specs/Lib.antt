@@ -8,3 +8,4 @@ pub mod InWords
 pub mod Opened
 pub mod Positions
 pub mod Left
+pub mod Batches

@@ -11,7 +11,7 @@ use Rattle.file.specs.declared.File.{File}
 use Rattle.file.specs.Answer.{Answer}
 use Rattle.file.specs.Fields.{coverOf, shortfallOf}
 use Rattle.layout.specs.Book.{Book}
-use Rattle.book.specs.Call.{Call, on, advance, statement, callsMade}
+use Rattle.book.specs.Call.{Call, on, advance, statement, callsMade, batch}
 use Rattle.book.specs.Account.{fileAt, answer, step, run}
 use Rattle.book.specs.Reading.Events.{Own, dayOpened, act, mine, todayOf, admittedIn, roleIn}
 use Rattle.book.specs.Reading.Holdings.{coverIn}
@@ -125,6 +125,7 @@ Advances (on p a ∷ calls) = ⊥
 Advances (advance day budget ∷ calls) = Advances calls
 Advances (statement p ∷ calls) = ⊥
 Advances (callsMade ∷ calls) = ⊥
+Advances (batch file ∷ calls) = ⊥
 
 -- An advance equals any advances that open the same days: from one book, two lists of advances that come to the same day leave one book.
 pub record SameDays (b : Book) (one other : List Call) : Type 0 where

@@ -42,7 +42,7 @@ fn calls_of(answer: Settled) -> u64
 }
 
 // Whether a settlement's answer is no refusal.
-fn is_settled(answer: Settled) -> bool
+pub fn is_settled(answer: Settled) -> bool
     ensures { λ r. ⌜ r ≡ accepted (settledSays answer) ⌝ }
 {
     match answer {
@@ -122,7 +122,7 @@ pub fn admit(words: &mut [u64], participant: u64, role: u64) -> Outcome
 }
 
 // The settlement of a month on a participant's file.
-fn settle_outcome(words: &[u64], participant: u64, month: Month, figures: &[i64]) -> FileSettled
+pub fn settle_outcome(words: &[u64], participant: u64, month: Month, figures: &[i64]) -> FileSettled
     requires { ⌜ WellFormed (now words) × (participant ≤ 63) ⌝ }
     ensures { λ r. ⌜ (settledSays (r .answer)
         ≡ fileAnswer (fileInWords (now (words .entry)) participant) (todayIn (now (words .entry))) (settle (month .0) (now (figures .entry))))

@@ -1,12 +1,14 @@
 // The guarantee book, in lent words: 64 files, today, and the count of calls made (paper 01, 'The calls'). Crate `layout` says which words.
 use file::Statement;
 
+mod batches;
 mod begin;
 mod calls;
 mod days;
 mod positions;
 mod questions;
 
+pub use batches::load;
 pub use begin::fresh;
 pub use calls::admit;
 pub use calls::annual_run;
@@ -24,6 +26,12 @@ pub use questions::today;
 pub enum Advanced {
     Opened(u32),
     Refused(u32),
+}
+
+// What a batch answers: how many parts were settled, or the number of the first refusal and the index of its pair.
+pub enum Loaded {
+    Parts(u32),
+    Refused(u32, u32),
 }
 
 // What the question for a statement answers: the statement, or the number of its refusal.

@@ -15,14 +15,16 @@ use Rattle.file.specs.declared.Statement.{Statement}
 use Rattle.file.specs.Answer.{settledSays, annualSays}
 use Rattle.book.specs.declared.Advanced.{Advanced}
 use Rattle.book.specs.declared.Stated.{Stated}
-use Rattle.book.specs.Call.{advancedSays, statedSays}
+use Rattle.book.specs.declared.Loaded.{Loaded}
+use Rattle.book.specs.Call.{advancedSays, statedSays, loadedSays}
 use Rattle.special.specs.declared.Special.{Special}
 use Rattle.clib.specs.declared.GuaranteeSettled.{GuaranteeSettled}
+use Rattle.clib.specs.declared.GuaranteeBatch.{GuaranteeBatch}
 use Rattle.clib.specs.declared.GuaranteeAnnual.{GuaranteeAnnual}
 use Rattle.clib.specs.declared.GuaranteeAdvanced.{GuaranteeAdvanced}
 use Rattle.clib.specs.declared.GuaranteeStatement.{GuaranteeStatement}
 use Rattle.clib.specs.declared.GuaranteeSpecial.{GuaranteeSpecial}
-use Rattle.clib.specs.Numbers.{settledNumbers, annualNumbers, advancedNumbers, statementNumbers, specialNumbers, SmallTotal}
+use Rattle.clib.specs.Numbers.{settledNumbers, batchNumbers, annualNumbers, advancedNumbers, statementNumbers, specialNumbers, SmallTotal}
 
 -- ---- a settlement
 
@@ -68,6 +70,14 @@ pub settled-refused : (a : Settled) (n : ℕ) → a ≡ Settled.Refused n
 settled-refused a n h = same a (Settled.Refused n) h
 
 -- ---- the other answers
+
+pub batch-parts : (a : Loaded) (n : ℕ) → a ≡ Loaded.Parts n
+    → _≡_ {A = GuaranteeBatch} (record { refusal = 0; parts = n; pair = 0 }) (batchNumbers (loadedSays a))
+batch-parts a n h = sym (ap (λ (x : Loaded). batchNumbers (loadedSays x)) h)
+
+pub batch-refused : (a : Loaded) (n i : ℕ) → a ≡ Loaded.Refused n i
+    → _≡_ {A = GuaranteeBatch} (record { refusal = n; parts = 0; pair = i }) (batchNumbers (loadedSays a))
+batch-refused a n i h = sym (ap (λ (x : Loaded). batchNumbers (loadedSays x)) h)
 
 pub annual-amount : (a : AnnualRun) (n m : ℕ) → a ≡ AnnualRun.Amount n m
     → _≡_ {A = GuaranteeAnnual} (record { refusal = 0; amount = n; months = m }) (annualNumbers (annualSays a))

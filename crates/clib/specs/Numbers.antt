@@ -1,11 +1,12 @@
--- The numbers that a function of the C library returns for each answer of paper 01.
+-- The numbers that a function of the C library returns for each answer of papers 01 and 02.
 -- Assumes nothing.
 use Prim.Native.Nat.{ℕ, _≤_}
 use lib.IntN.{ℤ, pos, natAbs}
-use Rattle.file.specs.Answer.{Answer, refused, done, called, covered, recorded, annual, daysOpened, stated, counted}
+use Rattle.file.specs.Answer.{Answer, refused, done, called, covered, recorded, annual, daysOpened, stated, counted, batched, refusedPair}
 use Rattle.special.specs.declared.Special.{Special}
 use Rattle.special.specs.declared.Special.the-variants as Specials
 use Rattle.clib.specs.declared.GuaranteeSettled.{GuaranteeSettled}
+use Rattle.clib.specs.declared.GuaranteeBatch.{GuaranteeBatch}
 use Rattle.clib.specs.declared.GuaranteeAnnual.{GuaranteeAnnual}
 use Rattle.clib.specs.declared.GuaranteeAdvanced.{GuaranteeAdvanced}
 use Rattle.clib.specs.declared.GuaranteeStatement.{GuaranteeStatement}
@@ -43,15 +44,21 @@ answerNumbers (annual a n) = values a n 0 0 0
 answerNumbers (daysOpened n) = values n 0 0 0 0
 answerNumbers (stated f c s d a) = values f c s d a
 answerNumbers (counted n) = values n 0 0 0 0
+answerNumbers (batched n) = values n 0 0 0 0
+answerNumbers (refusedPair n i) = record { refusal = n; kind = 0; total = pos 0; first = 0; second = i; third = 0; fourth = 0; fifth = 0 }
 
 -- What is returned for an answer that has no values.
-abbrev pub refusalOf : Answer → ℕ
-refusalOf x = answerNumbers x .refusal
+abbrev pub refusalNumber : Answer → ℕ
+refusalNumber x = answerNumbers x .refusal
 
 -- For a settlement's.
 abbrev pub settledNumbers : Answer → GuaranteeSettled
 settledNumbers x =
     let n = answerNumbers x in record { refusal = n .refusal; kind = n .kind; total = n .total; asked = n .first; «last_free_day» = n .second }
+
+-- For a batch's (paper 02, Ask 1): how many parts were settled, or where it is refused the index of its pair.
+abbrev pub batchNumbers : Answer → GuaranteeBatch
+batchNumbers x = let n = answerNumbers x in record { refusal = n .refusal; parts = n .first; pair = n .second }
 
 -- For an annual run's.
 abbrev pub annualNumbers : Answer → GuaranteeAnnual

@@ -1,12 +1,15 @@
-// The calls that change a book (paper 01, 'The calls').
+// The calls that change a book (paper 01, 'The calls', and paper 02).
 use crate::GuaranteeAdvanced;
 use crate::GuaranteeAnnual;
+use crate::GuaranteeBatch;
 use crate::GuaranteeSettled;
 use crate::numbers::advanced_numbers;
 use crate::numbers::annual_numbers;
+use crate::numbers::batch_numbers;
 use crate::numbers::outcome_number;
 use crate::numbers::settled_numbers;
 use book::Advanced;
+use book::Loaded;
 use calendar::Day;
 use calendar::Month;
 use file::AnnualRun;
@@ -14,15 +17,15 @@ use file::Outcome;
 use file::Position;
 use file::Settled;
 ghost use Rattle.file.specs.declared.Position.the-variants.{Cash, Letter};
-ghost use Rattle.book.specs.Call.{admit, lodge, release, settle, annualRun, on, advance};
+ghost use Rattle.book.specs.Call.{admit, lodge, release, settle, annualRun, on, advance, batch};
 ghost use Rattle.book.specs.InWords.{GivenWords, BegunWords};
-ghost use Rattle.clib.specs.Numbers.{refusalOf, settledNumbers, annualNumbers, advancedNumbers};
+ghost use Rattle.clib.specs.Numbers.{refusalNumber, settledNumbers, batchNumbers, annualNumbers, advancedNumbers};
 ghost use Rattle.clib.specs.Returned.{FormedIfBook, Returned};
 
 // A fresh book on a day, in words of any content; beside the refusal 17 stands the fresh book of day 0.
 #[no_mangle]
 pub extern "C" fn guarantee_fresh(words: &mut [u64], day: u32) -> u64
-    ensures { λ r. ⌜ Returned refusalOf (now (words .entry)) (BegunWords day) r (now (words .exit)) ⌝ }
+    ensures { λ r. ⌜ Returned refusalNumber (now (words .entry)) (BegunWords day) r (now (words .exit)) ⌝ }
 {
     if words.len() != 6147 {
         return outcome_number(Outcome::Refused(100));
@@ -34,7 +37,7 @@ pub extern "C" fn guarantee_fresh(words: &mut [u64], day: u32) -> u64
 #[no_mangle]
 pub extern "C" fn guarantee_admit(words: &mut [u64], participant: u64, role: u64) -> u64
     requires { ⌜ FormedIfBook (now words) ⌝ }
-    ensures { λ r. ⌜ Returned refusalOf (now (words .entry))
+    ensures { λ r. ⌜ Returned refusalNumber (now (words .entry))
         (GivenWords (now (words .entry)) (on participant (admit role))) r (now (words .exit)) ⌝ }
 {
     if words.len() != 6147 {
@@ -52,7 +55,7 @@ pub extern "C" fn guarantee_lodge_cash(
     amount: u64,
 ) -> u64
     requires { ⌜ FormedIfBook (now words) ⌝ }
-    ensures { λ r. ⌜ Returned refusalOf (now (words .entry))
+    ensures { λ r. ⌜ Returned refusalNumber (now (words .entry))
         (GivenWords (now (words .entry)) (on participant (lodge position (Cash amount)))) r (now (words .exit)) ⌝ }
 {
     if words.len() != 6147 {
@@ -72,7 +75,7 @@ pub extern "C" fn guarantee_lodge_letter(
     last: u32,
 ) -> u64
     requires { ⌜ FormedIfBook (now words) ⌝ }
-    ensures { λ r. ⌜ Returned refusalOf (now (words .entry))
+    ensures { λ r. ⌜ Returned refusalNumber (now (words .entry))
         (GivenWords (now (words .entry)) (on participant (lodge position (Letter amount (record { 0 = first }) (record { 0 = last })))))
         r (now (words .exit)) ⌝ }
 {
@@ -92,7 +95,7 @@ pub extern "C" fn guarantee_release(
     amount: u64,
 ) -> u64
     requires { ⌜ FormedIfBook (now words) ⌝ }
-    ensures { λ r. ⌜ Returned refusalOf (now (words .entry))
+    ensures { λ r. ⌜ Returned refusalNumber (now (words .entry))
         (GivenWords (now (words .entry)) (on participant (release position amount))) r (now (words .exit)) ⌝ }
 {
     if words.len() != 6147 {
@@ -117,6 +120,19 @@ pub extern "C" fn guarantee_settle(
         return settled_numbers(Settled::Refused(100));
     }
     settled_numbers(book::settle(words, participant, Month(month), figures))
+}
+
+// Loads the file of a month for all participants: all its settlements, or none.
+#[no_mangle]
+pub extern "C" fn guarantee_batch(words: &mut [u64], file: &[u8]) -> GuaranteeBatch
+    requires { ⌜ FormedIfBook (now words) ⌝ }
+    ensures { λ r. ⌜ Returned batchNumbers (now (words .entry))
+        (GivenWords (now (words .entry)) (batch (now (file .entry)))) r (now (words .exit)) ⌝ }
+{
+    if words.len() != 6147 {
+        return batch_numbers(Loaded::Refused(100, 0));
+    }
+    batch_numbers(book::load(words, file))
 }
 
 // Runs the annual calculation of a participant.

@@ -1,8 +1,8 @@
 // The guarantee book for programs in C and other languages: each call and question of the book, and the special guarantee, as an exported
 // function on numbers and on lists that the caller lends. include/guarantee.h declares them.
 //
-// Each answer begins with its refusal: 0 for an accepted call, the number of paper 01 (1 to 19) for a refused one, or 100 for words that
-// are not as many as a book's, which are neither read nor written. A value that has no meaning beside an answer is 0.
+// Each answer begins with its refusal: 0 for an accepted call, the number of paper 01 (1 to 19) or of paper 02 (from 20 on) for a refused one, or
+// 100 for words that are not as many as a book's, which are neither read nor written. A value that has no meaning beside an answer is 0.
 mod calls; // calls.rt: the calls that change a book
 mod numbers; // numbers.rt: answers as numbers
 mod questions; // questions.rt: the questions, and the special guarantee
@@ -16,6 +16,14 @@ pub struct GuaranteeSettled {
     pub total: i64,
     pub asked: u64,
     pub last_free_day: u64,
+}
+
+// What a batch answers: how many parts were settled; where it is refused, the index from 0 of the pair that the refusal concerns.
+#[repr(C)]
+pub struct GuaranteeBatch {
+    pub refusal: u64,
+    pub parts: u64,
+    pub pair: u64,
 }
 
 // What an annual run answers: the next amount in cents, and how many months were recorded.

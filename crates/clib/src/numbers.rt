@@ -1,10 +1,12 @@
 // Answers as numbers.
 use crate::GuaranteeAdvanced;
 use crate::GuaranteeAnnual;
+use crate::GuaranteeBatch;
 use crate::GuaranteeSettled;
 use crate::GuaranteeSpecial;
 use crate::GuaranteeStatement;
 use book::Advanced;
+use book::Loaded;
 use book::Stated;
 use file::AnnualRun;
 use file::Outcome;
@@ -12,12 +14,13 @@ use file::Settled;
 use special::Special;
 ghost use mathlib.Core.Path.{_≡_};
 ghost use Rattle.file.specs.Answer.{outcomeSays, settledSays, annualSays};
-ghost use Rattle.book.specs.Call.{advancedSays, statedSays};
-ghost use Rattle.clib.specs.Numbers.{refusalOf, settledNumbers, annualNumbers, advancedNumbers, statementNumbers, specialNumbers, SmallTotal};
+ghost use Rattle.book.specs.Call.{advancedSays, statedSays, loadedSays};
+ghost use Rattle.clib.specs.Numbers.{refusalNumber, settledNumbers, batchNumbers, annualNumbers, advancedNumbers, statementNumbers};
+ghost use Rattle.clib.specs.Numbers.{specialNumbers, SmallTotal};
 
 // An outcome's number.
 pub fn outcome_number(answer: Outcome) -> u64
-    ensures { λ r. ⌜ r ≡ refusalOf (outcomeSays answer) ⌝ }
+    ensures { λ r. ⌜ r ≡ refusalNumber (outcomeSays answer) ⌝ }
 {
     match answer {
         Outcome::Done => 0,
@@ -58,6 +61,24 @@ pub fn settled_numbers(answer: Settled) -> GuaranteeSettled
             total: 0,
             asked: 0,
             last_free_day: 0,
+        },
+    }
+}
+
+// A batch's numbers.
+pub fn batch_numbers(answer: Loaded) -> GuaranteeBatch
+    ensures { λ r. ⌜ r ≡ batchNumbers (loadedSays answer) ⌝ }
+{
+    match answer {
+        Loaded::Parts(count) => GuaranteeBatch {
+            refusal: 0,
+            parts: count as u64,
+            pair: 0,
+        },
+        Loaded::Refused(number, pair) => GuaranteeBatch {
+            refusal: number as u64,
+            parts: 0,
+            pair: pair as u64,
         },
     }
 }

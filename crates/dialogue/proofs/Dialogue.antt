@@ -16,9 +16,9 @@ use Rattle.dialogue.proofs.Journal.{journal-whole, replayed}
 use Rattle.dialogue.proofs.LastLine.{last-journal, last-book}
 use Rattle.dialogue.proofs.Streams.{cut-anywhere}
 
--- For every input in every way, from every state that lines led to: a buffer of 1,024 bytes has room for every kept line, and the room for numbers
+-- For every input in every way, from every state that lines led to: a buffer of 20,480 bytes has room for every kept line, and the room for numbers
 -- is of 64 bits.
-pub dialogue : (most : ℕ) (way : Way) (room : ℕ) (s : State) (seen : List Asked) (input : List ℕ) → 1024 ≤ most → room ≤ 18446744073709551615
+pub dialogue : (most : ℕ) (way : Way) (room : ℕ) (s : State) (seen : List Asked) (input : List ℕ) → 20480 ≤ most → room ≤ 18446744073709551615
     → bookOf seen ≡ s .book → Dialogue most way room s seen input
 dialogue most way room s seen input enough small e =
     record {

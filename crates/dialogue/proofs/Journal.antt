@@ -63,7 +63,7 @@ journal-whole most way room s (l ∷ ls) =
 
 -- ---- replayed
 
-module _ (most : ℕ) (way : Way) (room : ℕ) (enough : 1024 ≤ most) (small : room ≤ 18446744073709551615) (keeps : way .keeps ≡ true) where
+module _ (most : ℕ) (way : Way) (room : ℕ) (enough : 20480 ≤ most) (small : room ≤ 18446744073709551615) (keeps : way .keeps ≡ true) where
   -- What is replayed has not ended, for nothing was refused.
   not-ended : (s t : State) → Begins s t → ended replaying (t .place) ≡ false
   unfolding ended

@@ -4,7 +4,6 @@ use Prim.Native.Nat.{ℕ, _≤_}
 use mathlib.Core.Path.{_≡_, refl, sym, ap, subst, _∙_}
 use mathlib.Core.Bool.{Bool, true, false, cond}
 use mathlib.Core.List.{List, [], _∷_, _++_}
-use native.Mathlib.Omega.{arith}
 use lib.ListN.{length}
 use Rattle.laws.specs.Cases.{and-right, cond-true}
 use Rattle.layout.specs.Book.{Book}
@@ -26,7 +25,7 @@ use Rattle.dialogue.specs.Turns.{State, next, counted, answerOf, isKept,
 use Rattle.dialogue.specs.Dialogue.{replaying}
 use Rattle.dialogue.proofs.AskLaws.{held-call}
 use Rattle.dialogue.proofs.KeptForm.{printed-text}
-use Rattle.dialogue.proofs.KeptLengths.{printed-short, few}
+use Rattle.dialogue.proofs.KeptLengths.{kept-short}
 use Rattle.dialogue.proofs.LineLaws.{is-call}
 
 -- ---- answers that are taken
@@ -52,6 +51,8 @@ unrefused (Answer.Opened d) h = refl
 unrefused (Answer.Statement f c s d m) h = refl
 unrefused (Answer.Calls n) h = refl
 unrefused (Answer.Special c) h = refl
+unrefused (Answer.Batch n) h = refl
+unrefused (Answer.RefusedPair n i) h = sym h
 unrefused (Answer.Error l e) h = sym h
 
 -- ---- what a kept line asks
@@ -121,16 +122,16 @@ module _ (room : ℕ) (text : List ℕ) (h : room ≤ 18446744073709551615) (c :
   unfolding numeric
   form-again before = ap (λ (x : Parsed). printed (x .request) (x .numbers)) (read-again before)
 
-  form-short : (b : Book) (n : ℕ) → takes (answerTo b n (asked (parsed room text .request) (parsed room text .numbers))) ≡ true → length form ≤ 1000
+  form-short : (b : Book) (n : ℕ) → takes (answerTo b n (asked (parsed room text .request) (parsed room text .numbers))) ≡ true → length form ≤ 20000
   form-short b n t =
       let r = parsed room text .request in
       let zs = parsed room text .numbers in
-      omega (arith, printed-short r zs (parsed-fitting room text h c), few b n r zs (parsed-counted room text c) t)
+      kept-short b n r zs (parsed-fitting room text h c) (parsed-counted room text c) t
 
 -- ---- taken again
 
 pub numeric-short : (way : Way) (room : ℕ) (s : State) (l : List ℕ) → room ≤ 18446744073709551615 → isKept way room s l ≡ true
-    → length (numeric room (s .place .line) l) ≤ 1000
+    → length (numeric room (s .place .line) l) ≤ 20000
 unfolding numeric
 numeric-short way room s l h e =
     let k = kept-is way room s l e in form-short room (textOf (s .place .line) l) h (k .call) (s .book) (next (s .place .line)) (k .taken)

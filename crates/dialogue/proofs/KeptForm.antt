@@ -56,6 +56,7 @@ first-byte (Request.Advance t b) zs = refl
 first-byte (Request.Statement p) zs = refl
 first-byte Request.Calls zs = refl
 first-byte (Request.Special n) zs = refl
+first-byte (Request.Batch n) zs = refl
 first-byte Request.Report zs = refl
 first-byte (Request.Error e) zs = refl
 

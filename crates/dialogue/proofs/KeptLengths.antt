@@ -1,37 +1,34 @@
--- The most bytes of a kept line: it has at most 16 numbers.
+-- The most bytes of a kept line: it has at most 16 numbers, or the 8,836 bytes of a batch.
 -- Assumes nothing.
-use Prim.Native.Nat.{ℕ, _+_, _*_, _≤_}
+use Prim.Native.Nat.{ℕ, _+_, _*_, _≤_, min}
 use mathlib.Core.Path.{_≡_, refl, sym, ap, _∙_}
 use mathlib.Core.Bool.{Bool, true, false}
 use mathlib.Core.List.{List, [], _∷_, _++_, map}
 use native.Mathlib.Omega.{arith}
-use borrow.Author.Tests.{ltb-false}
-use lib.Dec.{ltb}
 use lib.IntN.{ℤ, pos, negsuc}
 use lib.Signed.{mag}
-use lib.ListN.{length, take, drop, length-append, length-take, length-drop}
-use Rattle.laws.specs.Cases.{split, clash, cond-true, cond-false, or-second}
+use lib.ListN.{length, take, drop, length-append, length-take, length-drop, length-map}
+use Rattle.laws.specs.Cases.{clash}
 use Rattle.laws.specs.Lists.{All}
-use Rattle.manual.specs.Figures.{wrongCount}
 use Rattle.special.specs.declared.Special.{Special}
 use Rattle.special.specs.declared.Special.the-variants as Specials
 use Rattle.file.specs.Answer as Said
-use Rattle.file.specs.Answer.{decide, accepted}
-use Rattle.file.specs.DecideLaws.{none-holds}
-use Rattle.file.specs.Settle.{settleAnswer}
+use Rattle.file.specs.Answer.{accepted}
 use Rattle.layout.specs.Book.{Book}
-use Rattle.book.specs.Account.{answer, fileAt, fileAnswer, ifNumbered, ifAdmitted}
-use Rattle.book.specs.Call.{on, settle}
+use Rattle.book.specs.Account.{answer}
+use Rattle.book.specs.Call.{on, settle, batch}
 use Rattle.journal.specs.Grammar.{areMarks, lengthList}
 use Rattle.journal.specs.declared.Request.{Request}
 use Rattle.journal.proofs.Counts.{countOf}
 use Rattle.printing.specs.Decimals.{decimal, integer, spaced, joined}
 use Rattle.printing.specs.PlacedLaws.{spaced-append}
 use Rattle.printing.specs.Lines.{cut, listWords, callWords, printed, Natural64, Holds, Hold, Fitting}
-use Rattle.answering.specs.Asked.{asked, answerTo, guaranteeOf}
+use Rattle.printing.proofs.HexLaws.{batch-short}
+use Rattle.answering.specs.Asked.{asked, answerTo, guaranteeOf, byteOf, fileIn}
 use Rattle.answering.specs.Kept.{takes}
 use Rattle.answering.specs.Shown.{shown, guaranteeShown}
 use Rattle.dialogue.specs.Said.{Small}
+use Rattle.dialogue.proofs.BatchLength.{settle-few, batch-length}
 use Rattle.dialogue.proofs.Lengths.{number-short, integer-short}
 
 -- ---- the words of a call
@@ -84,8 +81,12 @@ lists-short (m ∷ ms) (k ∷ ks) zs h n =
 natural : (n : ℕ) → Natural64 n → length (decimal n) ≤ 20
 natural n h = number-short n (omega arith)
 
+-- A batch, as a line.
+file-short : (n : ℕ) (zs : List ℤ) → length (printed (Request.Batch n) zs) ≤ 200 + 22 * length zs
+file-short n zs = omega (arith, batch-short n zs)
+
 -- A call whose numbers fit their types, as a line.
-pub printed-short : (r : Request) (zs : List ℤ) → Fitting r zs → length (printed r zs) ≤ 200 + 22 * length zs
+printed-short : (r : Request) (zs : List ℤ) → Fitting r zs → length (printed r zs) ≤ 200 + 22 * length zs
 unfolding printed callWords joined spaced
 printed-short Request.Nothing zs f = omega arith
 printed-short (Request.Fresh d) zs f = simp length-append (omega (arith, natural (d .0) (omega (arith, f .0))))
@@ -102,28 +103,11 @@ printed-short (Request.Advance t b) zs f = simp length-append (omega (arith, nat
 printed-short (Request.Statement p) zs f = simp length-append (omega (arith, natural p (f .0)))
 printed-short Request.Calls zs f = omega arith
 printed-short (Request.Special n) zs f = simp length-append (omega (arith, lists-short areMarks (lengthList n) zs (f .2) (f .0)))
+printed-short (Request.Batch n) zs f = file-short n zs
 printed-short Request.Report zs f = omega arith
 printed-short (Request.Error e) zs f = absurd f
 
--- ---- an accepted call's numbers
-
--- An accepted answer is that behind the causes.
-behind-causes : (causes : List Said.Cause) (x : Said.Answer) → accepted (decide Said.refused causes x) ≡ true → accepted x ≡ true
-unfolding decide
-behind-causes [] x e = e
-behind-causes (c ∷ causes) x e =
-    split (c .holds) (λ h. clash {t = false} (sym (ap accepted (cond-true _ (Said.refused (c .number)) (decide Said.refused causes x) h)) ∙ e) refl)
-    (λ h. behind-causes causes x (sym (ap accepted (cond-false _ (Said.refused (c .number)) (decide Said.refused causes x) h)) ∙ e))
-
-settle-few : (b : Book) (p m : ℕ) (figures : List ℤ) → accepted (answer b (on p (settle m figures))) ≡ true → length figures ≤ 16
-unfolding answer ifNumbered fileAnswer ifAdmitted settleAnswer wrongCount
-settle-few b p m figures e =
-    let f = fileAt b p in
-    let t = b .today .0 in
-    let x = behind-causes _ (fileAnswer f t (settle m figures)) e in
-    let y = behind-causes _ (settleAnswer f t m figures) x in
-    let h = none-holds _ _ y in
-    omega (arith, ltb-false 16 (length figures) (or-second (ltb (length figures) 5) (ltb 16 (length figures)) (h .1 .0)))
+-- ---- a kept call's numbers
 
 -- The answer of a special guarantee is not kept.
 special-untaken : (x : Special) → takes (guaranteeShown x) ≡ false
@@ -141,22 +125,33 @@ taken-accepted (Said.annual a n) h = refl
 taken-accepted (Said.daysOpened n) h = refl
 taken-accepted (Said.stated f c s d a) h = refl
 taken-accepted (Said.counted n) h = refl
+taken-accepted (Said.batched n) h = refl
+taken-accepted (Said.refusedPair n i) h = h
 
--- A kept call has at most 16 numbers: those of a settlement.
-pub few : (b : Book) (k : ℕ) (r : Request) (zs : List ℤ) → countOf r ≡ length zs → takes (answerTo b k (asked r zs)) ≡ true → length zs ≤ 16
-few b k Request.Nothing zs e h = omega arith
-few b k (Request.Fresh d) zs e h = omega arith
-few b k (Request.Admit p r) zs e h = omega arith
-few b k (Request.LodgeCash p q a) zs e h = omega arith
-few b k (Request.LodgeLetter p q a f l) zs e h = omega arith
-few b k (Request.Release p q a) zs e h = omega arith
-few b k (Request.Settle p m n) zs e h =
+-- The bytes of an accepted batch.
+batch-few : (b : Book) (n : ℕ) (zs : List ℤ) → n ≡ length zs → accepted (answer b (batch (fileIn n zs))) ≡ true → length zs ≤ 8836
+unfolding fileIn
+batch-few b n zs e h =
+    omega (arith, batch-length b (fileIn n zs) h, length-map (take (min n 32768) zs) byteOf, length-take (min n 32768) zs)
+
+-- A kept call has room: at most 16 figures of a settlement or 8,836 bytes of a batch are printed.
+pub kept-short : (b : Book) (k : ℕ) (r : Request) (zs : List ℤ) → Fitting r zs → countOf r ≡ length zs → takes (answerTo b k (asked r zs)) ≡ true
+    → length (printed r zs) ≤ 20000
+kept-short b k Request.Nothing zs f e h = omega (arith, printed-short Request.Nothing zs f)
+kept-short b k (Request.Fresh d) zs f e h = omega (arith, printed-short (Request.Fresh d) zs f)
+kept-short b k (Request.Admit p r) zs f e h = omega (arith, printed-short (Request.Admit p r) zs f)
+kept-short b k (Request.LodgeCash p q a) zs f e h = omega (arith, printed-short (Request.LodgeCash p q a) zs f)
+kept-short b k (Request.LodgeLetter p q a l m) zs f e h = omega (arith, printed-short (Request.LodgeLetter p q a l m) zs f)
+kept-short b k (Request.Release p q a) zs f e h = omega (arith, printed-short (Request.Release p q a) zs f)
+kept-short b k (Request.Settle p m n) zs f e h =
     let x : accepted (answer b (on p (settle (m .0) (take n zs)))) ≡ true = taken-accepted (answer b (on p (settle (m .0) (take n zs)))) h in
-    omega (arith, settle-few b p (m .0) (take n zs) x, length-take n zs)
-few b k (Request.Annual p) zs e h = omega arith
-few b k (Request.Advance t n) zs e h = omega arith
-few b k (Request.Statement p) zs e h = omega arith
-few b k Request.Calls zs e h = omega arith
-few b k (Request.Special n) zs e h = clash {t = false} (sym (special-untaken (guaranteeOf n zs)) ∙ h) refl
-few b k Request.Report zs e h = omega arith
-few b k (Request.Error w) zs e h = omega arith
+    omega (arith, printed-short (Request.Settle p m n) zs f, settle-few b p (m .0) (take n zs) x, length-take n zs)
+kept-short b k (Request.Annual p) zs f e h = omega (arith, printed-short (Request.Annual p) zs f)
+kept-short b k (Request.Advance t n) zs f e h = omega (arith, printed-short (Request.Advance t n) zs f)
+kept-short b k (Request.Statement p) zs f e h = omega (arith, printed-short (Request.Statement p) zs f)
+kept-short b k Request.Calls zs f e h = omega (arith, printed-short Request.Calls zs f)
+kept-short b k (Request.Special n) zs f e h = clash {t = false} (sym (special-untaken (guaranteeOf n zs)) ∙ h) refl
+kept-short b k (Request.Batch n) zs f e h =
+    omega (arith, batch-short n zs, batch-few b n zs e (taken-accepted (answer b (batch (fileIn n zs))) h))
+kept-short b k Request.Report zs f e h = omega (arith, printed-short Request.Report zs f)
+kept-short b k (Request.Error w) zs f e h = absurd f

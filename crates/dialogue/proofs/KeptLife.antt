@@ -41,7 +41,7 @@ module _ (most room : ℕ) where
       record { whole = refl; replayed = record { book = b .book; kept = b .kept; refused = b .refused; again = refl } }
 
   -- For every list of sessions that keep.
-  pub kept-life : 1024 ≤ most → room ≤ 18446744073709551615 → (s t : State) → Begins s t → (sittings : List Sitting) → AllKeep sittings
+  pub kept-life : 20480 ≤ most → room ≤ 18446744073709551615 → (s t : State) → Begins s t → (sittings : List Sitting) → AllKeep sittings
       → KeptLife most room s t sittings
   unfolding sittingsJournal sittingsEnd
   kept-life enough small s t b [] k = none-kept s t b

@@ -38,7 +38,7 @@ unfolding integer
 integer-short (pos n) h = omega (arith, number-short n h)
 integer-short (negsuc n) h = omega (arith, decimal-short 19 (suc n) (omega arith))
 
-reason-short : (e : Reason) → length (reasonText e) ≤ 40
+reason-short : (e : Reason) → length (reasonText e) ≤ 41
 reason-short Reason.ControlByte = omega arith
 reason-short Reason.NoCall = omega arith
 reason-short Reason.TooFewWords = omega arith
@@ -48,6 +48,7 @@ reason-short Reason.NotDay = omega arith
 reason-short Reason.NotMonth = omega arith
 reason-short Reason.NotRole = omega arith
 reason-short Reason.NotCashOrLetter = omega arith
+reason-short Reason.NotHex = omega arith
 reason-short Reason.TooLong = omega arith
 reason-short Reason.FreshLater = omega arith
 reason-short Reason.NoNewline = omega arith
@@ -71,4 +72,6 @@ said-short (Answer.Statement f c s d m) h =
     (arith, number-short f (h .0), number-short c (h .1), number-short s (h .2), number-short d (h .3), number-short m (h .4)))
 said-short (Answer.Calls n) h = simp length-append (omega (arith, number-short n h))
 said-short (Answer.Special c) h = simp length-append (omega (arith, number-short c h))
+said-short (Answer.Batch n) h = simp length-append (omega (arith, number-short n h))
+said-short (Answer.RefusedPair n i) h = simp length-append (omega (arith, number-short n (h .0), number-short i (h .1)))
 said-short (Answer.Error l e) h = simp length-append (omega (arith, number-short l h, reason-short e))

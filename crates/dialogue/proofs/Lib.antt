@@ -4,6 +4,7 @@ pub mod AskLaws
 pub mod Spoken
 pub mod Lengths
 pub mod ReportLength
+pub mod BatchLength
 pub mod KeptLengths
 pub mod LineLaws
 pub mod Decided

@@ -35,7 +35,7 @@ use Rattle.dialogue.specs.Said.{speaks, Spoken, said, Said, wantsTable, 
 use Rattle.dialogue.specs.Turns.{next, counted, further, answerOf, isKept, after, bytesOf, numeric, journalOf}
 use Rattle.dialogue.specs.Answers.{stateOf, LineTaken}
 use Rattle.dialogue.proofs.AskLaws.{held-call}
-use Rattle.dialogue.proofs.KeptLengths.{printed-short, few}
+use Rattle.dialogue.proofs.KeptLengths.{kept-short}
 use Rattle.dialogue.proofs.Lengths.{said-short}
 use Rattle.dialogue.proofs.ReportLength.{report-short}
 
@@ -110,6 +110,7 @@ is-call b n (Request.Advance t k) ys h = tt
 is-call b n (Request.Statement p) ys h = tt
 is-call b n Request.Calls ys h = tt
 is-call b n (Request.Special k) ys h = tt
+is-call b n (Request.Batch k) ys h = tt
 is-call b n Request.Report ys h = tt
 is-call b n (Request.Error e) ys h = clash {t = false} h refl
 
@@ -145,15 +146,15 @@ kept-printed l room q ys k =
     ∙ ap (λ (zs : List ℤ). printed (parsed room l .request) zs ++ (10 ∷ [])) (k .mine)
 
 -- It has room.
-kept-short : (b : Book) (n : ℕ) (l : List ℕ) (room : ℕ) (q : Request) (ys : List ℤ) → room ≤ 18446744073709551615 → KeptCall l room q ys
-    → takes (answerTo b n (asked q ys)) ≡ true → length (printed (parsed room l .request) (parsed room l .numbers)) ≤ 1000
-kept-short b n l room q ys h k t =
+room-kept : (b : Book) (n : ℕ) (l : List ℕ) (room : ℕ) (q : Request) (ys : List ℤ) → room ≤ 18446744073709551615 → KeptCall l room q ys
+    → takes (answerTo b n (asked q ys)) ≡ true → length (printed (parsed room l .request) (parsed room l .numbers)) ≤ 20000
+room-kept b n l room q ys h k t =
     let r = parsed room l .request in
     let zs = parsed room l .numbers in
     let e : asked q ys ≡ asked r zs =
     ap (λ (z : Request). asked z ys) (k .same) ∙ sym (asked-cut r ys) ∙ ap (asked r) (k .mine) in
     let t2 : takes (answerTo b n (asked r zs)) ≡ true = subst (λ (a : Asked). takes (answerTo b n a) ≡ true) e t in
-    omega (arith, printed-short r zs (parsed-fitting room l h (k .call)), few b n r zs (parsed-counted room l (k .call)) t2)
+    kept-short b n r zs (parsed-fitting room l h (k .call)) (parsed-counted room l (k .call)) t2
 
 -- A kept line's request was not held back.
 held-kept : (way : Way) (p : Place) (l : List ℕ) (zs ys : List ℤ) (request : Request) → LineAsked way p l zs request ys → IsCall request
@@ -209,7 +210,7 @@ module _ (way : Way) (p : Place) (l : List ℕ) (zs ys : List ℤ) (request : Re
         (λ h. rw (kept-line, h) (kept-printed (textOf (p .line) l) (length zs) request ys (taken-call h)))
         (λ h. rw (kept-line, h) refl)
 
-    journal-few : length zs ≤ 18446744073709551615 → length (journalOf way (length zs) (stateOf words p) l) ≤ 1024
+    journal-few : length zs ≤ 18446744073709551615 → length (journalOf way (length zs) (stateOf words p) l) ≤ 20480
     unfolding journalOf numeric
     journal-few long =
         split t
@@ -218,7 +219,7 @@ module _ (way : Way) (p : Place) (l : List ℕ) (zs ys : List ℤ) (request : Re
         (omega (
           arith,
           length-append (printed (parsed (length zs) (textOf (p .line) l) .request) (parsed (length zs) (textOf (p .line) l) .numbers)) (10 ∷ []),
-          kept-short (bookOfWords words) number (textOf (p .line) l) (length zs) request ys long (taken-call h)
+          room-kept (bookOfWords words) number (textOf (p .line) l) (length zs) request ys long (taken-call h)
               (ap takes (sym (given .given .answered)) ∙ and-right (way .keeps) (takes answer) (sym kept ∙ h)),
         )))
         (λ h. rw (kept-line, h) (omega arith))

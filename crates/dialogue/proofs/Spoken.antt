@@ -48,5 +48,11 @@ module _ (a : Answer) where
     pub says-special : (n : ℕ) → a ≡ Answer.Special n → (r ≡ true) × Small n → Spoken a r
     says-special n e h = rw e (record { whether = h .0; small = h .1 })
 
+    pub says-batch : (n : ℕ) → a ≡ Answer.Batch n → (r ≡ true) × Small n → Spoken a r
+    says-batch n e h = rw e (record { whether = h .0; small = h .1 })
+
+    pub says-refused-pair : (n i : ℕ) → a ≡ Answer.RefusedPair n i → (r ≡ true) × Small n × Small i → Spoken a r
+    says-refused-pair n i e h = rw e (record { whether = h .0; small = (h .1, h .2) })
+
     pub says-error : (n : ℕ) (w : Reason) → a ≡ Answer.Error n w → (r ≡ true) × Small n → Spoken a r
     says-error n w e h = rw e (record { whether = h .0; small = h .1 })

@@ -43,12 +43,12 @@ behind bs e f at r x h =
 
 module _ (way : Way) (p : Place) (j a r b : ℕ) (g : goesOn way p j a r b ≡ true) where
   -- there is room for its bytes
-  goes-room : (1024 ≤ a - j) × (16384 ≤ b - r)
+  goes-room : (20480 ≤ a - j) × (16384 ≤ b - r)
   unfolding goesOn
   goes-room =
-      let h = and-right (not (ended way p) && (way .batch || eqb j 0)) (leb 1024 (a - j) && leb 16384 (b - r)) g in (
-        leb-true 1024 (a - j) (and-left (leb 1024 (a - j)) (leb 16384 (b - r)) h),
-        leb-true 16384 (b - r) (and-right (leb 1024 (a - j)) (leb 16384 (b - r)) h),
+      let h = and-right (not (ended way p) && (way .batch || eqb j 0)) (leb 20480 (a - j) && leb 16384 (b - r)) g in (
+        leb-true 20480 (a - j) (and-left (leb 20480 (a - j)) (leb 16384 (b - r)) h),
+        leb-true 16384 (b - r) (and-right (leb 20480 (a - j)) (leb 16384 (b - r)) h),
       )
 
   -- and the lines have not ended
@@ -57,7 +57,7 @@ module _ (way : Way) (p : Place) (j a r b : ℕ) (g : goesOn way p j a r b ≡ t
   going =
       not-true (ended way p)
       (and-left (not (ended way p)) (way .batch || eqb j 0)
-      (and-left (not (ended way p) && (way .batch || eqb j 0)) (leb 1024 (a - j) && leb 16384 (b - r)) g))
+      (and-left (not (ended way p) && (way .batch || eqb j 0)) (leb 20480 (a - j) && leb 16384 (b - r)) g))
 
 -- ---- lines one after the other, and one more
 
@@ -172,7 +172,7 @@ module _ (way : Way) (room : ℕ) (s : State) (input words m : List ℕ) (p q : 
   one-more : linesIn (take (end + 1) input) ≡ lines ++ (line ∷ [])
   one-more = lines-more input start end at-end more (before .whole)
 
-  room-left : (1024 ≤ length j - x) × (16384 ≤ length f - at)
+  room-left : (20480 ≤ length j - x) × (16384 ≤ length f - at)
   room-left = goes-room way p x (length j) at (length f) goes
 
   not-ended : ended way (afterAll way room s lines .place) ≡ false
@@ -256,7 +256,7 @@ done way room s t input k f used end j r x at-end h =
 
 -- Whether one more line is taken, as the code tests it.
 pub goes : (way : Way) (p : Place) (j a r b : ℕ) (t : Bool)
-    → t ≡ ((not (way .bails && ltb 0 (p .refused)) && (way .batch || eqb j 0)) && (leb 1024 (a - j) && leb 16384 (b - r))) → t ≡ goesOn way p j a r b
+    → t ≡ ((not (way .bails && ltb 0 (p .refused)) && (way .batch || eqb j 0)) && (leb 20480 (a - j) && leb 16384 (b - r))) → t ≡ goesOn way p j a r b
 unfolding goesOn ended
 goes way p j a r b t e = e
 

@@ -19,7 +19,7 @@ use Rattle.dialogue.specs.Decided.{decidedBytes}
 
 -- The most bytes that one line adds to the journal and to the answers.
 abbrev pub mostKept : ℕ
-mostKept = 1024
+mostKept = 20480
 
 abbrev pub mostSaid : ℕ
 mostSaid = 16384

@@ -29,6 +29,8 @@ speaks (Answer.Opened d) = true
 speaks (Answer.Statement f c s d m) = true
 speaks (Answer.Calls n) = true
 speaks (Answer.Special c) = true
+speaks (Answer.Batch n) = true
+speaks (Answer.RefusedPair n i) = true
 speaks (Answer.Error l e) = true
 
 -- The numbers of an answer are of 64 bits.
@@ -47,6 +49,8 @@ SmallNumbers (Answer.Opened d) = Small d
 SmallNumbers (Answer.Statement f c s d m) = Small f × Small c × Small s × Small d × Small m
 SmallNumbers (Answer.Calls n) = Small n
 SmallNumbers (Answer.Special c) = Small c
+SmallNumbers (Answer.Batch n) = Small n
+SmallNumbers (Answer.RefusedPair n i) = Small n × Small i
 SmallNumbers (Answer.Error l e) = Small l
 
 -- Whether an answer says something is r; its numbers are small.
@@ -73,6 +77,7 @@ wantsTable (Request.Advance t n) = false
 wantsTable (Request.Statement p) = false
 wantsTable Request.Calls = false
 wantsTable (Request.Special n) = false
+wantsTable (Request.Batch n) = false
 wantsTable (Request.Error e) = false
 
 -- `report`: the table of the book.

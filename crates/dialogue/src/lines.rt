@@ -18,7 +18,7 @@ use answering::is_refusal;
 use std::num::wrapping_add_u64;
 
 // The most bytes that one line adds to the journal and to the answers.
-const MOST_KEPT: usize = 1024;
+const MOST_KEPT: usize = 20480;
 
 const MOST_SAID: usize = 16384;
 

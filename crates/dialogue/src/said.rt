@@ -71,6 +71,8 @@ fn speaks(answer: Answer) -> bool
         Answer::Statement(f, c, s, d, m) => five(f, c, s, d, m),
         Answer::Calls(n) => one(n),
         Answer::Special(cents) => one(cents),
+        Answer::Batch(n) => one(n),
+        Answer::RefusedPair(n, pair) => two(n as u64, pair),
         Answer::Error(line, _) => one(line),
         Answer::Nothing => false,
     }
@@ -93,6 +95,7 @@ fn wants_table(request: Request) -> bool
         Request::Statement(_) => false,
         Request::Calls => false,
         Request::Special(_) => false,
+        Request::Batch(_) => false,
         Request::Report => true,
         Request::Error(_) => false,
     }

@@ -6,6 +6,8 @@ use Rattle.figures.proofs.Positions.{positions}
 use Rattle.figures.proofs.Settlements.{settlements}
 use Rattle.figures.proofs.Guarantees.{guarantees}
 use Rattle.figures.proofs.Decisions.{decisions}
+use Rattle.figures.proofs.Files.{files}
+use Rattle.figures.proofs.Batches.{batches}
 
 pub boundaries : Boundaries
 boundaries =
@@ -15,4 +17,6 @@ boundaries =
       settlements = settlements;
       guarantees = guarantees;
       decisions = decisions;
+      files = files;
+      batches = batches;
     }

@@ -4,4 +4,6 @@ pub mod Positions
 pub mod Settlements
 pub mod Guarantees
 pub mod Decisions
+pub mod Files
+pub mod Batches
 pub mod Boundaries

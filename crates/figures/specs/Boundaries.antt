@@ -1,12 +1,14 @@
 -- Facts worked out by hand on each side of every bound and condition of the definitions that the book's account and the reading of the history
 -- share, and of the special guarantee, which has one account. A mistake in one of these would be the same in both accounts, so that the claim
--- about all histories could not show it. Each fact has the sentence of paper 01 that it is worked out from; proofs/Boundaries.antt closes them.
+-- about all histories could not show it. Each fact has the sentence of paper 01 or 02 that it is worked out from; proofs/Boundaries.antt closes them.
 -- Assumes nothing.
 use Rattle.figures.specs.Dates.{Dates}
 use Rattle.figures.specs.Positions.{Positions}
 use Rattle.figures.specs.Settlements.{Settlements}
 use Rattle.figures.specs.Guarantees.{Guarantees}
 use Rattle.figures.specs.Decisions.{Decisions}
+use Rattle.figures.specs.Files.{Files}
+use Rattle.figures.specs.Batches.{Batches}
 
 pub record Boundaries : Type 0 where
   pub dates : Dates
@@ -14,3 +16,5 @@ pub record Boundaries : Type 0 where
   pub settlements : Settlements
   pub guarantees : Guarantees
   pub decisions : Decisions
+  pub files : Files
+  pub batches : Batches

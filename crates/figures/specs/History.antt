@@ -7,7 +7,7 @@ use Rattle.file.specs.declared.Position.the-variants.{Cash, Letter}
 use Rattle.file.specs.Answer.{Answer}
 use Rattle.book.specs.Call.{admit, lodge, release, settle, annualRun, Call, on, advance}
 use Rattle.book.specs.Account.{fileAt, answer, run}
-use Rattle.book.specs.Reading.Events.{mine}
+use Rattle.book.specs.Reading.Events.{Event, Own, mine}
 use Rattle.book.specs.Reading.Charges.{openingShortfall, accruedIn}
 use Rattle.book.specs.Reading.Decisions.{decision, eventsOf}
 
@@ -23,6 +23,13 @@ decides s calls c = decision s (eventsOf s (newestFirst calls [])) c
 -- What the book answers to it.
 unfoldable pub answers : ℕ → List Call → Call → Answer
 answers s calls c = answer (run s (newestFirst calls [])) c
+
+-- The events of these calls, and participant p's part of them.
+unfoldable pub happened : ℕ → List Call → List Event
+happened s calls = eventsOf s (newestFirst calls [])
+
+unfoldable pub happenedTo : ℕ → ℕ → List Call → List Own
+happenedTo p s calls = mine p (happened s calls)
 
 -- Participant 0's accrued charge after these calls, by the reading and in the book; and the shortfalls, by the reading, at the openings of
 -- some days.

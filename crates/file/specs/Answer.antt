@@ -35,6 +35,10 @@ pub data Answer : Type 0 where
   stated : ℕ → ℕ → ℕ → ℕ → ℕ → Answer
   -- "one count of calls made .. a question of its own shows it"
   counted : ℕ → Answer
+  -- paper 02, Ask 1: "an accepted batch answers n"
+  batched : ℕ → Answer
+  -- .. "The first refusal is answered with its pair's index": the number, and the index
+  refusedPair : ℕ → ℕ → Answer
 
 -- Whether an answer is no refusal.
 abbrev pub accepted : Answer → Bool
@@ -47,6 +51,8 @@ accepted (annual a n) = true
 accepted (daysOpened n) = true
 accepted (stated f c s d a) = true
 accepted (counted n) = true
+accepted (batched n) = true
+accepted (refusedPair n i) = false
 
 -- The answer that each case of an outcome stands for.
 abbrev pub outcomeSays : Outcome → Answer

@@ -17,15 +17,23 @@ fn day(number: u64) -> Day {
 }
 
 // Plays the first `calls` calls of the words on a fresh book, and prints its answers.
-fn answer(start: Day, words: &[u64; 2400], figures: &[i64; 4096], calls: usize)
+fn answer(start: Day, words: &[u64; 2400], figures: &[i64; 4096], files: &[u8; 8192], calls: usize)
     requires { ⌜ calls ≤ 400 ⌝ }
 {
     let end = calls * 6;
     let all_words = &words[..];
     let all_figures = &figures[..];
+    let all_files = &files[..];
     let mut out = [0i64; 2400];
     let mut book = [0u64; 6147];
-    replay::replay(start, &all_words[..end], all_figures, &mut out, &mut book);
+    replay::replay(
+        start,
+        &all_words[..end],
+        all_figures,
+        all_files,
+        &mut out,
+        &mut book,
+    );
     print::print_answers(&out, calls);
 }
 
@@ -37,8 +45,16 @@ fn play(text: &[u8]) {
     let calls = load::played(count.size);
     let mut words = [0u64; 2400];
     let mut figures = [0i64; 4096];
-    load::load(text, count.next, &mut words, &mut figures, calls);
-    answer(day(start.size), &words, &figures, calls);
+    let mut files = [0u8; 8192];
+    load::load(
+        text,
+        count.next,
+        &mut words,
+        &mut figures,
+        &mut files,
+        calls,
+    );
+    answer(day(start.size), &words, &figures, &files, calls);
 }
 
 // Plays the history with a number, and answers whether there was one.

@@ -1,4 +1,5 @@
--- The counts that a call carries: a settlement has as many numbers as it says, and a special guarantee as many as its lists are long.
+-- The counts that a call carries: a settlement and a batch have as many numbers as they say, and a special guarantee as many as its lists are
+-- long.
 -- Assumes nothing.
 use Prim.Native.Nat.{ℕ, _-_}
 use mathlib.Core.Path.{_≡_, refl, ap, _∙_}
@@ -13,11 +14,12 @@ use Rattle.laws.specs.Lists.{all-default}
 use Rattle.calendar.specs.declared.Month.{Month}
 use Rattle.words.specs.Bytes.{control, some, uncommented}
 use Rattle.words.specs.Words.{words, placeIn}
+use Rattle.words.specs.Hex.{bytesOfHex}
 use Rattle.journal.specs.Names.{callNames}
-use Rattle.journal.specs.Fields.{Left, more, fault, fieldOf, closed, figuresOf, listOf, onLists, listsOf}
+use Rattle.journal.specs.Fields.{Left, more, fault, fieldOf, closed, figuresOf, listOf, onLists, listsOf, fileOf, checkedFile, ended}
 use Rattle.journal.specs.Grammar.{Parsed, plain, areMarks, lengthsOf, lengthList, total, dayNumbered, monthNumbered}
 use Rattle.journal.specs.Grammar.{freshOf, admitOf, cashOf, letterOf, lodgeOf, releaseOf, settleOf}
-use Rattle.journal.specs.Grammar.{annualOf, advanceOf, statementOf, specialOf, callsOf, namedCall, wordsOf, parsed}
+use Rattle.journal.specs.Grammar.{annualOf, advanceOf, statementOf, specialOf, filed, batchOf, callsOf, namedCall, wordsOf, parsed}
 use Rattle.journal.specs.declared.Reason.{Reason}
 use Rattle.journal.specs.declared.Request.{Request}
 use Rattle.journal.specs.declared.fields.Kind.{Kind}
@@ -38,6 +40,7 @@ countOf (Request.Advance t b) = 0
 countOf (Request.Statement p) = 0
 countOf Request.Calls = 0
 countOf (Request.Special n) = total (lengthList n)
+countOf (Request.Batch n) = n
 countOf Request.Report = 0
 countOf (Request.Error e) = 0
 
@@ -55,6 +58,7 @@ IsCall (Request.Advance t b) = Unit {0}
 IsCall (Request.Statement p) = Unit {0}
 IsCall Request.Calls = Unit {0}
 IsCall (Request.Special n) = Unit {0}
+IsCall (Request.Batch n) = Unit {0}
 IsCall Request.Report = Unit {0}
 IsCall (Request.Error e) = ⊥
 
@@ -163,13 +167,23 @@ special-counted room l =
     closed-counted (t .left) (Request.Special (lengthsOf (t .lengths))) (t .numbers)
     (ap total (seven-lengths (t .lengths) (lists-many areMarks room l)) ∙ lists-total areMarks room l)
 
+filed-counted : (l : Left) (zs : List ℤ) → Counted (filed l zs)
+unfolding filed Counted
+filed-counted (more ws) zs c = refl
+filed-counted (fault e) zs c = absurd c
+
+batch-counted : (room : ℕ) (l : Left) → Counted (batchOf room l)
+unfolding batchOf
+batch-counted room l =
+    let f = fileOf l in filed-counted (ended (checkedFile room (f .word) (f .left))) (bytesOfHex (f .word))
+
 call-counted : (room k : ℕ) (l : Left) → Counted (namedCall room k l)
 unfolding namedCall callsOf Counted
 call-counted room k l =
     all-default Counted (callsOf room l) k (plain (Request.Error Reason.NoCall)) (λ c. absurd c)
     (fresh-counted l & admit-counted l & lodge-counted l & release-counted l & settle-counted room l & annual-counted l
     & advance-counted l & statement-counted l & plain-counted l Request.Calls refl & special-counted room l
-    & plain-counted l Request.Report refl & tt)
+    & plain-counted l Request.Report refl & batch-counted room l & tt)
 
 words-counted : (room : ℕ) (ws : List (List ℕ)) → Counted (wordsOf room ws)
 unfolding wordsOf Counted

@@ -9,12 +9,13 @@ use Rattle.words.specs.Text.{text}
 use Rattle.words.specs.Bytes.{blank, control, digit, some, each, uncommented, same}
 use Rattle.words.specs.Words.{apart, onto, words, placeIn}
 use Rattle.words.specs.Numerals.{natural, valueFrom, naturalOf, unsignedOf, negativeOf, signedOf}
+use Rattle.words.specs.Hex.{lowerHex, upperHex, hexDigit, hexValue, hexadecimal, bytesOfHex}
 use Rattle.words.specs.Dates.{isDated, isMonthed, numbered, datedDay, numberedMonth, datedMonth, dayIn, monthIn}
 use Rattle.journal.specs.Names.{callNames, roleNames, lodgedNames, roleOfWord, lodgedIn, readNumber}
 use Rattle.journal.specs.Fields.{nextOf, faulted, taken, fieldOf, closed, withNumber, nextNumbers, wordsLeft}
-use Rattle.journal.specs.Fields.{figuresOf, listOf, onLists, listsOf}
+use Rattle.journal.specs.Fields.{figuresOf, listOf, onLists, listsOf, fileOf, checkedFile, ended}
 use Rattle.journal.specs.Grammar.{plain, freshOf, admitOf, cashOf, letterOf, lodgeOf, releaseOf}
-use Rattle.journal.specs.Grammar.{annualOf, advanceOf, statementOf, settleOf, specialOf, callsOf, namedCall, wordsOf, parsed}
+use Rattle.journal.specs.Grammar.{annualOf, advanceOf, statementOf, settleOf, specialOf, filed, batchOf, callsOf, namedCall, wordsOf, parsed}
 use Rattle.journal.specs.declared.Reason.{Reason}
 use Rattle.journal.specs.declared.Request.{Request}
 
@@ -60,3 +61,16 @@ unfolding parsed wordsOf namedCall callsOf uncommented some control blank words 
     statementOf settleOf specialOf
 examples =
     (refl, refl, refl, refl, refl, refl, refl, refl, refl, refl, refl, refl, refl, refl, refl, refl, refl, refl, refl, refl, refl, refl, refl, refl)
+
+-- The same of a batch: an empty file; two bytes, in either case; an odd number of digits; another character; more bytes than there is room for,
+-- before a word too many; a word too many.
+pub batch-examples :
+    (parsed 0 (text "batch") ≡ plain (Request.Batch 0))
+    × (parsed 2 (text "batch 0aFf") ≡ record { request = Request.Batch 2; numbers = pos 10 ∷ pos 255 ∷ [] })
+    × (parsed 2 (text "batch 0af") ≡ plain (Request.Error Reason.NotHex))
+    × (parsed 2 (text "batch 0g") ≡ plain (Request.Error Reason.NotHex))
+    × (parsed 1 (text "batch 0aff 1") ≡ plain (Request.Error Reason.TooLong))
+    × (parsed 2 (text "batch 0aff 1") ≡ plain (Request.Error Reason.TooManyWords))
+unfolding parsed wordsOf namedCall callsOf uncommented some control blank words apart onto placeIn same callNames each digit lowerHex upperHex
+    hexDigit hexValue hexadecimal bytesOfHex fileOf faulted checkedFile ended filed batchOf
+batch-examples = (refl, refl, refl, refl, refl, refl)

@@ -28,7 +28,7 @@ left-failed : (s : List ℕ) (e : Reason) → restOfLine s (Place.Failed e) ≡ 
 unfolding restOfLine
 left-failed s e = refl
 
-left-at : (s : List ℕ) (p : ℕ) → restOfLine s (Place.At p) ≡ more (words (drop p s))
+pub left-at : (s : List ℕ) (p : ℕ) → restOfLine s (Place.At p) ≡ more (words (drop p s))
 unfolding restOfLine
 left-at s p = refl
 
@@ -38,10 +38,10 @@ left-faulted s (Place.At p) e = refl
 left-faulted s (Place.Failed d) e = refl
 
 -- no word is left, or one is
-at-end : (s : List ℕ) (p start end : ℕ) → NextWord s p start end → start ≡ end → restOfLine s (Place.At p) ≡ more []
+pub at-end : (s : List ℕ) (p start end : ℕ) → NextWord s p start end → start ≡ end → restOfLine s (Place.At p) ≡ more []
 at-end s p start end x e = left-at s p ∙ ap more (no-words s p start end x e)
 
-at-word : (s : List ℕ) (p start end : ℕ) → NextWord s p start end → (start ≡ end → ⊥)
+pub at-word : (s : List ℕ) (p start end : ℕ) → NextWord s p start end → (start ≡ end → ⊥)
     → restOfLine s (Place.At p) ≡ more (take (end - start) (drop start s) ∷ words (drop end s))
 at-word s p start end x n = left-at s p ∙ ap more (a-word s p start end x n)
 

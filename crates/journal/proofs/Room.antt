@@ -6,8 +6,8 @@ use mathlib.Core.Path.{_≡_, ap, _∙_}
 use mathlib.Core.Bool.{Bool, false}
 use mathlib.Core.List.{List, [], _∷_, _++_}
 use native.Mathlib.Omega.{arith}
-use borrow.Author.Tests.{eqb-false}
-use lib.Dec.{eqb}
+use borrow.Author.Tests.{eqb-false, leb-true}
+use lib.Dec.{eqb, leb}
 use lib.ListN.{length, take, drop, length-append}
 use lib.Seq.{sets-eq, take-append-seam, drop-append-seam}
 use lib.IntN.{ℤ}
@@ -16,12 +16,13 @@ use Rattle.laws.specs.Lists.{all-default}
 use Rattle.calendar.specs.declared.Month.{Month}
 use Rattle.words.specs.Bytes.{control, some, uncommented}
 use Rattle.words.specs.Words.{words, placeIn}
+use Rattle.words.specs.Hex.{hexadecimal, bytesOfHex}
 use Rattle.words.specs.declared.numbers.Signed.{Signed}
 use Rattle.journal.specs.Names.{readNumber, callNames}
-use Rattle.journal.specs.Fields.{Left, more, nextOf, fieldOf, closed}
+use Rattle.journal.specs.Fields.{Left, more, fault, nextOf, faulted, fieldOf, closed, fileOf, checkedFile, ended}
 use Rattle.journal.specs.Fields.{Numbers, withNumber, nextNumbers, figuresOf, wordsLeft, listOf, Lists, onLists, listsOf}
 use Rattle.journal.specs.Grammar.{Parsed, plain, areMarks, freshOf, admitOf, lodgeOf, releaseOf}
-use Rattle.journal.specs.Grammar.{settleOf, annualOf, advanceOf, statementOf, specialOf, callsOf, namedCall, wordsOf, parsed}
+use Rattle.journal.specs.Grammar.{settleOf, annualOf, advanceOf, statementOf, specialOf, filed, batchOf, callsOf, namedCall, wordsOf, parsed}
 use Rattle.journal.specs.Steps.{ParsedIs}
 use Rattle.journal.specs.declared.Reason.{Reason}
 use Rattle.journal.specs.declared.Request.{Request}
@@ -82,6 +83,30 @@ special-fits : (room : ℕ) (l : Left) → Fits room (specialOf room l)
 unfolding Fits specialOf
 special-fits room l = lists-fit areMarks room l
 
+-- a file has room where nothing is wrong with it
+short-file : (room : ℕ) (l : Left) (zs : List ℤ) → length zs ≤ room → Fits room (filed l zs)
+unfolding Fits filed
+short-file room (more ws) zs h = h
+short-file room (fault e) zs h = omega arith
+
+wrong-file : (room : ℕ) (l : Left) (e : Reason) (zs : List ℤ) → Fits room (filed (ended (faulted l e)) zs)
+unfolding Fits filed ended faulted
+wrong-file room (more ws) e zs = omega arith
+wrong-file room (fault d) e zs = omega arith
+
+file-fits : (room : ℕ) (w : List ℕ) (l : Left) → Fits room (filed (ended (checkedFile room w l)) (bytesOfHex w))
+unfolding checkedFile
+file-fits room w l =
+    split (leb (length (bytesOfHex w)) room)
+    (λ t. short-file room (ended (checkedFile room w l)) (bytesOfHex w) (leb-true (length (bytesOfHex w)) room t))
+    (λ t.
+    split (hexadecimal w) (λ u. rw (u, t) (wrong-file room l Reason.TooLong (bytesOfHex w)))
+    (λ u. rw u (wrong-file room l Reason.NotHex (bytesOfHex w))))
+
+batch-fits : (room : ℕ) (l : Left) → Fits room (batchOf room l)
+unfolding batchOf
+batch-fits room l = let f = fileOf l in file-fits room (f .word) (f .left)
+
 call-fits : (room k : ℕ) (l : Left) → Fits room (namedCall room k l)
 unfolding namedCall callsOf
 call-fits room k l =
@@ -89,7 +114,7 @@ call-fits room k l =
     (plain-fits room (freshOf l) & plain-fits room (admitOf l) & plain-fits room (lodgeOf l)
     & plain-fits room (releaseOf l) & settle-fits room l & plain-fits room (annualOf l) & plain-fits room (advanceOf l)
     & plain-fits room (statementOf l) & plain-fits room (closed l Request.Calls) & special-fits room l
-    & plain-fits room (closed l Request.Report) & tt)
+    & plain-fits room (closed l Request.Report) & batch-fits room l & tt)
 
 words-fit : (room : ℕ) (ws : List (List ℕ)) → Fits room (wordsOf room ws)
 unfolding wordsOf

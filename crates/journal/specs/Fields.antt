@@ -3,10 +3,11 @@
 use Prim.Native.Nat.{ℕ, zero, suc, _-_}
 use mathlib.Core.Bool.{Bool, false, cond}
 use mathlib.Core.List.{List, [], _∷_, _++_}
-use lib.Dec.{eqb}
+use lib.Dec.{eqb, leb}
 use lib.ListN.{length, drop}
 use lib.IntN.{ℤ}
 use Rattle.words.specs.Words.{words}
+use Rattle.words.specs.Hex.{hexadecimal, bytesOfHex}
 use Rattle.journal.specs.Names.{readAs, whyNot, readNumber}
 use Rattle.words.specs.declared.numbers.Number.{Number}
 use Rattle.words.specs.declared.numbers.Signed.{Signed}
@@ -97,6 +98,23 @@ listsOf [] room l = record { lengths = []; numbers = []; left = l }
 listsOf (m ∷ ms) room l =
     onLists (listOf m room l) (listsOf ms (room - length (listOf m room l .numbers)) (listOf m room l .left))
 
+-- The word of a batch's file, "in one word; `batch` alone for an empty file", and what is left after it.
+unfoldable pub fileOf : Left → Next
+fileOf (more []) = record { word = []; left = more [] }
+fileOf (more (w ∷ ws)) = record { word = w; left = more ws }
+fileOf (fault e) = record { word = []; left = fault e }
+
+-- "an odd number of digits or another character is an error", and so are more bytes than there is room for.
+unfoldable pub checkedFile : ℕ → List ℕ → Left → Left
+checkedFile room w l =
+    cond (hexadecimal w) (cond (leb (length (bytesOfHex w)) room) l (faulted l Reason.TooLong)) (faulted l Reason.NotHex)
+
+-- The end of a line: a word more is a fault.
+unfoldable pub ended : Left → Left
+ended (more []) = more []
+ended (more (w ∷ ws)) = fault Reason.TooManyWords
+ended (fault e) = fault e
+
 -- What is left of a line s at a place in it.
 unfoldable pub restOfLine : List ℕ → Place → Left
 restOfLine s (Place.At p) = more (words (drop p s))
@@ -106,3 +124,8 @@ restOfLine s (Place.Failed e) = fault e
 abbrev pub faultedPlace : Place → Reason → Place
 faultedPlace (Place.At p) e = Place.Failed e
 faultedPlace (Place.Failed d) e = Place.Failed d
+
+-- The same of a place: what is wrong with a file.
+unfoldable pub checkedPlace : ℕ → List ℕ → Place → Place
+checkedPlace room w p =
+    cond (hexadecimal w) (cond (leb (length (bytesOfHex w)) room) p (faultedPlace p Reason.TooLong)) (faultedPlace p Reason.NotHex)

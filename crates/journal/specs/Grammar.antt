@@ -10,8 +10,9 @@ use Rattle.calendar.specs.declared.Day.{Day}
 use Rattle.calendar.specs.declared.Month.{Month}
 use Rattle.words.specs.Bytes.{control, some, uncommented}
 use Rattle.words.specs.Words.{words, placeIn}
+use Rattle.words.specs.Hex.{bytesOfHex}
 use Rattle.journal.specs.Names.{callNames}
-use Rattle.journal.specs.Fields.{Left, more, fieldOf, closed, figuresOf, listsOf}
+use Rattle.journal.specs.Fields.{Left, more, fault, fieldOf, closed, figuresOf, listsOf, fileOf, checkedFile, ended}
 use Rattle.journal.specs.declared.Reason.{Reason}
 use Rattle.journal.specs.declared.Request.{Request}
 use Rattle.journal.specs.declared.Lengths.{Lengths}
@@ -77,7 +78,8 @@ advanceOf l =
 unfoldable pub statementOf : Left → Request
 statementOf l = let p = fieldOf Kind.Natural l in closed (p .left) (Request.Statement (p .value))
 
--- What a line is: a call, nothing or an error, and the numbers of its lists in a row; of an error, those before the fault.
+-- What a line is: a call, nothing or an error, and the numbers of its lists in a row or the bytes of its
+-- file; of an error, the numbers of lists before the fault.
 pub record Parsed : Type 0 where
   pub request : Request
   pub numbers : List ℤ
@@ -127,6 +129,15 @@ specialOf room l =
     let t = listsOf areMarks room l in
     record { request = closed (t .left) (Request.Special (lengthsOf (t .lengths))); numbers = t .numbers }
 
+-- A call with a file's bytes, where no word is left; an error has none.
+unfoldable pub filed : Left → List ℤ → Parsed
+filed (more ws) zs = record { request = Request.Batch (length zs); numbers = zs }
+filed (fault e) zs = plain (Request.Error e)
+
+-- `batch HEX`: "two hexadecimal digits a byte, either case, in one word".
+unfoldable pub batchOf : ℕ → Left → Parsed
+batchOf room l = let f = fileOf l in filed (ended (checkedFile room (f .word) (f .left))) (bytesOfHex (f .word))
+
 -- The calls by their first word, in the order of their names; any other first word is no call.
 unfoldable pub callsOf : ℕ → Left → List Parsed
 callsOf room l =
@@ -141,6 +152,7 @@ callsOf room l =
     ∷ plain (closed l Request.Calls)
     ∷ specialOf room l
     ∷ plain (closed l Request.Report)
+    ∷ batchOf room l
     ∷ []
 
 unfoldable pub namedCall : ℕ → ℕ → Left → Parsed

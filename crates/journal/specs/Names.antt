@@ -27,6 +27,7 @@ callNames =
     ∷ text "calls"
     ∷ text "special"
     ∷ text "report"
+    ∷ text "batch"
     ∷ []
 
 -- "the role's name in lower case", in the order of their numbers: paper 01, 'One participant's file'.

@@ -8,7 +8,7 @@ use lib.ListN.{length, take, drop}
 use lib.Seq.{sets}
 use lib.IntN.{ℤ}
 use Rattle.journal.specs.Names.{readNumber}
-use Rattle.journal.specs.Fields.{nextOf, fieldOf, restOfLine, Numbers, Lists}
+use Rattle.journal.specs.Fields.{nextOf, fileOf, fieldOf, restOfLine, Numbers, Lists}
 use Rattle.journal.specs.Grammar.{Parsed}
 use Rattle.journal.specs.declared.Request.{Request}
 use Rattle.journal.specs.declared.fields.Kind.{Kind}
@@ -25,6 +25,13 @@ pub record NextIs (s : List ℕ) (place : Place) (r : Next) : Type 0 where
   pub within : r .end ≤ length s
   pub word : take (r .end - r .start) (drop (r .start) s) ≡ nextOf (restOfLine s place) .word
   pub left : restOfLine s (r .place) ≡ nextOf (restOfLine s place) .left
+
+-- The word of a file in s after a place, which may be empty.
+pub record FileIs (s : List ℕ) (place : Place) (r : Next) : Type 0 where
+  pub ordered : r .start ≤ r .end
+  pub within : r .end ≤ length s
+  pub word : take (r .end - r .start) (drop (r .start) s) ≡ fileOf (restOfLine s place) .word
+  pub left : restOfLine s (r .place) ≡ fileOf (restOfLine s place) .left
 
 -- The next word of s after a place, as what is due.
 pub record FieldIs (s : List ℕ) (place : Place) (kind : Kind) (r : Field) : Type 0 where

@@ -10,6 +10,7 @@ use calendar::Month;
 mod fields; // fields.rt: the words of a line taken one by one
 mod calls; // calls.rt: the calls that have no lists
 mod lists; // lists.rt: the calls that have lists
+mod batch; // batch.rt: the call that has a file
 
 use fields::Place;
 use fields::closed;
@@ -30,6 +31,7 @@ pub enum Reason {
     NotMonth,
     NotRole,
     NotCashOrLetter,
+    NotHex,
     TooLong,
     FreshLater,
     NoNewline,
@@ -48,7 +50,7 @@ pub struct Lengths {
 }
 
 // What a line is: nothing, a call with its arguments, or an error. Participants come first, then positions, then amounts; a settlement has
-// the number of its figures, and a special guarantee the lengths of its lists.
+// the number of its figures, a special guarantee the lengths of its lists, and a batch the number of its file's bytes.
 pub enum Request {
     Nothing,
     Fresh(Day),
@@ -62,6 +64,7 @@ pub enum Request {
     Statement(u64),
     Calls,
     Special(Lengths),
+    Batch(usize),
     Report,
     Error(Reason),
 }
@@ -83,6 +86,7 @@ fn call(k: usize, s: &[u8], place: Place, numbers: &mut [i64]) -> Request
         8 => closed(s, place, Request::Calls),
         9 => lists::special(s, place, numbers),
         10 => closed(s, place, Request::Report),
+        11 => batch::batch(s, place, numbers),
         _ => Request::Error(Reason::NoCall),
     }
 }
@@ -98,13 +102,14 @@ fn read_words(s: &[u8], numbers: &mut [i64]) -> Request
     if start == end {
         return Request::Nothing;
     }
-    let names = b"fresh admit lodge release settle annual advance statement calls special report";
+    let names =
+        b"fresh admit lodge release settle annual advance statement calls special report batch";
     let k = place_of(&s[start..end], names);
     call(k, s, Place::At(end), numbers)
 }
 
-// The call that a line is. The numbers of its lists are written to the front of the slice, in a row; the rest of the slice is left as it
-// was. A line with more numbers than the slice has room for is an error.
+// The call that a line is. The numbers of its lists, or the bytes of its file, are written to the front of the slice, in a row; the rest of the
+// slice is left as it was. A line with more numbers than the slice has room for is an error.
 pub fn parse(line: &[u8], numbers: &mut [i64]) -> Request
     ensures { λ r. ⌜ ParsedIs (parsed (length (now (numbers .entry))) (now (line .entry))) (now (numbers .entry)) r (now (numbers .exit)) ⌝ }
 {

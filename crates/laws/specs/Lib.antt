@@ -2,6 +2,7 @@ pub mod Lists
 pub mod Cases
 pub mod Prefixes
 pub mod Every
+pub mod Least
 pub mod Tabulated
 pub mod Tables
 pub mod Integers

@@ -1,5 +1,6 @@
 pub mod PlainWords
 pub mod DecimalLaws
+pub mod HexLaws
 pub mod FieldsBack
 pub mod RoundTrip
 pub mod PutLaws

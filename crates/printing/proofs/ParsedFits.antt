@@ -14,22 +14,25 @@ use Rattle.laws.specs.Cases.{split}
 use Rattle.laws.specs.Lists.{All, all-default}
 use Rattle.words.specs.Bytes.{control, some, uncommented}
 use Rattle.words.specs.Words.{words, placeIn}
+use Rattle.words.specs.Hex.{bytesOfHex}
 use Rattle.words.specs.Numerals.{natural, value, naturalOf, unsignedOf, negativeOf, signedOf}
 use Rattle.words.specs.declared.numbers.Number.{Number}
 use Rattle.words.specs.declared.numbers.Signed.{Signed}
 use Rattle.journal.specs.Names.{callNames, roleNames, roleOfWord, readNumber, whyNot}
-use Rattle.journal.specs.Fields.{Left, more, fault, nextOf, taken, fieldOf, closed}
+use Rattle.journal.specs.Fields.{Left, more, fault, nextOf, taken, fieldOf, closed, fileOf, checkedFile, ended}
 use Rattle.journal.specs.Fields.{Numbers, withNumber, nextNumbers, wordsLeft, figuresOf, listOf, onLists, listsOf}
 use Rattle.journal.specs.Grammar.{Parsed, plain, areMarks, lengthsOf, dayNumbered, monthNumbered}
 use Rattle.journal.specs.Grammar.{freshOf, admitOf, cashOf, letterOf, lodgeOf, releaseOf, settleOf}
-use Rattle.journal.specs.Grammar.{annualOf, advanceOf, statementOf, specialOf, callsOf, namedCall, wordsOf, parsed}
+use Rattle.journal.specs.Grammar.{annualOf, advanceOf, statementOf, specialOf, filed, batchOf, callsOf, namedCall}
+use Rattle.journal.specs.Grammar.{wordsOf, parsed}
 use Rattle.journal.specs.declared.Reason.{Reason}
 use Rattle.journal.specs.declared.Request.{Request}
 use Rattle.journal.specs.declared.fields.Kind.{Kind}
 use Rattle.journal.proofs.Room.{_&_, parsed-fits}
 use Rattle.journal.proofs.Counts.{countOf, IsCall, seven-lengths, parsed-counted}
 use Rattle.journal.proofs.ListLaws.{lists-many}
-use Rattle.printing.specs.Lines.{cut, Natural64, Natural32, Holds, Hold, Fitting, printed}
+use Rattle.printing.specs.Lines.{cut, Natural64, Natural32, Holds, Hold, IsByte, Fitting, printed}
+use Rattle.printing.proofs.HexLaws.{bytes-are}
 use Rattle.printing.proofs.RoundTrip.{round-trip}
 
 -- ---- natural numbers and roles
@@ -225,6 +228,16 @@ special-fits room l =
     closed-fits (t .left) (Request.Special (lengthsOf (t .lengths))) (t .numbers)
     (λ n k. (n, k, subst (λ (ks : List ℕ). Hold areMarks (cut ks (t .numbers))) e (lists-held areMarks room l)))
 
+filed-fits : (l : Left) (zs : List ℤ) → All IsByte zs → Fits (filed l zs)
+unfolding Fits filed
+filed-fits (more ws) zs a n k c = (refl, a)
+filed-fits (fault e) zs a n k c = absurd c
+
+batch-fits : (room : ℕ) (l : Left) → Fits (batchOf room l)
+unfolding batchOf
+batch-fits room l =
+    let f = fileOf l in filed-fits (ended (checkedFile room (f .word) (f .left))) (bytesOfHex (f .word)) (bytes-are (f .word))
+
 no-call-fits : Fits (plain (Request.Error Reason.NoCall))
 unfolding Fits
 no-call-fits n k c = absurd c
@@ -234,7 +247,8 @@ unfolding namedCall callsOf
 call-fits room k l =
     all-default Fits (callsOf room l) k (plain (Request.Error Reason.NoCall)) no-call-fits
     (fresh-fits l & admit-fits l & lodge-fits l & release-fits l & settle-fits room l & annual-fits l & advance-fits l
-    & statement-fits l & plain-fits l Request.Calls refl & special-fits room l & plain-fits l Request.Report refl & tt)
+    & statement-fits l & plain-fits l Request.Calls refl & special-fits room l & plain-fits l Request.Report refl
+    & batch-fits room l & tt)
 
 words-fitting : (room : ℕ) (ws : List (List ℕ)) → Fits (wordsOf room ws)
 unfolding wordsOf Fits

@@ -6,8 +6,10 @@ use mathlib.Core.Path.{_≡_, refl, ap, _∙_}
 use mathlib.Core.Bool.{Bool, true, false}
 use mathlib.Core.List.{List, [], _∷_, map}
 use native.Mathlib.Omega.{arith}
+use borrow.Author.Tests.{le-leb}
 use lib.Dec.{T, eqb, eqb→eq, ltb, lit<}
-use lib.ListN.{length, getD}
+use lib.ListN.{length, take, getD}
+use lib.Seq.{take-all}
 use lib.IntN.{ℤ}
 use Rattle.laws.specs.Lists.{All, all-append}
 use Rattle.laws.specs.Tables.{every, every-at}
@@ -16,10 +18,12 @@ use Rattle.calendar.specs.declared.Month.{Month}
 use Rattle.words.specs.Text.{text}
 use Rattle.words.specs.Bytes.{blank, control, each, same}
 use Rattle.words.specs.Words.{placeIn}
+use Rattle.words.specs.Hex.{hexadecimal, bytesOfHex}
 use Rattle.journal.specs.Names.{callNames, lodgedNames, lodgedIn}
-use Rattle.journal.specs.Fields.{more, closed}
+use Rattle.journal.specs.Fields.{more, closed, fileOf, checkedFile, ended}
 use Rattle.journal.specs.Grammar.{plain, areMarks, freshOf, admitOf, cashOf, letterOf, lodgeOf, releaseOf, settleOf}
-use Rattle.journal.specs.Grammar.{lengthList, total, annualOf, advanceOf, statementOf, specialOf, callsOf, namedCall, wordsOf, parsed}
+use Rattle.journal.specs.Grammar.{lengthList, total, annualOf, advanceOf, statementOf, specialOf, filed, batchOf, callsOf, namedCall}
+use Rattle.journal.specs.Grammar.{wordsOf, parsed}
 use Rattle.words.specs.declared.numbers.Number.{Number}
 use Rattle.journal.specs.declared.Request.{Request}
 use Rattle.journal.specs.declared.Lengths.{Lengths}
@@ -27,9 +31,11 @@ use Rattle.journal.specs.declared.fields.Kind.{Kind}
 use Rattle.words.proofs.WordLaws.{solid}
 use Rattle.journal.proofs.Room.{_&_}
 use Rattle.printing.specs.Decimals.{decimal, integer, joined}
-use Rattle.printing.specs.Lines.{callWords, listWords, cut, printed, Natural64, Natural32, Fitting, Holds, Hold}
+use Rattle.printing.specs.Hex.{hexBytes, fileWords}
+use Rattle.printing.specs.Lines.{callWords, listWords, cut, printed, Natural64, Natural32, Fitting, Holds, Hold, IsByte}
 use Rattle.printing.proofs.PlainWords.{wordByte, IsWord, uncommented-line, no-control, joined-line, joined-words}
 use Rattle.printing.proofs.DecimalLaws.{decimal-word, integer-word}
+use Rattle.printing.proofs.HexLaws.{file-words, hex-hexadecimal, bytes-back}
 use Rattle.printing.proofs.FieldsBack.{field-back, natural-field, role-field, day-field, month-field, closed-back}
 use Rattle.printing.proofs.FieldsBack.{same-day, same-month, figures-back, lists-back, cut-flat, cut-lengths}
 
@@ -69,6 +75,7 @@ call-words (Request.Advance t b) zs = word "advance" tt refl & decimal-word (t .
 call-words (Request.Statement p) zs = word "statement" tt refl & decimal-word p & tt
 call-words Request.Calls zs = word "calls" tt refl & tt
 call-words (Request.Special n) zs = word "special" tt refl & lists-words (cut (lengthList n) zs)
+call-words (Request.Batch n) zs = word "batch" tt refl & file-words (take n zs)
 call-words Request.Report zs = word "report" tt refl & tt
 call-words (Request.Error e) zs = tt
 
@@ -186,6 +193,27 @@ special-back room n zs h e a b =
       cut-flat (lengthList n) zs e,
     )
 
+-- a file's word is read as its bytes
+file-back : (room : ℕ) (w : List ℕ) (zs : List ℤ) → hexadecimal w ≡ true → bytesOfHex w ≡ zs → length zs ≤ room
+    → batchOf room (more (w ∷ [])) ≡ record { request = Request.Batch (length zs); numbers = zs }
+unfolding batchOf fileOf checkedFile ended filed
+file-back room w zs h e b = rw (h, e, le-leb (length zs) room b)
+
+no-file-back : (room : ℕ) → batchOf room (more []) ≡ record { request = Request.Batch 0; numbers = [] }
+unfolding batchOf fileOf checkedFile ended filed hexadecimal bytesOfHex each
+no-file-back room = rw (le-leb 0 room (omega arith))
+
+bytes-read : (room : ℕ) (zs : List ℤ) → All IsByte zs → length zs ≤ room
+    → batchOf room (more (fileWords zs)) ≡ record { request = Request.Batch (length zs); numbers = zs }
+unfolding fileWords
+bytes-read room [] a b = no-file-back room
+bytes-read room (z ∷ zs) a b =
+    file-back room (hexBytes (z ∷ zs)) (z ∷ zs) (hex-hexadecimal (z ∷ zs)) (bytes-back (z ∷ zs) a) b
+
+batch-back : (room n : ℕ) (zs : List ℤ) → n ≡ length zs → All IsByte zs → length zs ≤ room
+    → batchOf room (more (fileWords (take n zs))) ≡ record { request = Request.Batch n; numbers = zs }
+batch-back room n zs e a b = rw (e, take-all (length zs) zs (omega arith)) (bytes-read room zs a b)
+
 -- The words of a call give the call.
 
 pub words-back : (room : ℕ) (r : Request) (zs : List ℤ) → Fitting r zs → length zs ≤ room
@@ -213,6 +241,7 @@ words-back room (Request.Statement p) zs f h = rw (f .1) (at-name room 7 tt (dec
 words-back room Request.Calls zs f h = rw f (at-name room 8 tt [] ∙ ap plain (closed-back Request.Calls))
 words-back room (Request.Special n) zs f h =
     at-name room 9 tt (listWords (cut (lengthList n) zs)) ∙ special-back room n zs (f .0) (f .1) (f .2) h
+words-back room (Request.Batch n) zs f h = at-name room 11 tt (fileWords (take n zs)) ∙ batch-back room n zs (f .0) (f .1) h
 words-back room Request.Report zs f h = rw f (at-name room 10 tt [] ∙ ap plain (closed-back Request.Report))
 words-back room (Request.Error e) zs f h = absurd f
 

@@ -18,6 +18,7 @@ reasonText Reason.NotDay = text "not a day"
 reasonText Reason.NotMonth = text "not a month"
 reasonText Reason.NotRole = text "not a role"
 reasonText Reason.NotCashOrLetter = text "neither cash nor letter"
+reasonText Reason.NotHex = text "not hexadecimal digits, two for each byte"
 reasonText Reason.TooLong = text "line too long"
 reasonText Reason.FreshLater = text "fresh is not the first call"
 reasonText Reason.NoNewline = text "line without newline, not taken"
@@ -36,6 +37,8 @@ answerWords (Answer.Statement f c s d m) =
     text "statement" ∷ decimal f ∷ decimal c ∷ decimal s ∷ decimal d ∷ decimal m ∷ []
 answerWords (Answer.Calls n) = text "calls" ∷ decimal n ∷ []
 answerWords (Answer.Special c) = text "special" ∷ decimal c ∷ []
+answerWords (Answer.Batch n) = text "batch" ∷ decimal n ∷ []
+answerWords (Answer.RefusedPair n i) = text "refused" ∷ decimal n ∷ decimal i ∷ []
 answerWords (Answer.Error l e) = text "error" ∷ decimal l ∷ reasonText e ∷ []
 answerWords Answer.Nothing = []
 

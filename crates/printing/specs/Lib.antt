@@ -1,4 +1,5 @@
 pub mod Decimals
+pub mod Hex
 pub mod Lines
 pub mod Placed
 pub mod PlacedLaws

@@ -12,6 +12,7 @@ use Rattle.words.specs.Text.{text}
 use Rattle.journal.specs.Grammar.{areMarks, lengthList, total}
 use Rattle.journal.specs.declared.Request.{Request}
 use Rattle.printing.specs.Decimals.{decimal, integer, joined}
+use Rattle.printing.specs.Hex.{fileWords}
 
 -- Numbers cut into lists of given lengths.
 unfoldable pub cut : List ℕ → List ℤ → List (List ℤ)
@@ -23,7 +24,8 @@ unfoldable pub listWords : List (List ℤ) → List (List ℕ)
 listWords [] = []
 listWords (zs ∷ rest) = decimal (length zs) ∷ (map integer zs ++ listWords rest)
 
--- 'The journal': the words of a call, its numbers as numbers, with the numbers of its lists in a row. What is no call has none.
+-- 'The journal': the words of a call, its numbers as numbers, with the numbers of its lists in a row, or the bytes of its file. What
+-- is no call has none.
 unfoldable pub callWords : Request → List ℤ → List (List ℕ)
 callWords Request.Nothing zs = []
 callWords (Request.Fresh d) zs = text "fresh" ∷ decimal (d .0) ∷ []
@@ -38,6 +40,7 @@ callWords (Request.Advance t b) zs = text "advance" ∷ decimal (t .0) ∷ decim
 callWords (Request.Statement p) zs = text "statement" ∷ decimal p ∷ []
 callWords Request.Calls zs = text "calls" ∷ []
 callWords (Request.Special n) zs = text "special" ∷ listWords (cut (lengthList n) zs)
+callWords (Request.Batch n) zs = text "batch" ∷ fileWords (take n zs)
 callWords Request.Report zs = text "report" ∷ []
 callWords (Request.Error e) zs = []
 
@@ -58,6 +61,11 @@ Holds false z = mag z < 9223372036854775808
 Holds true (pos n) = n < 9223372036854775808
 Holds true (negsuc n) = ⊥
 
+-- A number that is a byte.
+abbrev pub IsByte : ℤ → Type 0
+IsByte (pos n) = n < 256
+IsByte (negsuc n) = ⊥
+
 -- The numbers of each list fit.
 abbrev pub Hold : List Bool → List (List ℤ) → Type 0
 Hold [] [] = Unit {0}
@@ -65,7 +73,7 @@ Hold [] (zs ∷ rest) = ⊥
 Hold (m ∷ ms) [] = ⊥
 Hold (m ∷ ms) (zs ∷ rest) = All (Holds m) zs × Hold ms rest
 
--- A call whose numbers fit their types, and the numbers of its lists: as many as it says, and none where it has no list.
+-- A call whose numbers fit their types, and the numbers of its lists or its file: as many as it says, and none where it has neither.
 abbrev pub Fitting : Request → List ℤ → Type 0
 Fitting Request.Nothing zs = zs ≡ []
 Fitting (Request.Fresh d) zs = Natural32 (d .0) × (zs ≡ [])
@@ -80,5 +88,6 @@ Fitting (Request.Advance t b) zs = Natural32 (t .0) × Natural64 b × (zs ≡ []
 Fitting (Request.Statement p) zs = Natural64 p × (zs ≡ [])
 Fitting Request.Calls zs = zs ≡ []
 Fitting (Request.Special n) zs = Natural64 (length zs) × (total (lengthList n) ≡ length zs) × Hold areMarks (cut (lengthList n) zs)
+Fitting (Request.Batch n) zs = (n ≡ length zs) × All IsByte zs
 Fitting Request.Report zs = zs ≡ []
 Fitting (Request.Error e) zs = ⊥

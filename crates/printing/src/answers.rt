@@ -27,6 +27,7 @@ pub fn put_reason(out: &mut [u8], at: usize, why: Reason) -> usize
         Reason::NotMonth => put_text(out, at, b"not a month"),
         Reason::NotRole => put_text(out, at, b"not a role"),
         Reason::NotCashOrLetter => put_text(out, at, b"neither cash nor letter"),
+        Reason::NotHex => put_text(out, at, b"not hexadecimal digits, two for each byte"),
         Reason::TooLong => put_text(out, at, b"line too long"),
         Reason::FreshLater => put_text(out, at, b"fresh is not the first call"),
         Reason::NoNewline => put_text(out, at, b"line without newline, not taken"),
@@ -76,6 +77,8 @@ pub fn put_answer(out: &mut [u8], at: usize, answer: Answer) -> usize
         Answer::Statement(f, c, s, d, m) => put_statement(out, at, f, c, s, d, m),
         Answer::Calls(n) => put_one(out, at, b"calls", n),
         Answer::Special(cents) => put_one(out, at, b"special", cents),
+        Answer::Batch(n) => put_one(out, at, b"batch", n),
+        Answer::RefusedPair(n, i) => put_two(out, at, b"refused", n as u64, i),
         Answer::Error(line, why) => put_error(out, at, line, why),
         Answer::Nothing => put_text(out, at, b""),
     }

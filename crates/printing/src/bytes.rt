@@ -50,7 +50,7 @@ pub fn put_number(out: &mut [u8], at: usize, n: u64) -> usize
 }
 
 // A number without its minus.
-fn magnitude(z: i64) -> u64
+pub fn magnitude(z: i64) -> u64
     ensures { λ r. ⌜ r ≡ natAbs z ⌝ }
 {
     if z < 0 {

@@ -2,13 +2,15 @@
 ghost use mathlib.Core.List.{[], _∷_, map};
 ghost use mathlib.Core.Path.{_≡_};
 ghost use Prim.Native.Nat.{_+_, _≤_, min};
-ghost use lib.ListN.{length};
+ghost use lib.ListN.{length, take};
 ghost use Rattle.words.specs.Text.{text};
 ghost use Rattle.printing.specs.Decimals.{decimal, integer, spaced, joined};
+ghost use Rattle.printing.specs.Hex.{fileWords};
 ghost use Rattle.printing.specs.Lines.{printed, cut, listWords};
 ghost use Rattle.journal.specs.Grammar.{lengthList};
 ghost use Rattle.printing.specs.Placed.{Put};
 use crate::bytes::put_text;
+use crate::hex::put_file;
 use crate::spaced::put_integers;
 use crate::spaced::put_one;
 use crate::spaced::put_spaced;
@@ -96,7 +98,16 @@ fn put_special(out: &mut [u8], at: usize, n: Lengths, numbers: &[i64]) -> usize
     put_lists(out, next, &lengths, numbers)
 }
 
-// A call with the numbers of its lists in a row; nothing for what is no call.
+// batch HEX
+fn put_batch(out: &mut [u8], at: usize, n: usize, numbers: &[i64]) -> usize
+    ensures { λ r. ⌜ Put (joined (text "batch" ∷ fileWords (take n (now (numbers .entry))))) (now (out .entry)) at r (now (out .exit)) ⌝ }
+{
+    let next = put_text(out, at, b"batch");
+    let end = end_of(0, n, numbers.len());
+    put_file(out, next, &numbers[..end])
+}
+
+// A call with the numbers of its lists in a row, or the bytes of its file; nothing for what is no call.
 pub fn put_call(out: &mut [u8], at: usize, request: Request, numbers: &[i64]) -> usize
     ensures { λ r. ⌜ Put (printed request (now (numbers .entry))) (now (out .entry)) at r (now (out .exit)) ⌝ }
 {
@@ -113,6 +124,7 @@ pub fn put_call(out: &mut [u8], at: usize, request: Request, numbers: &[i64]) ->
         Request::Statement(p) => put_one(out, at, b"statement", p),
         Request::Calls => put_text(out, at, b"calls"),
         Request::Special(n) => put_special(out, at, n, numbers),
+        Request::Batch(n) => put_batch(out, at, n, numbers),
         Request::Report => put_text(out, at, b"report"),
         Request::Error(_) => put_text(out, at, b""),
     }

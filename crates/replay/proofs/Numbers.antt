@@ -5,16 +5,17 @@ use native.Mathlib.Omega.{arith}
 use mathlib.Core.Path.{_≡_, sym, ap, subst, _∙_}
 use mathlib.Core.List.{List, [], _∷_}
 use borrow.Author.Tests.{ltb-false}
+use lib.Dec.{ltb}
 use lib.ListN.{length}
 use lib.IntN.{ℤ, pos, natAbs}
-use Rattle.laws.specs.Cases.{split}
+use Rattle.laws.specs.Cases.{split, by-test}
 use Rattle.laws.specs.Read.{read, read-abs}
 use Rattle.laws.specs.Tabulated.{length-table}
 use Rattle.calendar.specs.Civil.{monthOf}
 use Rattle.manual.specs.Figures.{sumOf}
 use Rattle.manual.specs.Laws.{summed-total}
 use Rattle.file.specs.declared.File.{File}
-use Rattle.file.specs.Answer.{Answer, refused, done, annual, daysOpened, Cause, decide, statementSays}
+use Rattle.file.specs.Answer.{Answer, refused, done, annual, daysOpened, batched, Cause, decide, statementSays}
 use Rattle.file.specs.Fields.{shortfallOf}
 use Rattle.file.specs.Totals.{totalAt}
 use Rattle.file.specs.TotalLaws.{totals-length}
@@ -31,8 +32,12 @@ use Rattle.layout.specs.Parts.{slotOfWords}
 use Rattle.layout.specs.Files.{slotsOfWords, fileOfWords, wordsAt}
 use Rattle.layout.specs.Words.{place, bookOfWords}
 use Rattle.layout.specs.WellFormed.{WellFormed}
-use Rattle.book.specs.Call.{Act, admit, lodge, release, settle, annualRun, Call, on, advance, statement, callsMade}
-use Rattle.book.specs.Account.{fileAt, ifNumbered, ifAdmitted, fileAnswer, daysToOpen, answer}
+use Rattle.batch.specs.declared.Form.{Form}
+use Rattle.batch.specs.declared.Form.the-variants.{Parts, Refused}
+use Rattle.batch.specs.Batch.{formOf}
+use Rattle.book.specs.Call.{Act, admit, lodge, release, settle, annualRun, Call, on, advance, statement, callsMade, batch}
+use Rattle.book.specs.Call.{firstRefused, batchSays}
+use Rattle.book.specs.Account.{fileAt, ifNumbered, ifAdmitted, fileAnswer, partAnswer, daysToOpen, answer}
 use Rattle.book.proofs.Participant.Lawful.{NoneHolds}
 use Rattle.book.specs.Reached.{Given}
 use Rattle.book.specs.InWords.{GivenWords}
@@ -46,7 +51,7 @@ read-back : (n : ℕ) (z : ℤ) → n ≤ largestSigned → z ≡ pos n → read
 read-back n z h e = ap read e ∙ read-abs (pos n) (omega arith)
 
 -- Six words.
-pub six-read : (k a b c : ℕ) (w x y z : ℤ) → (k ≤ 8) × (a ≤ largestSigned) × (b ≤ largestSigned) × (c ≤ largestSigned)
+pub six-read : (k a b c : ℕ) (w x y z : ℤ) → (k ≤ 10) × (a ≤ largestSigned) × (b ≤ largestSigned) × (c ≤ largestSigned)
     → w ≡ pos k → x ≡ pos a → y ≡ pos b → z ≡ pos c
     → read w ∷ read x ∷ read y ∷ read z ∷ pos 0 ∷ pos 0 ∷ [] ≡ six k (pos a) (pos b) (pos c) (pos 0) (pos 0)
 six-read k a b c w x y z h p q r s =
@@ -114,6 +119,13 @@ eight l p h =
     ap (λ (f : File). length (f .slots)) (file-there l p h)
     ∙ length-table 8 (λ k. slotOfWords (w (9 + 4 * k)) (w (10 + 4 * k)) (w (11 + 4 * k)) (w (12 + 4 * k)))
 
+-- A batch's are small by its bytes.
+batch-within : (form : Form) (answers : ℕ → Answer) → WithinSigned (batchSays form answers)
+unfolding batchSays
+batch-within (Refused n i) answers = tt
+batch-within (Parts n) answers =
+    by-test (ltb (firstRefused answers n) n) _ (batched n) WithinSigned (λ e. tt) (λ e. tt)
+
 -- The numbers of every answer of a book in well-formed words are within.
 answer-within : (l : List ℕ) (c : Call) → WellFormed l → WithinSigned (answer (bookOfWords l) c)
 unfolding answer ifNumbered ifAdmitted
@@ -126,6 +138,7 @@ answer-within l (statement p) w =
     decide-within _ (ifAdmitted (fileAt b p) (statementSays (fileStatement (fileAt b p) (b .today .0))))
     (λ n. decide-within _ (statementSays (fileStatement (fileAt b p) (b .today .0)))
     (λ m. statement-within (fileAt b p) (b .today .0) (sound-file b p (w .sound)) (eight l p (ltb-false 63 p (n .0)))))
+answer-within l (batch file) w = batch-within (formOf file) (partAnswer (bookOfWords l) file)
 answer-within l callsMade w = let few = sound-made (bookOfWords l) (w .sound) in omega arith
 
 -- .. so those of what a question or a call gives are.

@@ -17,11 +17,12 @@ use mir.Facts.{toZ-ofZ}
 use Rattle.laws.specs.Clipped.{take-clipped, drop-clipped}
 use Rattle.file.specs.declared.Position.{Position}
 use Rattle.file.specs.declared.Position.the-variants.{Cash, Letter}
-use Rattle.file.specs.Answer.{Answer, refused, done, called, covered, recorded, annual, daysOpened, stated, counted, decide}
+use Rattle.file.specs.Answer.{Answer, refused, done, called, covered, recorded, annual, daysOpened, stated, counted, batched, refusedPair}
+use Rattle.file.specs.Answer.{decide}
 use Rattle.layout.specs.Book.{Book}
 use Rattle.layout.specs.Words.{bookLength, bookOfWords}
 use Rattle.layout.specs.WellFormed.{WellFormed}
-use Rattle.book.specs.Call.{admit, lodge, release, settle, annualRun, Call, on, advance, statement, callsMade}
+use Rattle.book.specs.Call.{admit, lodge, release, settle, annualRun, Call, on, advance, statement, callsMade, batch}
 use Rattle.book.specs.Account.{freshBook, freshAnswer, freshBookBeside, answer, step, run}
 use Rattle.book.specs.Reading.Decisions.{decision, eventsOf}
 use Rattle.book.specs.Reached.{Given, Begun}
@@ -45,8 +46,8 @@ pub letter-is : (a first last x y : ℕ) → x ≡ number first → y ≡ number
     → Letter a (record { 0 = x }) (record { 0 = y }) ≡ letterOfNumbers a first last
 letter-is a first last x y p q = λ i. Letter a (record { 0 = p i }) (record { 0 = q i })
 
--- A part of the figures whose ends are clipped to their number.
-pub part-is : (l : List ℤ) (from count start n : ℕ) → start ≡ min from (length l) → n ≡ min count (length l - start)
+-- A part of a list whose ends are clipped to its length.
+pub part-is : {A : Type 0} (l : List A) (from count start n : ℕ) → start ≡ min from (length l) → n ≡ min count (length l - start)
     → take (start + n - start) (drop start l) ≡ take count (drop from l)
 part-is l from count start n p q =
     let e : start + n - start ≡ n = omega arith in
@@ -56,65 +57,80 @@ part-is l from count start n p q =
 
 -- ---- which call the words are
 
-module _ (figures : List ℤ) (k a b c d e : ℕ) (l : List ℕ) (z : List ℤ) where
+module _ (figures : List ℤ) (files : List ℕ) (k a b c d e : ℕ) (l : List ℕ) (z : List ℤ) where
   -- The call is this one.
-  is-call : (m : List ℕ) (call : Call) → callOfSix figures k a b c d e ≡ call → GivenNumbers l call z m
-      → GivenNumbers l (callOfSix figures k a b c d e) z m
+  is-call : (m : List ℕ) (call : Call) → callOfSix figures files k a b c d e ≡ call → GivenNumbers l call z m
+      → GivenNumbers l (callOfSix figures files k a b c d e) z m
   is-call m call p g = subst (λ (y : Call). GivenNumbers l y z m) (sym p) g
 
-  -- A kind below 8 is the named one.
-  of-kind : (m : List ℕ) (n : ℕ) (call : Call) → k ≡ n → callOfSix figures n a b c d e ≡ call → GivenNumbers l call z m
-      → GivenNumbers l (callOfSix figures k a b c d e) z m
-  of-kind m n call p q g = is-call m call (ap (λ (y : ℕ). callOfSix figures y a b c d e) p ∙ q) g
+  -- A kind below 9 is the named one.
+  of-kind : (m : List ℕ) (n : ℕ) (call : Call) → k ≡ n → callOfSix figures files n a b c d e ≡ call → GivenNumbers l call z m
+      → GivenNumbers l (callOfSix figures files k a b c d e) z m
+  of-kind m n call p q g = is-call m call (ap (λ (y : ℕ). callOfSix figures files y a b c d e) p ∙ q) g
 
   module _ (x : Answer) (m : List ℕ) (h : z ≡ sixNumbers x) where
-    pub as-admit : k ≡ 0 → GivenWords l (on a (admit b)) x m → GivenNumbers l (callOfSix figures k a b c d e) z m
+    pub as-admit : k ≡ 0 → GivenWords l (on a (admit b)) x m → GivenNumbers l (callOfSix figures files k a b c d e) z m
     unfolding callOfSix
     as-admit p g = of-kind m 0 (on a (admit b)) p refl (gave l m (on a (admit b)) x z g h)
 
-    pub as-cash : k ≡ 1 → GivenWords l (on a (lodge b (Cash c))) x m → GivenNumbers l (callOfSix figures k a b c d e) z m
+    pub as-cash : k ≡ 1 → GivenWords l (on a (lodge b (Cash c))) x m → GivenNumbers l (callOfSix figures files k a b c d e) z m
     unfolding callOfSix
     as-cash p g = of-kind m 1 (on a (lodge b (Cash c))) p refl (gave l m (on a (lodge b (Cash c))) x z g h)
 
     pub as-letter : (held : Position) → k ≡ 2 → held ≡ letterOfNumbers c d e → GivenWords l (on a (lodge b held)) x m
-        → GivenNumbers l (callOfSix figures k a b c d e) z m
+        → GivenNumbers l (callOfSix figures files k a b c d e) z m
     unfolding callOfSix
     as-letter held p q g =
         of-kind m 2 (on a (lodge b held)) p (ap (λ (y : Position). on a (lodge b y)) (sym q)) (gave l m (on a (lodge b held)) x z g h)
 
-    pub as-release : k ≡ 3 → GivenWords l (on a (release b c)) x m → GivenNumbers l (callOfSix figures k a b c d e) z m
+    pub as-release : k ≡ 3 → GivenWords l (on a (release b c)) x m → GivenNumbers l (callOfSix figures files k a b c d e) z m
     unfolding callOfSix
     as-release p g = of-kind m 3 (on a (release b c)) p refl (gave l m (on a (release b c)) x z g h)
 
     pub as-settle : (mo : ℕ) (lent : List ℤ) → k ≡ 4 → mo ≡ number b → lent ≡ take d (drop c figures)
-        → GivenWords l (on a (settle mo lent)) x m → GivenNumbers l (callOfSix figures k a b c d e) z m
+        → GivenWords l (on a (settle mo lent)) x m → GivenNumbers l (callOfSix figures files k a b c d e) z m
     unfolding callOfSix
     as-settle mo lent p q r g =
         of-kind m 4 (on a (settle mo lent)) p (ap₂ (λ (y : ℕ) (f : List ℤ). on a (settle y f)) (sym q) (sym r))
         (gave l m (on a (settle mo lent)) x z g h)
 
-    pub as-annual : k ≡ 5 → GivenWords l (on a annualRun) x m → GivenNumbers l (callOfSix figures k a b c d e) z m
+    pub as-annual : k ≡ 5 → GivenWords l (on a annualRun) x m → GivenNumbers l (callOfSix figures files k a b c d e) z m
     unfolding callOfSix
     as-annual p g = of-kind m 5 (on a annualRun) p refl (gave l m (on a annualRun) x z g h)
 
     pub as-advance : (day : ℕ) → k ≡ 6 → day ≡ number a → GivenWords l (advance day b) x m
-        → GivenNumbers l (callOfSix figures k a b c d e) z m
+        → GivenNumbers l (callOfSix figures files k a b c d e) z m
     unfolding callOfSix
     as-advance day p q g =
         of-kind m 6 (advance day b) p (ap (λ (y : ℕ). advance y b) (sym q)) (gave l m (advance day b) x z g h)
 
+    pub as-batch : (file : List ℕ) → k ≡ 8 → file ≡ take b (drop a files) → GivenWords l (batch file) x m
+        → GivenNumbers l (callOfSix figures files k a b c d e) z m
+    unfolding callOfSix
+    as-batch file p q g = of-kind m 8 (batch file) p (ap batch (sym q)) (gave l m (batch file) x z g h)
+
   module _ (x : Answer) (w : WellFormed l) (h : z ≡ sixNumbers x) where
-    pub as-statement : k ≡ 7 → Given (bookOfWords l) (statement a) x (bookOfWords l) → GivenNumbers l (callOfSix figures k a b c d e) z l
+    pub as-statement : k ≡ 7 → Given (bookOfWords l) (statement a) x (bookOfWords l) → GivenNumbers l (callOfSix figures files k a b c d e) z l
     unfolding callOfSix
     as-statement p g = of-kind l 7 (statement a) p refl (asked l (statement a) x z w g h)
 
-    -- A kind above 7.
+    -- A kind above 8.
     pub as-count : (k ≡ 0 → ⊥) → (k ≡ 1 → ⊥) → (k ≡ 2 → ⊥) → (k ≡ 3 → ⊥) → (k ≡ 4 → ⊥) → (k ≡ 5 → ⊥) → (k ≡ 6 → ⊥) → (k ≡ 7 → ⊥)
-        → Given (bookOfWords l) callsMade x (bookOfWords l) → GivenNumbers l (callOfSix figures k a b c d e) z l
+        → (k ≡ 8 → ⊥) → Given (bookOfWords l) callsMade x (bookOfWords l) → GivenNumbers l (callOfSix figures files k a b c d e) z l
     unfolding callOfSix
-    as-count n₀ n₁ n₂ n₃ n₄ n₅ n₆ n₇ g =
+    as-count n₀ n₁ n₂ n₃ n₄ n₅ n₆ n₇ n₈ g =
         is-call l callsMade
-        (simp (ne-eqb k 0 n₀, ne-eqb k 1 n₁, ne-eqb k 2 n₂, ne-eqb k 3 n₃, ne-eqb k 4 n₄, ne-eqb k 5 n₅, ne-eqb k 6 n₆, ne-eqb k 7 n₇))
+        (simp (
+          ne-eqb k 0 n₀,
+          ne-eqb k 1 n₁,
+          ne-eqb k 2 n₂,
+          ne-eqb k 3 n₃,
+          ne-eqb k 4 n₄,
+          ne-eqb k 5 n₅,
+          ne-eqb k 6 n₆,
+          ne-eqb k 7 n₇,
+          ne-eqb k 8 n₈,
+        ))
         (asked l callsMade x z w g h)
 
 -- ---- six numbers are written
@@ -148,23 +164,25 @@ numbers-long (annual a n) = refl
 numbers-long (daysOpened n) = refl
 numbers-long (stated f c s d a) = refl
 numbers-long (counted n) = refl
+numbers-long (batched n) = refl
+numbers-long (refusedPair n i) = refl
 
-decided-long : (s : ℕ) (calls : List ℕ) (figures : List ℤ) (n : ℕ) → length (decided s calls figures n) ≡ 6 * n
+decided-long : (s : ℕ) (calls : List ℕ) (figures : List ℤ) (files : List ℕ) (n : ℕ) → length (decided s calls figures files n) ≡ 6 * n
 unfolding decided
-decided-long s calls figures zero = refl
-decided-long s calls figures (suc n) =
-    let x = sixNumbers (decision s (eventsOf s (callsUpTo calls figures n)) (callAt calls figures n)) in
-    let six = numbers-long (decision s (eventsOf s (callsUpTo calls figures n)) (callAt calls figures n)) in
-    omega (arith, length-append (decided s calls figures n) x, decided-long s calls figures n)
+decided-long s calls figures files zero = refl
+decided-long s calls figures files (suc n) =
+    let x = sixNumbers (decision s (eventsOf s (callsUpTo calls figures files n)) (callAt calls figures files n)) in
+    let six = numbers-long (decision s (eventsOf s (callsUpTo calls figures files n)) (callAt calls figures files n)) in
+    omega (arith, length-append (decided s calls figures files n) x, decided-long s calls figures files n)
 
 -- After i calls of `count` from a fresh book on day s: what was written and the book in the words m are those of the first i calls.
-pub record Turn (calls : List ℕ) (figures out₀ : List ℤ) (s count i : ℕ) (out : List ℤ) (m : List ℕ) : Type 0 where
+pub record Turn (calls : List ℕ) (figures : List ℤ) (files : List ℕ) (out₀ : List ℤ) (s count i : ℕ) (out : List ℤ) (m : List ℕ) : Type 0 where
   pub day : s ≤ 29219
   pub all : count ≡ callCount calls out₀
   pub made : i ≤ count
   pub long : length out ≡ length out₀
-  pub written : out ≡ decided s calls figures i ++ drop (6 * i) out₀
-  pub left : bookOfWords m ≡ run s (callsUpTo calls figures i)
+  pub written : out ≡ decided s calls figures files i ++ drop (6 * i) out₀
+  pub left : bookOfWords m ≡ run s (callsUpTo calls figures files i)
   pub formed : WellFormed m
 
 -- A fresh book on a day of the calendar, and on a later one.
@@ -181,9 +199,9 @@ unfolding freshBook
 begun-today d x b h g = ap (λ (z : Book). z .today .0) (begun-on d x b h g)
 
 -- A refusal.
-pub turn-none : (calls : List ℕ) (figures out : List ℤ) (d : ℕ) (x : Answer) (m : List ℕ) → 29219 < d → BegunWords d x m
-    → ReplayedFrom d calls figures out out x m
-turn-none calls figures out d x m h g =
+pub turn-none : (calls : List ℕ) (figures : List ℤ) (files : List ℕ) (out : List ℤ) (d : ℕ) (x : Answer) (m : List ℕ) → 29219 < d → BegunWords d x m
+    → ReplayedFrom d calls figures files out out x m
+turn-none calls figures files out d x m h g =
     record {
       answered = g .begun .answered;
       replayed = λ k. absurd (omega arith);
@@ -200,10 +218,10 @@ abbrev pub firstDay : List ℕ → ℕ
 firstDay m = bookOfWords m .today .0
 
 -- No call yet.
-pub turn-first : (calls : List ℕ) (figures out : List ℤ) (d count : ℕ) (x : Answer) (m : List ℕ) → d ≤ 29219 → BegunWords d x m
-    → count ≡ min (length calls / 6) (length out / 6) → Turn calls figures out (firstDay m) count 0 out m
+pub turn-first : (calls : List ℕ) (figures : List ℤ) (files : List ℕ) (out : List ℤ) (d count : ℕ) (x : Answer) (m : List ℕ) → d ≤ 29219 → BegunWords d x m
+    → count ≡ min (length calls / 6) (length out / 6) → Turn calls figures files out (firstDay m) count 0 out m
 unfolding decided callsUpTo run
-turn-first calls figures out d count x m h g e =
+turn-first calls figures files out d count x m h g e =
     let t = begun-today d x (bookOfWords m) h (g .begun) in
     record {
       day = omega arith;
@@ -215,7 +233,7 @@ turn-first calls figures out d count x m h g e =
       formed = g .formed;
     }
 
-module _ (calls : List ℕ) (figures out₀ : List ℤ) (s count i : ℕ) (out : List ℤ) (m : List ℕ) (t : Turn calls figures out₀ s count i out m) where
+module _ (calls : List ℕ) (figures : List ℤ) (files : List ℕ) (out₀ : List ℤ) (s count i : ℕ) (out : List ℤ) (m : List ℕ) (t : Turn calls figures files out₀ s count i out m) where
   -- A call may be made on the words.
   pub turn-formed : WellFormed m
   turn-formed = t .formed
@@ -231,41 +249,41 @@ module _ (calls : List ℕ) (figures out₀ : List ℤ) (s count i : ℕ) (out :
   turn-room h = omega (arith, t .all, t .long)
 
   -- Its answer is the reading's decision.
-  turn-decided : answer (bookOfWords m) (callAt calls figures i) ≡ decision s (eventsOf s (callsUpTo calls figures i)) (callAt calls figures i)
+  turn-decided : answer (bookOfWords m) (callAt calls figures files i) ≡ decision s (eventsOf s (callsUpTo calls figures files i)) (callAt calls figures files i)
   turn-decided =
-      given (bookOfWords m) (callAt calls figures i) (answer (bookOfWords m) (callAt calls figures i))
-      (step (bookOfWords m) (callAt calls figures i))
+      given (bookOfWords m) (callAt calls figures files i) (answer (bookOfWords m) (callAt calls figures files i))
+      (step (bookOfWords m) (callAt calls figures files i))
       refl
       refl
-      .decided s (callsUpTo calls figures i) (t .day) (sym (t .left))
+      .decided s (callsUpTo calls figures files i) (t .day) (sym (t .left))
 
   -- What was written stays, and what is behind the next six numbers.
-  turn-before : take (6 * i) out ≡ decided s calls figures i
+  turn-before : take (6 * i) out ≡ decided s calls figures files i
   turn-before =
       ap (take (6 * i)) (t .written)
-      ∙ take-at (decided s calls figures i) (drop (6 * i) out₀) (6 * i) (decided-long s calls figures i)
+      ∙ take-at (decided s calls figures files i) (drop (6 * i) out₀) (6 * i) (decided-long s calls figures files i)
 
   turn-behind : drop (6 * i + 6) out ≡ drop (6 * i + 6) out₀
   turn-behind =
       sym (drop-drop 6 (6 * i) out)
       ∙ ap (λ (l : List ℤ). drop 6 (drop (6 * i) l)) (t .written)
-      ∙ ap (drop 6) (drop-at (decided s calls figures i) (drop (6 * i) out₀) (6 * i) (decided-long s calls figures i))
+      ∙ ap (drop 6) (drop-at (decided s calls figures files i) (drop (6 * i) out₀) (6 * i) (decided-long s calls figures files i))
       ∙ drop-drop 6 (6 * i) out₀
 
   -- What is written after the next call.
-  turn-written : (l out′ : List ℤ) (m′ : List ℕ) → GivenNumbers m (callAt calls figures i) l m′
-      → out′ ≡ take (6 * i) out ++ l ++ drop (6 * i + 6) out → out′ ≡ decided s calls figures (i + 1) ++ drop (6 * (i + 1)) out₀
+  turn-written : (l out′ : List ℤ) (m′ : List ℕ) → GivenNumbers m (callAt calls figures files i) l m′
+      → out′ ≡ take (6 * i) out ++ l ++ drop (6 * i + 6) out → out′ ≡ decided s calls figures files (i + 1) ++ drop (6 * (i + 1)) out₀
   unfolding decided
   turn-written l out′ m′ g e =
       let n : 6 * i + 6 ≡ 6 * (i + 1) = omega arith in
       e
       ∙ ap₂ (λ (x y : List ℤ). x ++ l ++ y) turn-before turn-behind
-      ∙ ap (λ (x : List ℤ). decided s calls figures i ++ x ++ drop (6 * i + 6) out₀) (g .answered ∙ ap sixNumbers turn-decided)
-      ∙ ap₂ (λ (j k : ℕ). decided s calls figures j ++ drop k out₀) (sym (add-one i)) n
+      ∙ ap (λ (x : List ℤ). decided s calls figures files i ++ x ++ drop (6 * i + 6) out₀) (g .answered ∙ ap sixNumbers turn-decided)
+      ∙ ap₂ (λ (j k : ℕ). decided s calls figures files j ++ drop k out₀) (sym (add-one i)) n
 
   -- One call more.
-  pub turn-next : (l out′ : List ℤ) (m′ : List ℕ) → i < count → GivenNumbers m (callAt calls figures i) l m′
-      → out′ ≡ take (6 * i) out ++ l ++ drop (6 * i + 6) out → Turn calls figures out₀ s count (i + 1) out′ m′
+  pub turn-next : (l out′ : List ℤ) (m′ : List ℕ) → i < count → GivenNumbers m (callAt calls figures files i) l m′
+      → out′ ≡ take (6 * i) out ++ l ++ drop (6 * i + 6) out → Turn calls figures files out₀ s count (i + 1) out′ m′
   unfolding callsUpTo run
   turn-next l out′ m′ h g e =
       let w = turn-written l out′ m′ g e in
@@ -275,40 +293,40 @@ module _ (calls : List ℕ) (figures out₀ : List ℤ) (s count i : ℕ) (out :
         made = omega arith;
         long =
             ap length w
-            ∙ length-append (decided s calls figures (i + 1)) (drop (6 * (i + 1)) out₀)
-            ∙ omega (arith, decided-long s calls figures (i + 1), length-drop (6 * (i + 1)) out₀, t .all);
+            ∙ length-append (decided s calls figures files (i + 1)) (drop (6 * (i + 1)) out₀)
+            ∙ omega (arith, decided-long s calls figures files (i + 1), length-drop (6 * (i + 1)) out₀, t .all);
         written = w;
         left =
             g .left
-            ∙ ap (λ (z : Book). step z (callAt calls figures i)) (t .left)
-            ∙ ap (λ (n : ℕ). run s (callsUpTo calls figures n)) (sym (add-one i));
+            ∙ ap (λ (z : Book). step z (callAt calls figures files i)) (t .left)
+            ∙ ap (λ (n : ℕ). run s (callsUpTo calls figures files n)) (sym (add-one i));
         formed = g .formed;
       }
 
 -- All calls.
-turn-all : (calls : List ℕ) (figures out₀ : List ℤ) (s count i : ℕ) (out : List ℤ) (m : List ℕ) → Turn calls figures out₀ s count i out m
-    → count ≤ i → Replayed s (callCount calls out₀) calls figures out₀ out (bookOfWords m)
-turn-all calls figures out₀ s count i out m t h =
+turn-all : (calls : List ℕ) (figures : List ℤ) (files : List ℕ) (out₀ : List ℤ) (s count i : ℕ) (out : List ℤ) (m : List ℕ)
+    → Turn calls figures files out₀ s count i out m → count ≤ i → Replayed s (callCount calls out₀) calls figures files out₀ out (bookOfWords m)
+turn-all calls figures files out₀ s count i out m t h =
     let made = t .made in
     let n : i ≡ count = omega arith in
-    subst (λ (k : ℕ). Replayed s k calls figures out₀ out (bookOfWords m)) (n ∙ t .all)
+    subst (λ (k : ℕ). Replayed s k calls figures files out₀ out (bookOfWords m)) (n ∙ t .all)
     (record {
       written = t .written;
-      kept = t .left ∙ life s (callsUpTo calls figures i) (t .day) .kept;
+      kept = t .left ∙ life s (callsUpTo calls figures files i) (t .day) .kept;
       left = t .left;
-      life = life s (callsUpTo calls figures i) (t .day);
-      reached = record { start = s; within = t .day; calls = callsUpTo calls figures i; leads = sym (t .left) };
+      life = life s (callsUpTo calls figures files i) (t .day);
+      reached = record { start = s; within = t .day; calls = callsUpTo calls figures files i; leads = sym (t .left) };
     })
 
-pub turn-last : (calls : List ℕ) (figures out₀ out : List ℤ) (d count i : ℕ) (x : Answer) (m₀ m : List ℕ) → d ≤ 29219 → BegunWords d x m₀
-    → Turn calls figures out₀ (firstDay m₀) count i out m → count ≤ i → ReplayedFrom d calls figures out₀ out x m
-turn-last calls figures out₀ out d count i x m₀ m h g t k =
+pub turn-last : (calls : List ℕ) (figures : List ℤ) (files : List ℕ) (out₀ out : List ℤ) (d count i : ℕ) (x : Answer) (m₀ m : List ℕ)
+    → d ≤ 29219 → BegunWords d x m₀ → Turn calls figures files out₀ (firstDay m₀) count i out m → count ≤ i → ReplayedFrom d calls figures files out₀ out x m
+turn-last calls figures files out₀ out d count i x m₀ m h g t k =
     record {
       answered = g .begun .answered;
       replayed = λ low.
-          subst (λ (s : ℕ). Replayed s (callCount calls out₀) calls figures out₀ out (bookOfWords m))
+          subst (λ (s : ℕ). Replayed s (callCount calls out₀) calls figures files out₀ out (bookOfWords m))
           (begun-today d x (bookOfWords m₀) h (g .begun))
-          (turn-all calls figures out₀ (firstDay m₀) count i out m t k);
+          (turn-all calls figures files out₀ (firstDay m₀) count i out m t k);
       late = λ high. absurd (omega arith);
       formed = t .formed;
     }

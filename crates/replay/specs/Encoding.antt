@@ -9,8 +9,8 @@ use lib.ListN.{getD, take, drop}
 use lib.IntN.{ℤ, pos}
 use Rattle.file.specs.declared.Position.{Position}
 use Rattle.file.specs.declared.Position.the-variants.{Cash, Letter}
-use Rattle.file.specs.Answer.{Answer, refused, done, called, covered, recorded, annual, daysOpened, stated, counted}
-use Rattle.book.specs.Call.{admit, lodge, release, settle, annualRun, Call, on, advance, statement, callsMade}
+use Rattle.file.specs.Answer.{Answer, refused, done, called, covered, recorded, annual, daysOpened, stated, counted, batched, refusedPair}
+use Rattle.book.specs.Call.{admit, lodge, release, settle, annualRun, Call, on, advance, statement, callsMade, batch}
 use Rattle.book.specs.Reading.Decisions.{decision, eventsOf}
 
 -- A day or month number in a word: one too large for the type counts as the type's largest.
@@ -21,10 +21,10 @@ number w = min w 4294967295
 abbrev pub letterOfNumbers : ℕ → ℕ → ℕ → Position
 letterOfNumbers amount first last = Letter amount (record { 0 = number first }) (record { 0 = number last })
 
--- The call in six words: its kind and its arguments. A settlement's figures are the d from place c on of the lent figures, or as many of
--- these as there are. A kind above 7 is the question for the count.
-unfoldable pub callOfSix : List ℤ → ℕ → ℕ → ℕ → ℕ → ℕ → ℕ → Call
-callOfSix figures kind a b c d e =
+-- The call in six words: its kind and its arguments. A settlement's figures are the d from place c on of the lent figures, and the file of a
+-- batch is the b bytes from place a on of the lent files, or as many of these as there are. A kind above 8 is the question for the count.
+unfoldable pub callOfSix : List ℤ → List ℕ → ℕ → ℕ → ℕ → ℕ → ℕ → ℕ → Call
+callOfSix figures files kind a b c d e =
     cond (eqb kind 0) (on a (admit b))
     (cond (eqb kind 1) (on a (lodge b (Cash c)))
     (cond (eqb kind 2) (on a (lodge b (letterOfNumbers c d e)))
@@ -32,12 +32,13 @@ callOfSix figures kind a b c d e =
     (cond (eqb kind 4) (on a (settle (number b) (take d (drop c figures))))
     (cond (eqb kind 5) (on a annualRun)
     (cond (eqb kind 6) (advance (number a) b)
-    (cond (eqb kind 7) (statement a) callsMade)))))))
+    (cond (eqb kind 7) (statement a)
+    (cond (eqb kind 8) (batch (take b (drop a files))) callsMade))))))))
 
 -- The call at place n of a list of calls.
-unfoldable pub callAt : List ℕ → List ℤ → ℕ → Call
-callAt calls figures n =
-    callOfSix figures
+unfoldable pub callAt : List ℕ → List ℤ → List ℕ → ℕ → Call
+callAt calls figures files n =
+    callOfSix figures files
     (getD calls (6 * n) 0)
     (getD calls (6 * n + 1) 0)
     (getD calls (6 * n + 2) 0)
@@ -46,9 +47,9 @@ callAt calls figures n =
     (getD calls (6 * n + 5) 0)
 
 -- The first n calls, the newest first.
-unfoldable pub callsUpTo : List ℕ → List ℤ → ℕ → List Call
-callsUpTo calls figures zero = []
-callsUpTo calls figures (suc n) = callAt calls figures n ∷ callsUpTo calls figures n
+unfoldable pub callsUpTo : List ℕ → List ℤ → List ℕ → ℕ → List Call
+callsUpTo calls figures files zero = []
+callsUpTo calls figures files (suc n) = callAt calls figures files n ∷ callsUpTo calls figures files n
 
 -- Six numbers, the first of them natural.
 abbrev pub six : ℕ → ℤ → ℤ → ℤ → ℤ → ℤ → List ℤ
@@ -65,6 +66,8 @@ sixNumbers (annual a n) = six 5 (pos a) (pos n) (pos 0) (pos 0) (pos 0)
 sixNumbers (daysOpened n) = six 6 (pos n) (pos 0) (pos 0) (pos 0) (pos 0)
 sixNumbers (stated f c s d a) = six 7 (pos f) (pos c) (pos s) (pos d) (pos a)
 sixNumbers (counted n) = six 8 (pos n) (pos 0) (pos 0) (pos 0) (pos 0)
+sixNumbers (batched n) = six 9 (pos n) (pos 0) (pos 0) (pos 0) (pos 0)
+sixNumbers (refusedPair n i) = six 10 (pos n) (pos i) (pos 0) (pos 0) (pos 0)
 
 -- The largest number of a signed word of 64 bits.
 abbrev pub largestSigned : ℕ
@@ -86,10 +89,12 @@ WithinSigned (stated f c s d a) =
     × (d ≤ largestSigned)
     × (a ≤ largestSigned)
 WithinSigned (counted n) = n ≤ largestSigned
+WithinSigned (batched n) = Unit {0}
+WithinSigned (refusedPair n i) = Unit {0}
 
 -- The numbers of the reading's decisions on the first n calls from a fresh book on day s, in the calls' order.
-unfoldable pub decided : ℕ → List ℕ → List ℤ → ℕ → List ℤ
-decided s calls figures zero = []
-decided s calls figures (suc n) =
-    decided s calls figures n
-    ++ sixNumbers (decision s (eventsOf s (callsUpTo calls figures n)) (callAt calls figures n))
+unfoldable pub decided : ℕ → List ℕ → List ℤ → List ℕ → ℕ → List ℤ
+decided s calls figures files zero = []
+decided s calls figures files (suc n) =
+    decided s calls figures files n
+    ++ sixNumbers (decision s (eventsOf s (callsUpTo calls figures files n)) (callAt calls figures files n))

@@ -29,22 +29,22 @@ abbrev pub callCount : List ℕ → List ℤ → ℕ
 callCount calls out = min (length calls / 6) (length out / 6)
 
 -- Demand 3, of the first n calls from a fresh book on day s: what was written, `before` being there until then, and the book b at the end.
-pub record Replayed (s n : ℕ) (calls : List ℕ) (figures before after : List ℤ) (b : Book) : Type 0 where
+pub record Replayed (s n : ℕ) (calls : List ℕ) (figures : List ℤ) (files : List ℕ) (before after : List ℤ) (b : Book) : Type 0 where
   -- the numbers of each answer are those that paper 01 decides, call by call; what is past them is as it was
-  pub written : after ≡ decided s calls figures n ++ drop (6 * n) before
+  pub written : after ≡ decided s calls figures files n ++ drop (6 * n) before
   -- the book is that of the readings of the history, field by field
-  pub kept : b ≡ bookIn s (eventsOf s (callsUpTo calls figures n))
+  pub kept : b ≡ bookIn s (eventsOf s (callsUpTo calls figures files n))
   -- it is the book that the calls lead to, and the claim about the list of calls holds of it
-  pub left : b ≡ run s (callsUpTo calls figures n)
-  pub life : Life s (callsUpTo calls figures n)
+  pub left : b ≡ run s (callsUpTo calls figures files n)
+  pub life : Life s (callsUpTo calls figures files n)
   -- calls may go on
   pub reached : Reached b
 
 -- What a list of calls from a fresh book on day s gives, m being the words that the book is left in; beside a refusal stands the fresh book of
 -- day 0, and nothing is written.
-pub record ReplayedFrom (s : ℕ) (calls : List ℕ) (figures before after : List ℤ) (x : Answer) (m : List ℕ) : Type 0 where
+pub record ReplayedFrom (s : ℕ) (calls : List ℕ) (figures : List ℤ) (files : List ℕ) (before after : List ℤ) (x : Answer) (m : List ℕ) : Type 0 where
   pub answered : x ≡ freshAnswer s
-  pub replayed : s ≤ 29219 → Replayed s (callCount calls before) calls figures before after (bookOfWords m)
+  pub replayed : s ≤ 29219 → Replayed s (callCount calls before) calls figures files before after (bookOfWords m)
   pub late : 29219 < s → (after ≡ before) × (bookOfWords m ≡ freshBook 0)
   -- a call may be made on the words
   pub formed : WellFormed m

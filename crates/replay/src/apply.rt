@@ -41,6 +41,15 @@ fn part(figures: &[i64], from: u64, count: u64) -> &[i64]
     &figures[start..end]
 }
 
+// The bytes from a place on, `count` of them or as many as there are.
+fn part_of_files(files: &[u8], from: u64, count: u64) -> &[u8]
+    ensures { λ r. ⌜ now r ≡ take count (drop from (now (files .entry))) ⌝ }
+{
+    let start = smaller(from, files.len());
+    let end = start + smaller(count, files.len() - start);
+    &files[start..end]
+}
+
 // A letter, from its amount, its first and its last day.
 fn letter(amount: u64, first: u64, last: u64) -> Position
     ensures { λ r. ⌜ r ≡ letterOfNumbers amount first last ⌝ }
@@ -52,6 +61,7 @@ fn letter(amount: u64, first: u64, last: u64) -> Position
 fn apply(
     book: &mut [u64],
     figures: &[i64],
+    files: &[u8],
     kind: u64,
     a: u64,
     b: u64,
@@ -60,7 +70,7 @@ fn apply(
     e: u64,
 ) -> [i64; 6]
     requires { ⌜ WellFormed (now book) ⌝ }
-    ensures { λ r. ⌜ GivenNumbers (now (book .entry)) (callOfSix (now (figures .entry)) kind a b c d e) r (now (book .exit)) ⌝ }
+    ensures { λ r. ⌜ GivenNumbers (now (book .entry)) (callOfSix (now (figures .entry)) (now (files .entry)) kind a b c d e) r (now (book .exit)) ⌝ }
 {
     match kind {
         0 => encoded::outcome_numbers(book::admit(book, a, b)),
@@ -76,19 +86,27 @@ fn apply(
         5 => encoded::annual_numbers(book::annual_run(book, a)),
         6 => encoded::advanced_numbers(book::advance(book, Day(clipped(a)), b)),
         7 => encoded::stated_numbers(book::statement(book, a)),
+        8 => encoded::loaded_numbers(book::load(book, part_of_files(files, a, b))),
         _ => encoded::counted_numbers(book::calls_made(book)),
     }
 }
 
 // Makes the call at a place of a list of calls, and gives the numbers of its answer.
-pub fn apply_at(book: &mut [u64], calls: &[u64], figures: &[i64], place: usize) -> [i64; 6]
+pub fn apply_at(
+    book: &mut [u64],
+    calls: &[u64],
+    figures: &[i64],
+    files: &[u8],
+    place: usize,
+) -> [i64; 6]
     requires { ⌜ WellFormed (now book) × (6 * place + 6 ≤ length (now calls)) ⌝ }
-    ensures { λ r. ⌜ GivenNumbers (now (book .entry)) (callAt (now (calls .entry)) (now (figures .entry)) place) r (now (book .exit)) ⌝ }
+    ensures { λ r. ⌜ GivenNumbers (now (book .entry)) (callAt (now (calls .entry)) (now (figures .entry)) (now (files .entry)) place) r (now (book .exit)) ⌝ }
 {
     let at = 6 * place;
     apply(
         book,
         figures,
+        files,
         calls[at],
         calls[at + 1],
         calls[at + 2],

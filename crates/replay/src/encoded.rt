@@ -1,5 +1,6 @@
 // An answer as six numbers: which it is, then its values, then zeros.
 use book::Advanced;
+use book::Loaded;
 use book::Stated;
 use file::AnnualRun;
 use file::Outcome;
@@ -9,7 +10,7 @@ ghost use mathlib.Core.Path.{_≡_};
 ghost use Prim.Native.Nat.{_≤_};
 ghost use lib.IntN.{pos};
 ghost use Rattle.file.specs.Answer.{counted, outcomeSays, settledSays, annualSays, statementSays};
-ghost use Rattle.book.specs.Call.{advancedSays, statedSays};
+ghost use Rattle.book.specs.Call.{advancedSays, statedSays, loadedSays};
 ghost use Rattle.replay.specs.Encoding.{largestSigned, six, sixNumbers, WithinSigned};
 
 // A number of a signed word.
@@ -22,7 +23,7 @@ fn signed(x: u64) -> i64
 
 // A number that says which answer it is, its first three values, and zeros for the others.
 fn values(kind: u64, a: u64, b: u64, c: u64) -> [i64; 6]
-    requires { ⌜ (kind ≤ 8) × (a ≤ largestSigned) × (b ≤ largestSigned) × (c ≤ largestSigned) ⌝ }
+    requires { ⌜ (kind ≤ 10) × (a ≤ largestSigned) × (b ≤ largestSigned) × (c ≤ largestSigned) ⌝ }
     ensures { λ r. ⌜ r ≡ six kind (pos a) (pos b) (pos c) (pos 0) (pos 0) ⌝ }
 {
     [signed(kind), signed(a), signed(b), signed(c), 0, 0]
@@ -95,6 +96,16 @@ pub fn stated_numbers(answer: Stated) -> [i64; 6]
     match answer {
         Stated::Is(s) => statement_numbers(s),
         Stated::Refused(n) => values(0, n as u64, 0, 0),
+    }
+}
+
+// The numbers of a batch's answer.
+pub fn loaded_numbers(answer: Loaded) -> [i64; 6]
+    ensures { λ r. ⌜ r ≡ sixNumbers (loadedSays answer) ⌝ }
+{
+    match answer {
+        Loaded::Parts(n) => values(9, n as u64, 0, 0),
+        Loaded::Refused(n, pair) => values(10, n as u64, pair as u64, 0),
     }
 }
 

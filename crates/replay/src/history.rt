@@ -32,17 +32,19 @@ fn put(out: &mut [i64], at: usize, numbers: [i64; 6])
 }
 
 // Writes a fresh book on a day into lent words, makes the calls in turn on it, and writes the six numbers of each answer; says what the fresh
-// book answered, and leaves the book at the end. Six words are a call; a settlement's figures are a part of `figures`.
+// book answered, and leaves the book at the end. Six words are a call; a settlement's figures are a part of `figures`, and a
+// batch's file is a part of `files`.
 pub fn replay(
     start: Day,
     calls: &[u64],
     figures: &[i64],
+    files: &[u8],
     out: &mut [i64],
     book: &mut [u64],
 ) -> Outcome
     requires { ⌜ length (now book) ≡ bookLength ⌝ }
-    ensures { λ r. ⌜ ReplayedFrom (start .0) (now (calls .entry)) (now (figures .entry)) (now (out .entry)) (now (out .exit)) (outcomeSays r)
-        (now (book .exit)) ⌝ }
+    ensures { λ r. ⌜ ReplayedFrom (start .0) (now (calls .entry)) (now (figures .entry)) (now (files .entry)) (now (out .entry))
+        (now (out .exit)) (outcomeSays r) (now (book .exit)) ⌝ }
 {
     let answer = book::fresh(book, start);
     if 29219 < start.0 {
@@ -51,7 +53,7 @@ pub fn replay(
     let count = call_count(calls.len(), out.len());
     let mut i = 0;
     while i < count {
-        let numbers = apply::apply_at(book, calls, figures, i);
+        let numbers = apply::apply_at(book, calls, figures, files, i);
         put(out, 6 * i, numbers);
         i += 1;
     }

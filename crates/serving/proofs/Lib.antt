@@ -6,3 +6,4 @@ pub mod BufferLaws
 pub mod StreamLaws
 pub mod InputStream
 pub mod OptionLaws
+pub mod LoadLaws

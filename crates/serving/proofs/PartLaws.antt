@@ -14,7 +14,7 @@ use Rattle.dialogue.specs.declared.Way.{Way}
 use Rattle.dialogue.specs.declared.Place.{Place}
 use Rattle.dialogue.specs.Split.{linesIn, restIn}
 use Rattle.dialogue.specs.Turns.{State, ended, afterAll, allBytes, allJournal}
-use Rattle.dialogue.specs.Answers.{goesOn, Answers}
+use Rattle.dialogue.specs.Answers.{mostKept, goesOn, Answers}
 use Rattle.dialogue.proofs.AskLaws.{rest-all}
 use Rattle.dialogue.proofs.SplitLaws.{lines-behind, rest-behind}
 use Rattle.dialogue.proofs.CompleteLines.{all-lines, none-rest}
@@ -41,16 +41,16 @@ unfolding linesIn allBytes
 no-bytes way room t l e = rw e refl
 
 -- Where nothing is written yet and the lines have not ended, one more is taken.
-would-go : (way : Way) (p : Place) (j a r b : ℕ) → ended way p ≡ false → j ≡ 0 → r ≡ 0 → 1024 ≤ a → 16384 ≤ b → goesOn way p j a r b ≡ true
+would-go : (way : Way) (p : Place) (j a r b : ℕ) → ended way p ≡ false → j ≡ 0 → r ≡ 0 → mostKept ≤ a → 16384 ≤ b → goesOn way p j a r b ≡ true
 unfolding goesOn
 would-go way p j a r b e x y h k =
-    let m : leb 1024 (a - 0) ≡ true = le-leb 1024 (a - 0) (omega arith) in
+    let m : leb mostKept (a - 0) ≡ true = le-leb mostKept (a - 0) (omega arith) in
     let n : leb 16384 (b - 0) ≡ true = le-leb 16384 (b - 0) (omega arith) in
     rw (e, x, y, m, n, or-true (way .batch)) refl
 
 -- ---- the lines of some bytes of a part
 
-pub stepped : (way : Way) (room : ℕ) (s t : State) (input k f : List ℕ) (used j r : ℕ) → Answers way room s input used t j k r f → 1024 ≤ length k
+pub stepped : (way : Way) (room : ℕ) (s t : State) (input k f : List ℕ) (used j r : ℕ) → Answers way room s input used t j k r f → mostKept ≤ length k
     → 16384 ≤ length f → Step way room s input used t
 stepped way room s t input k f used j r x a b =
     let y = x .taken in

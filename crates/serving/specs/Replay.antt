@@ -6,9 +6,10 @@ use lib.Dec.{ltb}
 use Rattle.dialogue.specs.declared.Place.{Place}
 
 -- "Only a rest of at most one kept line's length, behind complete lines that replay, is dropped": whether so many bytes may be a rest, at the place
--- behind the complete lines. Older versions kept lines of up to 8,192 bytes, those of special guarantees.
+-- behind the complete lines. The longest kept lines are those of batches, below 20,480 bytes; older versions kept lines of up to 8,192 bytes, those
+-- of special guarantees.
 abbrev pub isRest : Place → ℕ → Bool
-isRest p n = (ltb 0 (p .line) && not (p .long)) && ltb n 8192
+isRest p n = (ltb 0 (p .line) && not (p .long)) && ltb n 20480
 
 -- Whether a journal may be gone on with: nothing stands there, or such a rest.
 abbrev pub passes : Place → ℕ → Bool

@@ -1,4 +1,4 @@
-// Places for the numbers of a line, and the smaller of two lengths.
+// Places for the numbers of a line and for the bytes of a file, and the smaller of two lengths.
 ghost use mathlib.Core.Path.{_≡_};
 ghost use Prim.Native.Nat.{min};
 ghost use lib.ListN.{length};
@@ -8,6 +8,13 @@ pub fn numbers() -> [i64; 32768]
     ensures { λ r. ⌜ 32768 ≡ length r ⌝ }
 {
     [0; 32768]
+}
+
+// Room for a file that is entered, and one byte more: the digits of 32,764 bytes make a line that fills a buffer of 65,536 bytes but for one.
+pub fn file() -> [u8; 32765]
+    ensures { λ r. ⌜ 32765 ≡ length r ⌝ }
+{
+    [0; 32765]
 }
 
 // The smaller of two lengths.

@@ -1,14 +1,16 @@
-// An input, read in parts to its end.
+// An input, read in parts to its end, and a file entered behind it.
 ghost use mathlib.Core.Path.{_≡_};
 ghost use mathlib.Core.Bool.{true, false, _&&_, not};
-ghost use Prim.Native.Nat.{_≤_, _<_};
+ghost use Prim.Native.Nat.{_+_, _*_, _≤_, _<_};
 ghost use lib.ListN.{length};
 ghost use Rattle.layout.specs.WellFormed.{WellFormed};
 ghost use Rattle.dialogue.specs.Turns.{ended};
-ghost use Rattle.dialogue.specs.Answers.{stateOf};
+ghost use Rattle.dialogue.specs.Answers.{mostKept, stateOf};
 ghost use Rattle.serving.specs.Input.{MoreRead, MovedDown, isLong, staying as Input·staying, BehindPart, PartTaken, InputTaken};
+ghost use Rattle.serving.specs.Load.{EnteredIf};
 use crate::buffers;
 use crate::delivery::Progress;
+use crate::load::enter;
 use crate::parts::Taken;
 use crate::parts::drain;
 use crate::usage::put_end;
@@ -128,7 +130,7 @@ fn take_part(
     kept: &mut [u8],
     out: &mut [u8],
 ) -> Taken
-    requires { ⌜ WellFormed (now book) × (full ≤ length (now buffer)) × (0 < length (now buffer)) × (1024 ≤ length (now kept))
+    requires { ⌜ WellFormed (now book) × (full ≤ length (now buffer)) × (0 < length (now buffer)) × (mostKept ≤ length (now kept))
         × (16384 ≤ length (now out)) ⌝ }
     ensures { λ r. ⌜ WellFormed (now (book .exit)) × (r .used < length (now (buffer .entry))) ⌝ }
     ensures { λ r. ⌜ PartTaken way (length (now (numbers .entry))) (stateOf (now (book .entry)) (progress .place)) (now (buffer .entry)) full
@@ -168,7 +170,7 @@ pub fn take_parts(
     kept: &mut [u8],
     out: &mut [u8],
 ) -> Taken
-    requires { ⌜ WellFormed (now book) × (0 < length (now buffer)) × (1024 ≤ length (now kept)) × (16384 ≤ length (now out)) ⌝ }
+    requires { ⌜ WellFormed (now book) × (0 < length (now buffer)) × (mostKept ≤ length (now kept)) × (16384 ≤ length (now out)) ⌝ }
     ensures { λ r. ⌜ WellFormed (now (book .exit)) × (r .used < length (now (buffer .entry))) ⌝ }
     ensures { λ r. ⌜ (progress .place .long ≡ false
         → InputTaken way (length (now (numbers .entry))) (stateOf (now (book .entry)) (progress .place)) (length (now (buffer .entry)))
@@ -219,7 +221,7 @@ fn take_last(
     kept: &mut [u8],
     out: &mut [u8],
 ) -> Progress
-    requires { ⌜ WellFormed (now book) × (taken .used < length (now buffer)) × (1024 ≤ length (now kept)) × (16384 ≤ length (now out)) ⌝ }
+    requires { ⌜ WellFormed (now book) × (taken .used < length (now buffer)) × (mostKept ≤ length (now kept)) × (16384 ≤ length (now out)) ⌝ }
     ensures { λ r. ⌜ WellFormed (now (book .exit)) ⌝ }
 {
     let progress = taken.progress;
@@ -244,15 +246,24 @@ fn take_last(
     last.progress
 }
 
-// Answers standard input to its end, and says so at last where that is asked for and all was answered.
-pub fn answer_input(book: &mut [u64], progress: Progress, way: Way, says_end: bool, name: &[u8])
-    requires { ⌜ WellFormed (now book) ⌝ }
+// Takes standard input to its end, where that is asked for.
+fn take_input(
+    asked: bool,
+    book: &mut [u64],
+    progress: Progress,
+    way: Way,
+    name: &[u8],
+    buffer: &mut [u8],
+    numbers: &mut [i64],
+    kept: &mut [u8],
+    out: &mut [u8],
+) -> Progress
+    requires { ⌜ WellFormed (now book) × (0 < length (now buffer)) × (mostKept ≤ length (now kept)) × (16384 ≤ length (now out)) ⌝ }
     ensures { λ r. ⌜ WellFormed (now (book .exit)) ⌝ }
 {
-    let mut buffer = io::large_buffer();
-    let mut numbers = buffers::numbers();
-    let mut kept = io::large_buffer();
-    let mut out = io::large_buffer();
+    if !asked {
+        return progress;
+    }
     let taken = take_parts(
         book,
         progress,
@@ -260,17 +271,69 @@ pub fn answer_input(book: &mut [u64], progress: Progress, way: Way, says_end: bo
         false,
         libc::STDIN_FILENO,
         name,
-        &mut buffer,
-        &mut numbers,
-        &mut kept,
-        &mut out,
+        buffer,
+        numbers,
+        kept,
+        out,
     );
     if !goes_on(taken.progress, way) {
-        return;
+        return taken.progress;
     }
-    let last = take_last(
+    take_last(book, taken, way, name, buffer, numbers, kept, out)
+}
+
+// Enters a file's bytes as one batch behind what was taken, where that is asked for and the lines have not ended.
+fn take_file(
+    asked: bool,
+    book: &mut [u64],
+    progress: Progress,
+    way: Way,
+    name: &[u8],
+    bytes: &[u8],
+    buffer: &mut [u8],
+    numbers: &mut [i64],
+    kept: &mut [u8],
+    out: &mut [u8],
+) -> Progress
+    requires { ⌜ WellFormed (now book) × (7 + 2 * length (now bytes) ≤ length (now buffer)) × (mostKept ≤ length (now kept))
+        × (16384 ≤ length (now out)) ⌝ }
+    ensures { λ r. ⌜ WellFormed (now (book .exit)) ⌝ }
+    ensures { λ r. ⌜ EnteredIf (asked && (progress .journal .ok && not (ended way (progress .place)))) way (length (now (numbers .entry)))
+        (stateOf (now (book .entry)) (progress .place)) progress (now (bytes .entry)) (stateOf (now (book .exit)) (r .place)) r ⌝ }
+{
+    if !(asked & goes_on(progress, way)) {
+        return progress;
+    }
+    enter(book, progress, way, name, bytes, buffer, numbers, kept, out)
+}
+
+// What is answered: standard input to its end, and behind it a file as one batch, each where it is asked for; and whether the end is said.
+pub struct Sources {
+    pub input: bool,
+    pub load: bool,
+    pub says_end: bool,
+}
+
+// Answers standard input and a file's bytes, and says at last that all was answered where that is asked for and it was.
+pub fn answer_all(
+    book: &mut [u64],
+    progress: Progress,
+    way: Way,
+    from: Sources,
+    name: &[u8],
+    bytes: &[u8],
+)
+    requires { ⌜ WellFormed (now book) × (length (now bytes) ≤ 32764) ⌝ }
+    ensures { λ r. ⌜ WellFormed (now (book .exit)) ⌝ }
+{
+    let mut buffer = io::large_buffer();
+    let mut numbers = buffers::numbers();
+    let mut kept = io::large_buffer();
+    let mut out = io::large_buffer();
+    let last = take_input(
+        from.input,
         book,
-        taken,
+        progress,
         way,
         name,
         &mut buffer,
@@ -278,7 +341,19 @@ pub fn answer_input(book: &mut [u64], progress: Progress, way: Way, says_end: bo
         &mut kept,
         &mut out,
     );
-    if says_end & goes_on(last, way) {
-        put_end(last.place);
+    let end = take_file(
+        from.load,
+        book,
+        last,
+        way,
+        name,
+        bytes,
+        &mut buffer,
+        &mut numbers,
+        &mut kept,
+        &mut out,
+    );
+    if from.says_end & goes_on(end, way) {
+        put_end(end.place);
     }
 }

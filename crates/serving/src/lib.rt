@@ -1,11 +1,14 @@
 // The ways to run the ledger: as a filter from standard input to standard output, with a journal that is kept in a file, and reading one. The lines
 // themselves are taken by `dialogue`, and the files and streams are those of `storage`: here the one's bytes become the other's.
+ghost use Prim.Native.Nat.{_≤_, _<_};
+ghost use lib.ListN.{length};
 ghost use Rattle.layout.specs.WellFormed.{WellFormed};
 use calendar::Day;
 
 mod buffers; // buffers.rt: places for lines, numbers, answers and the journal's bytes
 mod delivery; // delivery.rt: what becomes of the bytes of lines
 mod input; // input.rt: an input, read in parts
+mod load; // load.rt: a file entered as one batch
 mod options; // options.rt: the arguments
 mod parts; // parts.rt: all complete lines of a part of an input
 mod replay; // replay.rt: the replay of a journal
@@ -13,13 +16,35 @@ mod usage; // usage.rt: what is printed of the program itself
 mod ways; // ways.rt: the ways to take the lines of an input
 
 use delivery::Progress;
-use input::answer_input;
+use input::Sources;
+use input::answer_all;
 use options::Options;
+use storage::Contents;
 use storage::Journal;
 
-// Answers standard input to its end, with no file.
-fn filter(book: &mut [u64], options: Options)
-    requires { ⌜ WellFormed (now book) ⌝ }
+// Reads the file that is to be entered, if there is one. If it can't be had, that is said.
+fn read_file(options: Options, bytes: &mut [u8]) -> Contents
+    requires { ⌜ 0 < length (now bytes) ⌝ }
+    ensures { λ r. ⌜ r .bytes < length (now (bytes .entry)) ⌝ }
+{
+    if options.load == 0 {
+        return Contents { ok: true, bytes: 0 };
+    }
+    let mut name = io::buffer();
+    let n = os::arg(options.load, &mut name);
+    if os::errno() != 0 {
+        storage::failed(b"the file's name");
+        return Contents {
+            ok: false,
+            bytes: 0,
+        };
+    }
+    storage::read_whole(&name[..n], bytes)
+}
+
+// Answers standard input to its end, with no journal, and then a file's bytes where one is to be entered.
+fn answer_alone(book: &mut [u64], options: Options, bytes: &[u8])
+    requires { ⌜ WellFormed (now book) × (length (now bytes) ≤ 32764) ⌝ }
     ensures { λ r. ⌜ WellFormed (now (book .exit)) ⌝ }
 {
     let progress = Progress {
@@ -27,18 +52,45 @@ fn filter(book: &mut [u64], options: Options)
         bytes: 0,
         journal: delivery::no_journal(),
     };
-    answer_input(
+    let from = Sources {
+        input: true,
+        load: options.load != 0,
+        says_end: options.end,
+    };
+    answer_all(
         book,
         progress,
         ways::filtering(options.bail),
-        options.end,
+        from,
         b"",
+        bytes,
     );
 }
 
-// Answers standard input to its end behind a replay, and keeps the changes, or reads only.
-fn answer_behind(book: &mut [u64], kept: u64, journal: Journal, options: Options, name: &[u8])
+// The ledger with no journal. A file that is to be entered is read before anything is answered.
+fn filter(book: &mut [u64], options: Options)
     requires { ⌜ WellFormed (now book) ⌝ }
+    ensures { λ r. ⌜ WellFormed (now (book .exit)) ⌝ }
+{
+    let mut bytes = buffers::file();
+    let file = read_file(options, &mut bytes);
+    if !file.ok {
+        return;
+    }
+    let n = file.bytes;
+    answer_alone(book, options, &bytes[..n]);
+}
+
+// Answers standard input to its end behind a replay, or in its place the file that is to be entered, and keeps the changes, or reads only.
+fn answer_behind(
+    book: &mut [u64],
+    kept: u64,
+    journal: Journal,
+    options: Options,
+    name: &[u8],
+    bytes: &[u8],
+)
+    requires { ⌜ WellFormed (now book) × (length (now bytes) ≤ 32764) ⌝ }
     ensures { λ r. ⌜ WellFormed (now (book .exit)) ⌝ }
 {
     let progress = Progress {
@@ -47,12 +99,17 @@ fn answer_behind(book: &mut [u64], kept: u64, journal: Journal, options: Options
         journal,
     };
     let way = ways::behind_replay(options.read, options.bail, options.batch);
-    answer_input(book, progress, way, options.end, name);
+    let from = Sources {
+        input: options.load == 0,
+        load: options.load != 0,
+        says_end: options.end,
+    };
+    answer_all(book, progress, way, from, name, bytes);
 }
 
-// Replays the journal with this name, and then answers standard input to its end, keeping each accepted change.
-fn keep(book: &mut [u64], options: Options, name: &[u8])
-    requires { ⌜ WellFormed (now book) ⌝ }
+// Replays the journal with this name, and then answers standard input to its end or enters a file's bytes, keeping each accepted change.
+fn keep_behind(book: &mut [u64], options: Options, name: &[u8], bytes: &[u8])
+    requires { ⌜ WellFormed (now book) × (length (now bytes) ≤ 32764) ⌝ }
     ensures { λ r. ⌜ WellFormed (now (book .exit)) ⌝ }
 {
     let opened = storage::open_kept(name);
@@ -69,8 +126,22 @@ fn keep(book: &mut [u64], options: Options, name: &[u8])
         storage::close_kept(name, journal);
         return;
     }
-    answer_behind(book, replayed.kept, journal, options, name);
+    answer_behind(book, replayed.kept, journal, options, name, bytes);
     storage::close_kept(name, journal);
+}
+
+// The ledger with the journal of this name, which is kept. A file that is to be entered is read before the journal is opened.
+fn keep(book: &mut [u64], options: Options, name: &[u8])
+    requires { ⌜ WellFormed (now book) ⌝ }
+    ensures { λ r. ⌜ WellFormed (now (book .exit)) ⌝ }
+{
+    let mut bytes = buffers::file();
+    let file = read_file(options, &mut bytes);
+    if !file.ok {
+        return;
+    }
+    let n = file.bytes;
+    keep_behind(book, options, name, &bytes[..n]);
 }
 
 // Replays the journal with this name, and then answers the questions of standard input to its end. No call is counted as kept there, so that a
@@ -88,7 +159,7 @@ fn read(book: &mut [u64], options: Options, name: &[u8])
     if !replayed.ok {
         return;
     }
-    answer_behind(book, 0, delivery::no_journal(), options, name);
+    answer_behind(book, 0, delivery::no_journal(), options, name, b"");
 }
 
 // The ledger with a journal: the standard streams must be open, or the journal's file would take the place of one.
@@ -115,7 +186,7 @@ fn with_journal(book: &mut [u64], options: Options)
 // The ledger. The one book of the program is here, the fresh book of day 0 until a `fresh` line.
 pub fn run() {
     let options = options::asked_for();
-    if options.wrong | (options.read & (options.name == 0)) {
+    if options::is_wrong(options) {
         usage::put_usage(libc::STDERR_FILENO);
         return;
     }

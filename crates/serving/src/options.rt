@@ -1,11 +1,12 @@
-// The arguments: options, and the name of a journal.
+// The arguments: options, the name of a journal, and that of a file to be entered.
 ghost use mathlib.Core.Path.{_≡_};
 ghost use mathlib.Core.Bool.{cond};
-ghost use Rattle.serving.specs.Options.{noOptions, isDashed, withArgument};
+ghost use Rattle.serving.specs.Options.{noOptions, isDashed, withOption, withFile, withArgument, isWrong};
 use words::place_of;
 
-// What the arguments ask for: the options, whether the usage or the version is asked for, whether there is one that is none of these, and the
-// place of the journal's name among the arguments, 0 if there is none.
+// What the arguments ask for: the options, whether the usage or the version is asked for, whether there is one that is none of these, the place of
+// the journal's name among the arguments, 0 if there is none, whether the next one is the name of the file to be entered, and the place of that name,
+// 0 if there is none.
 pub struct Options {
     pub bail: bool,
     pub end: bool,
@@ -15,6 +16,8 @@ pub struct Options {
     pub version: bool,
     pub wrong: bool,
     pub name: usize,
+    pub awaits: bool,
+    pub load: usize,
 }
 
 // Nothing is asked for.
@@ -30,6 +33,8 @@ fn none() -> Options
         version: false,
         wrong: false,
         name: 0,
+        awaits: false,
+        load: 0,
     }
 }
 
@@ -51,11 +56,14 @@ fn name_place(given: bool, place: usize, before: usize) -> usize
 }
 
 // What is asked for with one argument more, at a place: an option, or the one name of a journal, which does not begin as an option does.
-fn with_argument(options: Options, place: usize, argument: &[u8]) -> Options
-    ensures { λ r. ⌜ r ≡ withArgument options place (now (argument .entry)) ⌝ }
+fn with_option(options: Options, place: usize, argument: &[u8]) -> Options
+    ensures { λ r. ⌜ r ≡ withOption options place (now (argument .entry)) ⌝ }
 {
-    let k = place_of(argument, b"--bail --end --batch --read --help -h --version");
-    let named = 7 <= k;
+    let k = place_of(
+        argument,
+        b"--bail --end --batch --read --help -h --version --load",
+    );
+    let named = 8 <= k;
     let free = !is_dashed(argument) & (options.name == 0);
     Options {
         bail: options.bail | (k == 0),
@@ -64,9 +72,46 @@ fn with_argument(options: Options, place: usize, argument: &[u8]) -> Options
         read: options.read | (k == 3),
         help: options.help | (k == 4) | (k == 5),
         version: options.version | (k == 6),
-        wrong: options.wrong | (named & !free),
+        wrong: options.wrong | (named & !free) | ((k == 7) & (options.load != 0)),
         name: name_place(named & free, place, options.name),
+        awaits: k == 7,
+        load: options.load,
     }
+}
+
+// What is asked for with the name of the file to be entered, at a place, which does not begin as an option does.
+fn with_file(options: Options, place: usize, argument: &[u8]) -> Options
+    ensures { λ r. ⌜ r ≡ withFile options place (now (argument .entry)) ⌝ }
+{
+    Options {
+        bail: options.bail,
+        end: options.end,
+        batch: options.batch,
+        read: options.read,
+        help: options.help,
+        version: options.version,
+        wrong: options.wrong | is_dashed(argument),
+        name: options.name,
+        awaits: false,
+        load: place,
+    }
+}
+
+// What is asked for with one argument more, at a place.
+fn with_argument(options: Options, place: usize, argument: &[u8]) -> Options
+    ensures { λ r. ⌜ r ≡ withArgument options place (now (argument .entry)) ⌝ }
+{
+    if options.awaits {
+        return with_file(options, place, argument);
+    }
+    with_option(options, place, argument)
+}
+
+// Whether the arguments are none that the program takes.
+pub fn is_wrong(options: Options) -> bool
+    ensures { λ r. ⌜ r ≡ isWrong options ⌝ }
+{
+    options.wrong | options.awaits | (options.read & ((options.name == 0) | (options.load != 0)))
 }
 
 // What the program's arguments ask for.

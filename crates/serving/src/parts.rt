@@ -4,7 +4,7 @@ ghost use lib.ListN.{length, take};
 ghost use Rattle.layout.specs.WellFormed.{WellFormed};
 ghost use Rattle.dialogue.specs.Split.{linesIn};
 ghost use Rattle.dialogue.specs.Turns.{allJournal};
-ghost use Rattle.dialogue.specs.Answers.{stateOf};
+ghost use Rattle.dialogue.specs.Answers.{mostKept, stateOf};
 ghost use Rattle.serving.specs.Delivery.{Grown};
 ghost use Rattle.serving.specs.Parts.{Step, Drained};
 use crate::delivery::Progress;
@@ -40,7 +40,7 @@ fn take_some(
     kept: &mut [u8],
     out: &mut [u8],
 ) -> Some
-    requires { ⌜ WellFormed (now book) × (1024 ≤ length (now kept)) × (16384 ≤ length (now out)) ⌝ }
+    requires { ⌜ WellFormed (now book) × (mostKept ≤ length (now kept)) × (16384 ≤ length (now out)) ⌝ }
     ensures { λ r. ⌜ WellFormed (now (book .exit)) × (r .used ≤ length (now (input .entry))) ⌝ }
     ensures { λ r. ⌜ Step way (length (now (numbers .entry))) (stateOf (now (book .entry)) place) (now (input .entry)) (r .used)
         (stateOf (now (book .exit)) (r .place)) ⌝ }
@@ -72,7 +72,7 @@ pub fn drain(
     kept: &mut [u8],
     out: &mut [u8],
 ) -> Taken
-    requires { ⌜ WellFormed (now book) × (1024 ≤ length (now kept)) × (16384 ≤ length (now out)) ⌝ }
+    requires { ⌜ WellFormed (now book) × (mostKept ≤ length (now kept)) × (16384 ≤ length (now out)) ⌝ }
     ensures { λ r. ⌜ WellFormed (now (book .exit)) × (r .used ≤ length (now (input .entry))) ⌝ }
     ensures { λ r. ⌜ Drained way (length (now (numbers .entry))) (stateOf (now (book .entry)) (progress .place)) (now (input .entry)) (r .used)
         (stateOf (now (book .exit)) (r .progress .place)) (r .progress .journal .ok) ⌝ }

@@ -14,7 +14,7 @@ use storage::write_whole;
 pub fn put_usage(stream: i32) {
     write_whole(
         stream,
-        b"usage: ledger [--bail] [--end] [--batch] [JOURNAL]
+        b"usage: ledger [--bail] [--end] [--batch] [--load FILE] [JOURNAL]
        ledger [--bail] [--end] --read JOURNAL
        ledger --help | -h | --version
 
@@ -22,6 +22,7 @@ Answers calls from standard input, one a line. With JOURNAL the book is kept in 
   --bail   stop behind the first refusal or error
   --end    a last line `end LINES ACCEPTED` when all lines were answered and kept
   --batch  keep the lines of a part of the input by one forced write
+  --load   enter FILE, a month's settlement file, as one batch: with JOURNAL in place of standard input, else behind it
   --read   replay JOURNAL and answer questions only; nothing is written
 ",
     );
@@ -29,7 +30,7 @@ Answers calls from standard input, one a line. With JOURNAL the book is kept in 
 
 // The version: its second number grows with what is kept or answered otherwise than before.
 pub fn put_version() {
-    write_whole(libc::STDOUT_FILENO, b"ledger 1.1\n");
+    write_whole(libc::STDOUT_FILENO, b"ledger 1.2\n");
 }
 
 // How many lines were neither refused nor an error.

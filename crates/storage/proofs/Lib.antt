@@ -2,3 +2,4 @@ pub mod Bytes
 pub mod Journals
 pub mod Lent
 pub mod Signs
+pub mod WholeLaws

@@ -6,6 +6,7 @@ mod locks; // locks.rt: the lock of a kept journal
 mod messages; // messages.rt: messages on standard error
 mod texts; // texts.rt: texts put together, shown and read
 mod waiting; // waiting.rt: reads and writes that wait
+mod whole; // whole.rt: a whole file, read at once
 
 pub use files::open_read;
 pub use kept::Journal;
@@ -20,3 +21,5 @@ pub use messages::failed;
 pub use messages::show_dropped;
 pub use waiting::read_part;
 pub use waiting::write_whole;
+pub use whole::Contents;
+pub use whole::read_whole;

@@ -57,6 +57,14 @@ pub fn kept_by(name: &[u8], process: u64, lock: &[u8]) {
     say(b"\n");
 }
 
+// That a file, which must be shorter than so many bytes, is not.
+pub fn too_long(name: &[u8], room: u64) {
+    begin(name);
+    say(b"too long, it must have fewer than ");
+    say_number(room);
+    say(b" bytes\n");
+}
+
 // A text with `?` for each byte that is no printed sign.
 fn say_shown(text: &[u8]) {
     let mut buffer = [0u8; 4096];

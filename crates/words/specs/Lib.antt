@@ -4,3 +4,4 @@ pub mod Words
 pub mod Found
 pub mod Numerals
 pub mod Dates
+pub mod Hex

@@ -28,7 +28,7 @@ pub enum Signed {
 }
 
 // Whether a byte is a digit.
-fn is_digit(b: u8) -> bool
+pub fn is_digit(b: u8) -> bool
     ensures { λ r. ⌜ r ≡ digit b ⌝ }
 {
     (48 <= b) & (b <= 57)

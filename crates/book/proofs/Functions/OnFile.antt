@@ -12,7 +12,8 @@ use lib.ListN.{length}
 use lib.Seq.{set-getD}
 use Rattle.laws.specs.Cases.{split, cond-true, cond-false}
 use Rattle.file.specs.declared.File.{File}
-use Rattle.file.specs.Answer.{Answer, refused, done, called, covered, recorded, annual, daysOpened, stated, counted, decide, accepted}
+use Rattle.file.specs.Answer.{Answer, refused, done, called, covered, recorded, annual, daysOpened, stated, counted, batched, refusedPair}
+use Rattle.file.specs.Answer.{decide, accepted}
 use Rattle.file.specs.Admit.{noFile, admittedFile, callsOfAdmission}
 use Rattle.file.specs.CheckLaws.{settled-answer}
 use Rattle.file.specs.Settle.{settleAnswer, settledFile, settledAnswer, settlementCalls, checkDue}
@@ -88,6 +89,8 @@ refused-not-called (annual a n) e = refl
 refused-not-called (daysOpened n) e = refl
 refused-not-called (stated f c s d a) e = refl
 refused-not-called (counted n) e = refl
+refused-not-called (batched n) e = refl
+refused-not-called (refusedPair n i) e = refl
 
 -- A settlement's answer where no cause holds is a call where the manual's check calls.
 settled-called : (f : File) (t m : ℕ) (figures : List ℤ) → isCalled (settledAnswer f t m figures) ≡ settlementCalls f t m figures

@@ -19,7 +19,7 @@ use Rattle.file.specs.declared.MonthTotal.{MonthTotal}
 use Rattle.file.specs.declared.AnnualRun.{AnnualRun}
 use Rattle.file.specs.declared.Slot.{Slot}
 use Rattle.file.specs.declared.Statement.{Statement}
-use Rattle.file.specs.Answer.{Answer, refused, done, called, covered, recorded, annual, daysOpened, stated, counted}
+use Rattle.file.specs.Answer.{Answer, refused, done, called, covered, recorded, annual, daysOpened, stated, counted, batched, refusedPair}
 use Rattle.file.specs.Answer.{accepted, annualSays, statementSays}
 use Rattle.file.specs.Admit.{noFile, admittedFile}
 use Rattle.file.specs.Annual.{annualAmountOf, annualAnswer, annualFile}
@@ -152,6 +152,8 @@ amountIn (annual a n) = a
 amountIn (daysOpened n) = 0
 amountIn (stated f c s d a) = 0
 amountIn (counted n) = 0
+amountIn (batched n) = 0
+amountIn (refusedPair n i) = 0
 
 pub above-given : (l : List ℕ) (p : ℕ) (a : Act) → WellFormed l → 63 < p → GivenWords l (on p a) (refused 1) l
 above-given l p a w h = nothing-written l (on p a) (refused 1) w (above (bookOfWords l) p a h)

@@ -28,13 +28,15 @@ use Rattle.file.specs.KeepsPositions.{none-sound, admitted-sound, lodged-sound,
 use Rattle.file.specs.KeepsCalls.{open-count, opened-sound, settled-sound, annual-sound}
 use Rattle.layout.specs.Book.{Book}
 use Rattle.layout.specs.WellFormed.{openCount, BlankUnlessAdmitted, SoundBook}
-use Rattle.book.specs.Call.{Act, admit, lodge, release, settle, annualRun, Call, on, advance, statement, callsMade}
+use Rattle.batch.specs.Batch.{countIn, participantAt}
+use Rattle.book.specs.Call.{Act, admit, lodge, release, settle, annualRun, Call, on, advance, statement, callsMade, batch, partAct}
 use Rattle.book.specs.Account.{freshBook, fileAt, withFile, ifNumbered, ifAdmitted, fileAnswer, fileAfter, callsAdded, openedIfAdmitted}
-use Rattle.book.specs.Account.{openDay, openDays, answer, applied, step, run}
+use Rattle.book.specs.Account.{answerOn, appliedOn, afterParts, partAnswer, openDay, openDays, answer, applied, step, run}
 use Rattle.book.specs.Reading.Decisions.{cause}
 use Rattle.book.specs.Reached.{Reached}
 use Rattle.book.proofs.Participant.Decide.{decide-accepted}
 use Rattle.book.proofs.History.Advances.{days-fit}
+use Rattle.book.proofs.History.Parts.{batch-accepted}
 
 -- A participant's file in it.
 pub sound-file : (b : Book) (p : ℕ) → SoundBook b → Sound (b .today .0) (fileAt b p)
@@ -199,9 +201,10 @@ within b day budget e =
     let t = b .today .0 in
     days-fit day t budget (none-holds (cause 17 (ltb 29219 day || ltb day t) ∷ []) (daysOpened (min budget (day - t))) e .0)
 
-applied-sound : (b : Book) (c : Call) → accepted (answer b c) ≡ true → SoundBook b → SoundBook (applied b c)
-unfolding answer applied withFile fileAt
-applied-sound b (on p a) e s =
+-- The book after an accepted call that names a participant.
+named-sound : (b : Book) (p : ℕ) (a : Act) → accepted (answerOn b p a) ≡ true → SoundBook b → SoundBook (appliedOn b p a)
+unfolding withFile fileAt
+named-sound b p a e s =
     let f = fileAt b p in
     let t = b .today .0 in
     let low = numbered p (fileAnswer f t a) e in
@@ -214,10 +217,26 @@ applied-sound b (on p a) e s =
       blank = all-set BlankUnlessAdmitted (b .files) p (fileAfter f t a) (λ n. clash (more .0) n) (s .blank);
       made = omega (arith, s .made, open-more (b .files) p (callsAdded f t a) (fileAfter f t a) (omega (arith, s .many)) (more .1));
     }
+
+-- The book after the settlements of a batch.
+parts-sound : (b : Book) (file : List ℕ) (k : ℕ) → ((j : ℕ) → j < k → accepted (partAnswer b file j) ≡ true) → SoundBook b
+    → SoundBook (afterParts b file k)
+unfolding afterParts partAnswer
+parts-sound b file zero each s = s
+parts-sound b file (suc k) each s =
+    named-sound (afterParts b file k) (participantAt file k) (partAct file k) (each k (omega arith))
+    (parts-sound b file k (λ j h. each j (omega arith)) s)
+
+-- The book after any accepted call.
+applied-sound : (b : Book) (c : Call) → accepted (answer b c) ≡ true → SoundBook b → SoundBook (applied b c)
+unfolding answer applied
+applied-sound b (on p a) e s = named-sound b p a e s
 applied-sound b (advance day budget) e s =
     days-sound (min budget (day - b .today .0)) b (within b day budget e) s
 applied-sound b (statement p) e s = s
 applied-sound b callsMade e s = s
+applied-sound b (batch file) e s =
+    parts-sound b file (countIn file) (batch-accepted file (partAnswer b file) e .each) s
 
 pub step-sound : (b : Book) (c : Call) → SoundBook b → SoundBook (step b c)
 unfolding step

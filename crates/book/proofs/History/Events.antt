@@ -82,25 +82,3 @@ unfolding decision
 days-within s day budget events e =
     let t = todayOf s events in
     days-fit day t budget (none-holds (cause 17 (ltb 29219 day || ltb day t) ∷ []) (daysOpened (min budget (day - t))) e .0)
-
--- .. with an accepted call's events.
-pub lawful-call : (s : ℕ) (events : List Event) (c : Call) → LawfulAll s events → accepted (decision s events c) ≡ true
-    → LawfulAll s (withCall s events c)
-unfolding withCall decision
-lawful-call s events (on p a) lw e =
-    lawful-did s p a events lw
-    (none-holds (cause 1 (ltb 63 p) ∷ ownCauses (todayOf s events) (mine p events) a) (ownAnswer (todayOf s events) (mine p events) a) e .1)
-lawful-call s events (advance day budget) lw e =
-    lawful-days s (min budget (day - todayOf s events)) events lw (days-within s day budget events e)
-lawful-call s events (statement p) lw e = lw
-lawful-call s events callsMade lw e = lw
-
--- Every list of calls has lawful events.
-pub lawful-events : (s : ℕ) (calls : List Call) → s ≤ 29219 → LawfulAll s (eventsOf s calls)
-unfolding eventsOf mine
-lawful-events s [] le = λ p. le
-lawful-events s (c ∷ calls) le =
-    let events = eventsOf s calls in
-    by-test (accepted (decision s events c)) (withCall s events c) events (LawfulAll s)
-    (λ e. lawful-call s events c (lawful-events s calls le) e)
-    (λ e. lawful-events s calls le)

@@ -1,9 +1,9 @@
 -- A call that opened no day left no admitted participant's shortfall higher, and a newly admitted one began with none.
 -- Assumes nothing.
-use Prim.Native.Nat.{ℕ, _+_, _-_, _≤_, _<_, min}
+use Prim.Native.Nat.{ℕ, zero, suc, _+_, _-_, _≤_, _<_, min}
 use native.Mathlib.Omega.{arith}
 use native.Mathlib.Nat.{le-refl}
-use mathlib.Core.Path.{_≡_, sym, ap, subst, _∙_}
+use mathlib.Core.Path.{_≡_, refl, sym, ap, subst, _∙_}
 use mathlib.Core.Bool.{true, false}
 use mathlib.Core.List.{List, _∷_}
 use lib.Dec.{ltb}
@@ -12,15 +12,20 @@ use Rattle.file.specs.declared.File.{File}
 use Rattle.file.specs.Answer.{accepted}
 use Rattle.file.specs.DecideLaws.{none-holds}
 use Rattle.file.specs.Fields.{shortfallOf}
-use Rattle.book.specs.Call.{Act, Call, on, advance, statement, callsMade}
+use Rattle.batch.specs.Batch.{countIn, participantAt}
+use Rattle.batch.specs.FormLaws.{Whole}
+use Rattle.layout.specs.Book.{Book}
+use Rattle.book.specs.Call.{Act, Call, on, advance, statement, callsMade, batch, partAct}
 use Rattle.book.specs.Account.{fileAt}
 use Rattle.book.specs.Reading.Events.{Event, did, mine, todayOf, withDays, admittedIn}
-use Rattle.book.specs.Reading.Decisions.{cause, ownCauses, ownAnswer, decision, withCall}
+use Rattle.book.specs.Reading.Decisions.{cause, ownCauses, ownAnswer, partDecision, decision, withParts, withCall}
 use Rattle.book.specs.Kept.{fileIn, bookIn}
 use Rattle.book.specs.Life.{NoneHigher}
 use Rattle.book.proofs.Participant.Lawful.{NoneHolds}
 use Rattle.book.proofs.Participant.Shortfalls.{shortfallIn}
 use Rattle.book.proofs.History.Events.{mine-did, today-days, LawfulAll, lawful-did}
+use Rattle.book.proofs.History.Parts.{batch-accepted}
+use Rattle.book.proofs.History.PartEvents.{today-parts, none-of-part, lawful-parts}
 use Rattle.book.proofs.History.Lift.{file-at, part}
 
 -- A participant's shortfall by the readings, after some events.
@@ -73,6 +78,46 @@ did-higher s q a events lw none =
     mine-did (λ k own. admittedIn (mine k events) ≡ false → admittedIn own ≡ true → shortfallIn t own ≡ 0) t q p a events
     (part s events lw q .begun a) (λ ne no yes. clash yes no) out now)
 
+-- What is not higher after one call, and not after the next, where the first admitted nobody, is not after both.
+both-higher : (b c d : Book) → NoneHigher b c → NoneHigher c d → ((p : ℕ) → p < 64 → fileAt c p .admitted ≡ fileAt b p .admitted)
+    → NoneHigher b d
+both-higher b c d first next same =
+    record {
+      kept = λ p h a.
+          let one = first .kept p h a in
+          let two = next .kept p h (same p h ∙ a) in
+          omega arith;
+      begun = λ p h a. next .begun p h (same p h ∙ a);
+    }
+
+-- A settlement admits nobody.
+admitted-parts : (t : ℕ) (file : List ℕ) (k p : ℕ) (events : List Event)
+    → admittedIn (mine p (withParts t file k events)) ≡ admittedIn (mine p events)
+unfolding withParts admittedIn
+admitted-parts t file zero p events = refl
+admitted-parts t file (suc k) p events =
+    mine-did (λ q own. admittedIn own ≡ admittedIn (mine q (withParts t file k events))) t (participantAt file k) p (partAct file k)
+    (withParts t file k events) refl (λ ne. refl)
+    ∙ admitted-parts t file k p events
+
+-- The settlements of the first k parts of an accepted batch.
+parts-higher : (s : ℕ) (events : List Event) (file : List ℕ) → LawfulAll s events → Whole file → (k : ℕ) → k ≤ countIn file
+    → ((j : ℕ) → j < countIn file → accepted (partDecision s events file j) ≡ true)
+    → NoneHigher (bookIn s events) (bookIn s (withParts (todayOf s events) file k events))
+unfolding withParts
+parts-higher s events file lw w zero h each = same-events s events lw
+parts-higher s events file lw w (suc k) h each =
+    let p = participantAt file k in
+    let a = partAct file k in
+    let t = todayOf s events in
+    let last = withParts t file k events in
+    both-higher (bookIn s events) (bookIn s last) (bookIn s (did t p a ∷ last))
+    (parts-higher s events file lw w k (omega arith) each)
+    (subst (λ (d : ℕ). NoneHigher (bookIn s last) (bookIn s (did d p a ∷ last))) (today-parts s t file k events)
+    (did-higher s p a last (lawful-parts s events file lw w k (omega arith) each)
+    (none-of-part s events file w k (omega arith) (each k (omega arith)) .1)))
+    (λ q low. admitted-at s q last low ∙ admitted-parts t file k q events ∙ sym (admitted-at s q events low))
+
 -- Any accepted call that opened no day.
 pub call-higher : (s : ℕ) (events : List Event) (c : Call) → LawfulAll s events → accepted (decision s events c) ≡ true
     → todayOf s (withCall s events c) ≡ todayOf s events → NoneHigher (bookIn s events) (bookIn s (withCall s events c))
@@ -88,3 +133,6 @@ call-higher s events (advance day budget) lw e same =
     (same-events s events lw)
 call-higher s events (statement p) lw e same = same-events s events lw
 call-higher s events callsMade lw e same = same-events s events lw
+call-higher s events (batch file) lw e same =
+    let all = batch-accepted file (partDecision s events file) e in
+    parts-higher s events file lw (all .whole) (countIn file) (le-refl (countIn file)) (all .each)

@@ -16,7 +16,8 @@ use Rattle.book.specs.Life.{answersOf, decisionsOf, ReadsAs, ChargedRigh
 use Rattle.book.specs.Reached.{Given}
 use Rattle.book.proofs.Participant.Lawful.{Lawful}
 use Rattle.book.proofs.Participant.DayCharged.{day-counted, day-charged}
-use Rattle.book.proofs.History.Events.{LawfulAll, lawful-events}
+use Rattle.book.proofs.History.Events.{LawfulAll}
+use Rattle.book.proofs.History.LawfulCalls.{lawful-events}
 use Rattle.book.proofs.History.Lift.{file-at, part, run-is, decided}
 use Rattle.book.proofs.History.Openings.{each-opening}
 use Rattle.book.proofs.History.Higher.{call-higher, same-events}

@@ -3,7 +3,7 @@
 -- Assumes nothing.
 use Prim.Native.Nat.{ℕ, zero, suc, _+_, _-_, _≤_, _<_, min}
 use native.Mathlib.Omega.{arith}
-use native.Mathlib.Nat.{add-suc, not-suc-le-zero}
+use native.Mathlib.Nat.{add-suc, le-refl, not-suc-le-zero}
 use mathlib.Core.Path.{_≡_, refl, sym, ap, ap₂, subst, _∙_}
 use mathlib.Core.Bool.{true, cond, not}
 use mathlib.Core.List.{List, [], _∷_}
@@ -19,13 +19,16 @@ use Rattle.file.specs.Admit.{noFile}
 use Rattle.file.specs.DecideLaws.{none-holds}
 use Rattle.file.specs.Statement.{fileStatement}
 use Rattle.layout.specs.Book.{Book}
-use Rattle.book.specs.Call.{Act, Call, on, advance, statement, callsMade}
+use Rattle.batch.specs.Batch.{countIn, participantAt}
+use Rattle.batch.specs.FormLaws.{Whole}
+use Rattle.book.specs.Call.{Act, Call, on, advance, statement, callsMade, batch, partAct}
 use Rattle.book.specs.Account.{freshBook, fileAt, withFile, ifNumbered, ifAdmitted, fileAnswer, fileAfter, callsAdded, openedIfAdmitted}
-use Rattle.book.specs.Account.{openDay, openDays, answer, applied, step, run}
+use Rattle.book.specs.Account.{answerOn, appliedOn, afterParts, partAnswer, openDay, openDays, answer, applied, step, run}
 use Rattle.book.specs.Reading.Events as E
 use Rattle.book.specs.Reading.Events.{Event, did, Own, dayOpened, act, mine, todayOf, withDays, admittedIn}
 use Rattle.book.specs.Reading.Calls.{callsIn}
-use Rattle.book.specs.Reading.Decisions.{cause, ownCauses, ownAnswer, ownStatement, callsBelow, decision, withCall, eventsOf}
+use Rattle.book.specs.Reading.Decisions.{cause, ownCauses, ownAnswer, ownStatement, callsBelow}
+use Rattle.book.specs.Reading.Decisions.{decisionOn, partDecision, decision, withParts, withCall, eventsOf}
 use Rattle.book.specs.Kept.{fileIn, bookIn}
 use Rattle.book.proofs.Participant.Lawful.{NoneHolds}
 use Rattle.book.proofs.Participant.Decide.{decide-first}
@@ -33,7 +36,10 @@ use Rattle.book.proofs.Participant.Blank.{blank-file}
 use Rattle.book.proofs.Participant.OnePart.{OnePart, one-part}
 use Rattle.book.proofs.History.Advances.{openDays-last}
 use Rattle.book.proofs.History.Events.{mine-did, mine-named, mine-other, today-mine, today-days}
-use Rattle.book.proofs.History.Events.{LawfulAll, lawful-days, lawful-events, days-within}
+use Rattle.book.proofs.History.Events.{LawfulAll, lawful-days, days-within}
+use Rattle.book.proofs.History.LawfulCalls.{lawful-events}
+use Rattle.book.proofs.History.Parts.{batch-accepted, batch-agree, part-alone}
+use Rattle.book.proofs.History.PartEvents.{today-parts, none-of-part, lawful-parts}
 
 -- A path between books from paths of their fields.
 book-path : (b c : Book) → b .files ≡ c .files → b .today .0 ≡ c .today .0 → b .made ≡ c .made → b ≡ c
@@ -96,13 +102,18 @@ module _ (s : ℕ) (events : List Event) (lw : LawfulAll s events) where
       ap (λ (f : File). ifAdmitted f (statementSays (fileStatement f t))) (file-at s p events h)
       ∙ ap (ifAdmitted (fileIn t (mine p events))) (part p .stated)
 
-  -- Each answer is the reading's decision.
-  pub answer-is : (c : Call) → answer (bookIn s events) c ≡ decision s events c
-  unfolding answer decision ifNumbered ifAdmitted bookIn fileIn
-  answer-is (on p a) =
+  -- The answer to a call that names a participant is the reading's decision.
+  named-is : (p : ℕ) (a : Act) → answerOn (bookIn s events) p a ≡ decisionOn s events p a
+  unfolding ifNumbered bookIn
+  named-is p a =
       decide-first (cause 1 (ltb 63 p)) (ownCauses t (mine p events) a) (fileAnswer (fileAt (bookIn s events) p) t a)
       (ownAnswer t (mine p events) a)
       (λ e. ap (λ (f : File). fileAnswer f t a) (file-at s p events (omega (arith, ltb-false 63 p e))) ∙ part p .answered a)
+
+  -- Each answer is.
+  pub answer-is : (c : Call) → answer (bookIn s events) c ≡ decision s events c
+  unfolding answer decision partDecision ifNumbered ifAdmitted bookIn fileIn
+  answer-is (on p a) = named-is p a
   answer-is (advance day budget) = refl
   answer-is (statement p) =
       decide-first (cause 1 (ltb 63 p)) (cause 2 (not (admittedIn (mine p events))) ∷ [])
@@ -110,16 +121,19 @@ module _ (s : ℕ) (events : List Event) (lw : LawfulAll s events) where
       (ownStatement t (mine p events))
       (λ e. known-statement p (omega (arith, ltb-false 63 p e)))
   answer-is callsMade = refl
+  answer-is (batch file) =
+      batch-agree file (partAnswer (bookIn s events) file) (partDecision s events file)
+      (λ w k h. part-alone (bookIn s events) file w k h ∙ named-is (participantAt file k) (partAct file k))
 
   -- The book after an accepted call that names a participant: only that participant's file is another.
   did-is : (p : ℕ) (a : Act) → p < 64 → NoneHolds (ownCauses t (mine p events) a)
-      → applied (bookIn s events) (on p a) ≡ bookIn s (did t p a ∷ events)
-  unfolding applied withFile bookIn todayOf
+      → appliedOn (bookIn s events) p a ≡ bookIn s (did t p a ∷ events)
+  unfolding withFile bookIn todayOf
   did-is p a h none =
       let new : List Event = did t p a ∷ events in
       let own = fileIn t (mine p events) in
       let same : fileAt (bookIn s events) p ≡ own = file-at s p events h in
-      book-path (applied (bookIn s events) (on p a)) (bookIn s new)
+      book-path (appliedOn (bookIn s events) p a) (bookIn s new)
       (set-table-as 64 (λ q. fileIn t (mine q events)) (λ q. fileIn t (mine q new)) p (fileAfter (fileAt (bookIn s events) p) t a)
       (ap (λ (f : File). fileAfter f t a) same ∙ part p .left a none ∙ ap (fileIn t) (mine-named t p a events))
       (λ q ne. ap (fileIn t) (mine-other t p q a events ne)))
@@ -153,6 +167,21 @@ days-is s (suc n) events lw h =
     ∙ opened-is s last (lawful-days s n events lw (omega arith)) (omega arith)
     ∙ ap (λ (d : ℕ). bookIn s (E.opened d ∷ last)) next
 
+-- The book after the settlements of the first k parts of an accepted batch.
+parts-is : (s : ℕ) (events : List Event) (file : List ℕ) → LawfulAll s events → Whole file → (k : ℕ) → k ≤ countIn file
+    → ((j : ℕ) → j < countIn file → accepted (partDecision s events file j) ≡ true)
+    → afterParts (bookIn s events) file k ≡ bookIn s (withParts (todayOf s events) file k events)
+unfolding afterParts withParts
+parts-is s events file lw w zero h each = refl
+parts-is s events file lw w (suc k) h each =
+    let p = participantAt file k in
+    let a = partAct file k in
+    let last = withParts (todayOf s events) file k events in
+    let none = none-of-part s events file w k (omega arith) (each k (omega arith)) in
+    ap (λ (b : Book). appliedOn b p a) (parts-is s events file lw w k (omega arith) each)
+    ∙ did-is s last (lawful-parts s events file lw w k (omega arith) each) p a (omega (arith, ltb-false 63 p (none .0))) (none .1)
+    ∙ ap (λ (d : ℕ). bookIn s (did d p a ∷ last)) (today-parts s (todayOf s events) file k events)
+
 -- The book after an accepted call; a question leaves it as it is.
 applied-is : (s : ℕ) (events : List Event) → LawfulAll s events → (c : Call) → accepted (decision s events c) ≡ true
     → applied (bookIn s events) c ≡ bookIn s (withCall s events c)
@@ -165,6 +194,9 @@ applied-is s events lw (advance day budget) e =
     days-is s (min budget (day - todayOf s events)) events lw (days-within s day budget events e)
 applied-is s events lw (statement p) e = refl
 applied-is s events lw callsMade e = refl
+applied-is s events lw (batch file) e =
+    let all = batch-accepted file (partDecision s events file) e in
+    parts-is s events file lw (all .whole) (countIn file) (le-refl (countIn file)) (all .each)
 
 -- The book after any call.
 step-is : (s : ℕ) (events : List Event) → LawfulAll s events → (c : Call)

@@ -14,7 +14,9 @@ use Rattle.file.specs.Answer.{Answer, refused, Cause, done, recorded, annual, d
 use Rattle.file.specs.Position.{amountOf, filled, notReleasable, outsideAmounts, againstDays}
 use Rattle.file.specs.Calls.{largest, amountsOf}
 use Rattle.file.specs.Settle.{outsideMonths, checkDue, checkSays}
-use Rattle.book.specs.Call.{Act, admit, lodge, release, settle, annualRun, Call, on, advance, statement, callsMade}
+use Rattle.batch.specs.Batch.{countIn, participantAt, formOf}
+use Rattle.book.specs.Call.{Act, admit, lodge, release, settle, annualRun, Call, on, advance, statement, callsMade, batch}
+use Rattle.book.specs.Call.{partAct, batchSays}
 use Rattle.book.specs.Reading.Events.{Event, Own, did, act, mine, todayOf, withDays, admittedIn}
 use Rattle.book.specs.Reading.Holdings.{positionIn, coverIn}
 use Rattle.book.specs.Reading.Months.{nextIn, annualIn, yearsTotals}
@@ -86,12 +88,21 @@ unfoldable pub callsBelow : ℕ → List Event → ℕ
 callsBelow zero events = 0
 callsBelow (suc n) events = length (callsIn (mine n events)) + callsBelow n events
 
--- What a call is decided to answer, after these events from a fresh book on day s.
-unfoldable pub decision : ℕ → List Event → Call → Answer
-decision s events (on p a) =
+-- What a call that names participant p is decided to answer, after these events from a fresh book on day s.
+abbrev pub decisionOn : ℕ → List Event → ℕ → Act → Answer
+decisionOn s events p a =
     decide refused
     (cause 1 (ltb 63 p) ∷ ownCauses (todayOf s events) (mine p events) a)
     (ownAnswer (todayOf s events) (mine p events) a)
+
+-- Paper 02, Ask 1: what is decided of part k of a batch. Its participant stands in no other part, so that its figures are read from the calls
+-- before the batch.
+unfoldable pub partDecision : ℕ → List Event → List ℕ → ℕ → Answer
+partDecision s events file k = decisionOn s events (participantAt file k) (partAct file k)
+
+-- What a call is decided to answer, after these events from a fresh book on day s.
+unfoldable pub decision : ℕ → List Event → Call → Answer
+decision s events (on p a) = decisionOn s events p a
 decision s events (advance day budget) =
     decide refused
     (cause 17 (ltb 29219 day || ltb day (todayOf s events)) ∷ [])
@@ -101,6 +112,12 @@ decision s events (statement p) =
     (cause 1 (ltb 63 p) ∷ cause 2 (not (admittedIn (mine p events))) ∷ [])
     (ownStatement (todayOf s events) (mine p events))
 decision s events callsMade = counted (callsBelow 64 events)
+decision s events (batch file) = batchSays (formOf file) (partDecision s events file)
+
+-- "A batch counts in the history as its settlements, all or none": the events with those of its first k parts added, made on day t.
+unfoldable pub withParts : ℕ → List ℕ → ℕ → List Event → List Event
+withParts t file zero events = events
+withParts t file (suc k) events = did t (participantAt file k) (partAct file k) ∷ withParts t file k events
 
 -- The events with an accepted call's added: the call with today, or the days that an advance opens in turn.
 unfoldable pub withCall : ℕ → List Event → Call → List Event
@@ -109,6 +126,7 @@ withCall s events (advance day budget) =
     withDays (min budget (day - todayOf s events)) (todayOf s events) events
 withCall s events (statement p) = events
 withCall s events callsMade = events
+withCall s events (batch file) = withParts (todayOf s events) file (countIn file) events
 
 -- The events of a list of calls, the newest first, from a fresh book on day s: each accepted call's, and nothing of a refused one.
 unfoldable pub eventsOf : ℕ → List Call → List Event

@@ -23,6 +23,7 @@ call-spec =
     (λ c κs. search needs)
     (λ c κs. search needs)
     (λ c κs. search needs)
+    (λ c κs. search needs)
     (λ c. search (call-at, needs))
     (λ c. search (call-at, needs))
     (λ c. search (call-at, needs))
@@ -34,4 +35,5 @@ call-spec =
     (λ c. search (call-at, needs))
     (λ c. search needs) (λ c. search (call-at, needs))
     (λ c. search (call-at, needs))
+    (λ c. search needs) (λ c. search (call-at, needs))
     (λ c. search (none-of-them, needs)))

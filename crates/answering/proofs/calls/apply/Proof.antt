@@ -1,7 +1,7 @@
 -- `answering::calls::apply` meets its contract: each arm makes the call that its request asks, and shows what the call gives.
 -- Assumes nothing.
 use Rattle.answering.proofs.CallLaws.{as-nothing, as-fresh, as-admit, as-cash, as-letter, as-release}
-use Rattle.answering.proofs.CallLaws.{as-settle, as-annual, as-advance, as-statement, as-calls, as-special, as-report, as-error}
+use Rattle.answering.proofs.CallLaws.{as-settle, as-annual, as-advance, as-statement, as-calls, as-special, as-batch, as-report, as-error}
 use borrow.Author.Needs.{needs}
 use Rattle.answering.proofs.calls.apply.Statement.{statement}
 use Rattle.answering.proofs.calls.apply.Tie as tie
@@ -102,11 +102,20 @@ enum-known-request-10 c = search needs
 guarantee-requires : tie.Need-guarantee-requires
 guarantee-requires c κs = search needs
 
+enum-known-request-11 : tie.Need-enum-known-request-11
+enum-known-request-11 c = search needs
+
+load-file-requires : tie.Need-load-file-requires
+load-file-requires c κs = search needs
+
+loaded-shown-requires : tie.Need-loaded-shown-requires
+loaded-shown-requires c κs = search needs
+
 enum-told-3 : tie.Need-enum-told-3
 enum-told-3 c = search needs
 
-enum-known-request-11 : tie.Need-enum-known-request-11
-enum-known-request-11 c = search needs
+enum-known-request-12 : tie.Need-enum-known-request-12
+enum-known-request-12 c = search needs
 
 returns : tie.Need-returns
 returns c = search (as-nothing, needs)
@@ -174,11 +183,17 @@ returns-11 c = search (as-calls, needs)
 returns-12 : tie.Need-returns-12
 returns-12 c = search (as-special, needs)
 
+same-length-11 : tie.Need-same-length-11
+same-length-11 c = search needs
+
 returns-13 : tie.Need-returns-13
-returns-13 c = search (as-report, needs)
+returns-13 c = search (as-batch, needs)
 
 returns-14 : tie.Need-returns-14
-returns-14 c = search (as-error, needs)
+returns-14 c = search (as-report, needs)
+
+returns-15 : tie.Need-returns-15
+returns-15 c = search (as-error, needs)
 
 pub apply-spec : {M : Type 1} → statement M
 apply-spec =
@@ -216,8 +231,11 @@ apply-spec =
     calls-made-requires
     enum-known-request-10
     guarantee-requires
-    enum-told-3
     enum-known-request-11
+    load-file-requires
+    loaded-shown-requires
+    enum-told-3
+    enum-known-request-12
     returns
     same-length
     returns-2
@@ -240,5 +258,7 @@ apply-spec =
     same-length-10
     returns-11
     returns-12
+    same-length-11
     returns-13
-    returns-14)
+    returns-14
+    returns-15)

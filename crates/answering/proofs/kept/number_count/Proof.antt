@@ -1,6 +1,6 @@
 -- `answering::kept::number_count` meets its contract: the request decides.
 -- Assumes nothing.
-use Rattle.answering.proofs.KeptLaws.{count-settle, count-special}
+use Rattle.answering.proofs.KeptLaws.{count-settle, count-special, count-batch}
 use borrow.Author.Needs.{needs}
 use Rattle.answering.proofs.kept.number_count.Statement.{statement}
 use Rattle.answering.proofs.kept.number_count.Tie as tie
@@ -47,6 +47,12 @@ enum-known-request-2 c = search needs
 listed-requires : tie.Need-listed-requires
 listed-requires c κs = search needs
 
+enum-known-request-3 : tie.Need-enum-known-request-3
+enum-known-request-3 c = search needs
+
+smaller-requires-2 : tie.Need-smaller-requires-2
+smaller-requires-2 c κs = search needs
+
 enum-told-11 : tie.Need-enum-told-11
 enum-told-11 c = search needs
 
@@ -90,10 +96,13 @@ returns-12 : tie.Need-returns-12
 returns-12 c = search (count-special, needs)
 
 returns-13 : tie.Need-returns-13
-returns-13 c = search needs
+returns-13 c = search (count-batch, needs)
 
 returns-14 : tie.Need-returns-14
 returns-14 c = search needs
+
+returns-15 : tie.Need-returns-15
+returns-15 c = search needs
 
 pub number-count-spec : {M : Type 1} → statement M
 number-count-spec =
@@ -113,6 +122,8 @@ number-count-spec =
     enum-told-10
     enum-known-request-2
     listed-requires
+    enum-known-request-3
+    smaller-requires-2
     enum-told-11
     enum-told-12
     returns
@@ -128,4 +139,5 @@ number-count-spec =
     returns-11
     returns-12
     returns-13
-    returns-14)
+    returns-14
+    returns-15)

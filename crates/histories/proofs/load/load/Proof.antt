@@ -5,10 +5,10 @@ use Rattle.histories.proofs.load.load.Statement.{statement}
 use Rattle.histories.proofs.load.load.Tie as tie
 
 abbrev Inv-loop : tie.InvT-loop
-Inv-loop text from words₀ figures₀ calls place₀ call₀ words figures place call = Unit
+Inv-loop text from words₀ figures₀ files₀ calls place₀ call₀ words figures files place call = Unit
 
 abbrev μ-loop : tie.MeasureT-loop
-μ-loop text from words₀ figures₀ calls place₀ call₀ words figures place call = calls - call
+μ-loop text from words₀ figures₀ files₀ calls place₀ call₀ words figures files place call = calls - call
 
 loop-holds : tie.Need-loop-holds Inv-loop μ-loop
 loop-holds c = search needs

@@ -6,10 +6,10 @@ use Rattle.histories.proofs.load.load_figures.Statement.{statement}
 use Rattle.histories.proofs.load.load_figures.Tie as tie
 
 abbrev Inv-loop : tie.InvT-loop
-Inv-loop text figures₀ count next₀ kept₀ i₀ figures next kept i = Unit
+Inv-loop text from figures₀ count next₀ kept₀ i₀ figures next kept i = Unit
 
 abbrev μ-loop : tie.MeasureT-loop
-μ-loop text figures₀ count next₀ kept₀ i₀ figures next kept i = count - i
+μ-loop text from figures₀ count next₀ kept₀ i₀ figures next kept i = count - i
 
 loop-holds : tie.Need-loop-holds Inv-loop μ-loop
 loop-holds c = search needs

@@ -23,6 +23,8 @@ put-reason-spec =
     (λ c. search needs) (λ c. search needs) (λ c κs. search needs)
     (λ c. search needs) (λ c. search needs) (λ c κs. search needs)
     (λ c. search needs) (λ c. search needs) (λ c κs. search needs)
+    (λ c. search needs) (λ c. search needs) (λ c κs. search needs)
+    (λ c. search needs) (λ c. search (reason-is, needs))
     (λ c. search needs) (λ c. search (reason-is, needs))
     (λ c. search needs) (λ c. search (reason-is, needs))
     (λ c. search needs) (λ c. search (reason-is, needs))

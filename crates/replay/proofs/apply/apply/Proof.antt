@@ -3,7 +3,8 @@
 -- Assumes nothing.
 use borrow.Author.Needs.{needs}
 use Rattle.replay.proofs.Numbers.{asked-within, given-within}
-use Rattle.replay.proofs.Replaying.{as-admit, as-cash, as-letter, as-release, as-settle, as-annual, as-advance, as-statement, as-count}
+use Rattle.replay.proofs.Replaying.{as-admit, as-cash, as-letter, as-release, as-settle, as-annual, as-advance, as-statement}
+use Rattle.replay.proofs.Replaying.{as-batch, as-count}
 use Rattle.replay.proofs.apply.apply.Statement.{statement}
 use Rattle.replay.proofs.apply.apply.Tie as tie
 
@@ -67,6 +68,15 @@ statement-requires c κs = search needs
 stated-numbers-requires : tie.Need-stated-numbers-requires
 stated-numbers-requires c κs = search (asked-within, needs)
 
+part-of-files-requires : tie.Need-part-of-files-requires
+part-of-files-requires c κs = search needs
+
+load-requires : tie.Need-load-requires
+load-requires c κs = search needs
+
+loaded-numbers-requires : tie.Need-loaded-numbers-requires
+loaded-numbers-requires c κs = search needs
+
 calls-made-requires : tie.Need-calls-made-requires
 calls-made-requires c κs = search needs
 
@@ -125,7 +135,13 @@ same-length-9 : tie.Need-same-length-9
 same-length-9 c = search needs
 
 returns-9 : tie.Need-returns-9
-returns-9 c = search (as-count, needs)
+returns-9 c = search (as-batch, needs)
+
+same-length-10 : tie.Need-same-length-10
+same-length-10 c = search needs
+
+returns-10 : tie.Need-returns-10
+returns-10 c = search (as-count, needs)
 
 pub apply-spec : {M : Type 1} → statement M
 apply-spec =
@@ -151,6 +167,9 @@ apply-spec =
     advanced-numbers-requires
     statement-requires
     stated-numbers-requires
+    part-of-files-requires
+    load-requires
+    loaded-numbers-requires
     calls-made-requires
     counted-numbers-requires
     same-length
@@ -170,4 +189,6 @@ apply-spec =
     same-length-8
     returns-8
     same-length-9
-    returns-9)
+    returns-9
+    same-length-10
+    returns-10)

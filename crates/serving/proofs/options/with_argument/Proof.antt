@@ -1,31 +1,21 @@
--- `serving::options::with_argument` meets its contract: each field is that of the definition.
+-- `serving::options::with_argument` meets its contract: behind `--load` the argument is a file's name.
 -- Assumes nothing.
-use Rattle.serving.proofs.OptionLaws.{one-argument}
+use Rattle.serving.proofs.OptionLaws.{awaited, not-awaited}
 use borrow.Author.Needs.{needs}
 use Rattle.serving.proofs.options.with_argument.Statement.{statement}
 use Rattle.serving.proofs.options.with_argument.Tie as tie
 
-slice-aggregate-place-of : tie.Need-slice-aggregate-place-of
-slice-aggregate-place-of c = search needs
-
-place-of-requires : tie.Need-place-of-requires
-place-of-requires c κs = search needs
-
-is-dashed-requires : tie.Need-is-dashed-requires
-is-dashed-requires c κs = search needs
-
-name-place-requires : tie.Need-name-place-requires
-name-place-requires c κs = search needs
+with-file-requires : tie.Need-with-file-requires
+with-file-requires c κs = search needs
 
 returns : tie.Need-returns
-returns c = search (one-argument, needs)
+returns c = search (awaited, needs)
+
+with-option-requires : tie.Need-with-option-requires
+with-option-requires c κs = search needs
+
+returns-2 : tie.Need-returns-2
+returns-2 c = search (not-awaited, needs)
 
 pub with-argument-spec : {M : Type 1} → statement M
-with-argument-spec =
-    tie.close
-    (tie.spec
-    slice-aggregate-place-of
-    place-of-requires
-    is-dashed-requires
-    name-place-requires
-    returns)
+with-argument-spec = tie.close (tie.spec with-file-requires returns with-option-requires returns-2)

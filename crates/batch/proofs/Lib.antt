@@ -1,0 +1,4 @@
+pub mod ByteLaws
+pub mod PairLaws
+pub mod PartLaws
+pub mod CheckLaws

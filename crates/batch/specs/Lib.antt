@@ -1,0 +1,4 @@
+pub mod Bytes
+pub mod Batch
+pub mod FormLaws
+pub mod Parts

@@ -1,0 +1,41 @@
+-- One part of a file as a record, and what the functions on it leave. Paper 02, Ask 1.
+-- Assumes nothing.
+use Prim.Native.Nat.{ℕ, _+_, _*_, _-_, _≤_, _<_}
+use native.Mathlib.Omega.{arith}
+use mathlib.Core.Path.{_≡_, ap, _∙_}
+use mathlib.Core.Bool.{Bool, not, _||_}
+use mathlib.Core.List.{List, _++_}
+use lib.Dec.{ltb, eqb}
+use lib.ListN.{take, drop}
+use lib.IntN.{ℤ}
+use Rattle.batch.specs.Batch.{offsetAt, lengthAt, participantAt, rowsAt, figuresAt}
+use Rattle.batch.specs.declared.parts.Part.{Part}
+
+-- "Each part holds a participant (1 byte), a row count r (1 byte)": the part of pair i.
+unfoldable pub partOf : List ℕ → ℕ → Part
+partOf file i = record { participant = participantAt file i; rows = rowsAt file i; offset = offsetAt file i }
+
+-- A part is that of pair i. What follows of its fields is said beside it: a row count is one byte, an offset four.
+pub record PartIs (file : List ℕ) (i : ℕ) (part : Part) : Type 0 where
+  pub same : part ≡ partOf file i
+  pub participant : part .participant ≡ participantAt file i
+  pub rows : part .rows ≡ rowsAt file i
+  pub offset : part .offset ≡ offsetAt file i
+  pub few : part .rows ≤ 255
+  pub low : part .offset < 4294967296
+
+-- "r signed 8-byte cents": the figures of pair i's part stand at the front of the lent ones, and the others are as they were.
+pub record FiguresPut (file : List ℕ) (i : ℕ) (before after : List ℤ) : Type 0 where
+  pub whole : after ≡ figuresAt file i ++ drop (rowsAt file i) before
+  pub front : take (rowsAt file i) after ≡ figuresAt file i
+
+-- So a caller that takes as many of the lent figures as the part has rows takes the part's figures.
+pub part-figures : (file : List ℕ) (i : ℕ) (part : Part) (before after : List ℤ) → PartIs file i part → FiguresPut file i before after
+    → take (part .rows - 0) after ≡ figuresAt file i
+part-figures file i part before after is put =
+    let rows : part .rows - 0 ≡ rowsAt file i = omega (arith, is .rows) in
+    ap (λ (n : ℕ). take n after) rows ∙ put .front
+
+-- "a wrong part length": the first of what cause 22 names.
+unfoldable pub wrongLength : List ℕ → ℕ → Bool
+wrongLength file i = ltb (lengthAt file i) 2 || not (eqb (lengthAt file i) (2 + 8 * rowsAt file i))
