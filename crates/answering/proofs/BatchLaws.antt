@@ -15,7 +15,7 @@ use lib.ListN.{length, getD, set, take, length-take}
 use Rattle.book.specs.declared.Loaded.{Loaded}
 use Rattle.book.specs.Call.{batch, loadedSays}
 use Rattle.book.specs.InWords.{GivenWords}
-use Rattle.answering.specs.Asked.{byteOf, fileIn}
+use Rattle.answering.specs.Asked.{byteOf, batchBytes}
 use Rattle.answering.proofs.MappedLaws.{mapped-more, mapped-done}
 
 -- A number as a byte.
@@ -47,7 +47,7 @@ pub loaded-bytes : (l m : List ℕ) (zs : List ℤ) (file : List ℕ) (x : Loade
 loaded-bytes l m zs file x e g = subst (λ (w : List ℕ). GivenWords l (batch w) (loadedSays x) m) e g
 
 pub loaded-file : (l m : List ℕ) (zs own : List ℤ) (n k : ℕ) (x : Loaded) → k ≡ min n 32768 → own ≡ take k zs
-    → GivenWords l (batch (map byteOf own)) (loadedSays x) m → GivenWords l (batch (fileIn n zs)) (loadedSays x) m
-unfolding fileIn
+    → GivenWords l (batch (map byteOf own)) (loadedSays x) m → GivenWords l (batch (batchBytes n zs)) (loadedSays x) m
+unfolding batchBytes
 loaded-file l m zs own n k x e f g =
     subst (λ (w : List ℕ). GivenWords l (batch w) (loadedSays x) m) (ap (map byteOf) (f ∙ ap (λ (j : ℕ). take j zs) e)) g

@@ -25,7 +25,7 @@ use Rattle.journal.specs.declared.Request.{Request}
 use Rattle.journal.specs.declared.Lengths.{Lengths}
 use Rattle.printing.specs.declared.Answer.{Answer}
 use Rattle.answering.specs.Shown.{shown, guaranteeShown}
-use Rattle.answering.specs.Asked.{Asked, call, fresh, guarantee, nothing, fault, guaranteeOf, fileIn, asked, answerTo, bookAfter, Answered}
+use Rattle.answering.specs.Asked.{Asked, call, fresh, guarantee, nothing, fault, guaranteeOf, batchBytes, asked, answerTo, bookAfter, Answered}
 use Rattle.answering.specs.Kept.{takes}
 use Rattle.answering.specs.InWords.{AnsweredWords}
 use Rattle.answering.proofs.Session.{not-taken}
@@ -158,5 +158,5 @@ module _ (l : List ℕ) (line : ℕ) (request : Request) (zs : List ℤ) where
           → AnsweredWords l line (asked request zs) y m
       as-advance t k e g = rw e (gave l m line (advance (t .0) k) x y w g h)
 
-      pub as-batch : (n : ℕ) → request ≡ Request.Batch n → GivenWords l (batch (fileIn n zs)) x m → AnsweredWords l line (asked request zs) y m
-      as-batch n e g = rw e (gave l m line (batch (fileIn n zs)) x y w g h)
+      pub as-batch : (n : ℕ) → request ≡ Request.Batch n → GivenWords l (batch (batchBytes n zs)) x m → AnsweredWords l line (asked request zs) y m
+      as-batch n e g = rw e (gave l m line (batch (batchBytes n zs)) x y w g h)

@@ -12,7 +12,7 @@ use Rattle.book.specs.Call.{on, settle, batch}
 use Rattle.journal.specs.Grammar.{lengthList, total}
 use Rattle.journal.specs.declared.Lengths.{Lengths}
 use Rattle.journal.specs.declared.Request.{Request}
-use Rattle.answering.specs.Asked.{call, guarantee, semestersOf, guaranteeOf, byteOf, fileIn, asked}
+use Rattle.answering.specs.Asked.{call, guarantee, semestersOf, guaranteeOf, byteOf, batchBytes, asked}
 use Rattle.answering.specs.Kept.{numbersIn}
 
 -- ---- parts of the front of a row
@@ -67,10 +67,10 @@ row-cut n zs =
     (semesters-cut n _ _ (drop (n .marks) (drop (n .low) (drop (n .medium) zs))) _)
 
 -- The bytes of a file likewise.
-file-cut : (n : ℕ) (zs : List ℤ) → fileIn n (take (min n (length zs)) zs) ≡ fileIn n zs
-unfolding fileIn
+file-cut : (n : ℕ) (zs : List ℤ) → batchBytes n (take (min n (length zs)) zs) ≡ batchBytes n zs
+unfolding batchBytes
 file-cut n zs =
-    ap (fileIn n) (take-clipped n (min n (length zs)) zs refl) ∙ ap (map byteOf) (take-take (min n 32768) n zs (omega arith))
+    ap (batchBytes n) (take-clipped n (min n (length zs)) zs refl) ∙ ap (map byteOf) (take-take (min n 32768) n zs (omega arith))
 
 -- The numbers of a request's lists.
 abbrev pub own : Request → List ℤ → List ℤ

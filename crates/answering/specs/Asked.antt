@@ -22,7 +22,7 @@ use Rattle.answering.specs.Shown.{shown, guaranteeShown}
 
 -- What a line asks.
 pub data Asked : Type 0 where
-  -- a call of paper 01
+  -- a call of papers 01 and 02
   call : Call → Asked
   -- a fresh book on a day
   fresh : (day : ℕ) → Asked
@@ -61,8 +61,8 @@ byteOf (pos n) = n % 256
 byteOf (negsuc n) = 0
 
 -- Paper 02, Ask 1: the file of a batch, whose n bytes stand as numbers in a row. There is room for 32,768 of them, as for a line's numbers.
-unfoldable pub fileIn : ℕ → List ℤ → List ℕ
-fileIn n zs = map byteOf (take (min n 32768) zs)
+unfoldable pub batchBytes : ℕ → List ℤ → List ℕ
+batchBytes n zs = map byteOf (take (min n 32768) zs)
 
 -- What a request asks, with the numbers of its lists in a row: `settle` has as many figures as it says, and `batch` as many bytes.
 abbrev pub asked : Request → List ℤ → Asked
@@ -78,7 +78,7 @@ asked (Request.Advance t b) zs = call (advance (t .0) b)
 asked (Request.Statement p) zs = call (statement p)
 asked Request.Calls zs = call callsMade
 asked (Request.Special n) zs = guarantee (guaranteeOf n zs)
-asked (Request.Batch n) zs = call (batch (fileIn n zs))
+asked (Request.Batch n) zs = call (batch (batchBytes n zs))
 asked Request.Report zs = nothing
 asked (Request.Error e) zs = fault e
 

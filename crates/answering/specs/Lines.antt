@@ -18,7 +18,7 @@ use Rattle.answering.specs.Kept.{freshFirst}
 unfoldable pub lineRequest : Bool → ℕ → ℕ → List ℕ → Request
 lineRequest long kept room line = cond long (Request.Error Reason.TooLong) (freshFirst kept (parsed room line .request))
 
--- What it asks, with the numbers of its lists.
+-- What it asks, with the numbers of its lists or the bytes of its file.
 unfoldable pub lineAsks : Bool → ℕ → ℕ → List ℕ → Asked
 lineAsks long kept room line = asked (lineRequest long kept room line) (parsed room line .numbers)
 

@@ -6,7 +6,7 @@ ghost use lib.ListN.{length, take};
 ghost use Rattle.layout.specs.WellFormed.{WellFormed};
 ghost use Rattle.book.specs.Call.{batch, loadedSays};
 ghost use Rattle.book.specs.InWords.{GivenWords};
-ghost use Rattle.answering.specs.Asked.{byteOf, fileIn};
+ghost use Rattle.answering.specs.Asked.{byteOf, batchBytes};
 use crate::guarantee::front;
 use crate::guarantee::smaller;
 use book::Loaded;
@@ -52,7 +52,7 @@ fn load_bytes(book: &mut [u64], numbers: &[i64]) -> Loaded
 // Loads the file whose n bytes stand as numbers at the front.
 pub fn load_file(book: &mut [u64], numbers: &[i64], n: usize) -> Loaded
     requires { ⌜ WellFormed (now book) ⌝ }
-    ensures { λ r. ⌜ GivenWords (now (book .entry)) (batch (fileIn n (now (numbers .entry)))) (loadedSays r) (now (book .exit)) ⌝ }
+    ensures { λ r. ⌜ GivenWords (now (book .entry)) (batch (batchBytes n (now (numbers .entry)))) (loadedSays r) (now (book .exit)) ⌝ }
 {
     load_bytes(book, front(numbers, smaller(n, MOST_BYTES)))
 }

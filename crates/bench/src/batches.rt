@@ -107,8 +107,10 @@ fn batches(book: &mut [u64], file: &[u8], rounds: u64) -> u64
 fn report(timed: bool, text: &[u8], rounds: u64, sum: u64, took: u64) {
     output::number(text, rounds);
     output::end();
-    output::number(b"  sum of the answers ", sum);
-    output::end();
+    output::figure(timed, b"  sum of the answers ", sum);
+    if timed {
+        output::end();
+    }
     output::time(timed, took);
 }
 

@@ -24,7 +24,7 @@ use Rattle.printing.specs.Decimals.{decimal, integer, spaced, joined}
 use Rattle.printing.specs.PlacedLaws.{spaced-append}
 use Rattle.printing.specs.Lines.{cut, listWords, callWords, printed, Natural64, Holds, Hold, Fitting}
 use Rattle.printing.proofs.HexLaws.{batch-short}
-use Rattle.answering.specs.Asked.{asked, answerTo, guaranteeOf, byteOf, fileIn}
+use Rattle.answering.specs.Asked.{asked, answerTo, guaranteeOf, byteOf, batchBytes}
 use Rattle.answering.specs.Kept.{takes}
 use Rattle.answering.specs.Shown.{shown, guaranteeShown}
 use Rattle.dialogue.specs.Said.{Small}
@@ -129,10 +129,10 @@ taken-accepted (Said.batched n) h = refl
 taken-accepted (Said.refusedPair n i) h = h
 
 -- The bytes of an accepted batch.
-batch-few : (b : Book) (n : ℕ) (zs : List ℤ) → n ≡ length zs → accepted (answer b (batch (fileIn n zs))) ≡ true → length zs ≤ 8836
-unfolding fileIn
+batch-few : (b : Book) (n : ℕ) (zs : List ℤ) → n ≡ length zs → accepted (answer b (batch (batchBytes n zs))) ≡ true → length zs ≤ 8836
+unfolding batchBytes
 batch-few b n zs e h =
-    omega (arith, batch-length b (fileIn n zs) h, length-map (take (min n 32768) zs) byteOf, length-take (min n 32768) zs)
+    omega (arith, batch-length b (batchBytes n zs) h, length-map (take (min n 32768) zs) byteOf, length-take (min n 32768) zs)
 
 -- A kept call has room: at most 16 figures of a settlement or 8,836 bytes of a batch are printed.
 pub kept-short : (b : Book) (k : ℕ) (r : Request) (zs : List ℤ) → Fitting r zs → countOf r ≡ length zs → takes (answerTo b k (asked r zs)) ≡ true
@@ -152,6 +152,6 @@ kept-short b k (Request.Statement p) zs f e h = omega (arith, printed-short (Req
 kept-short b k Request.Calls zs f e h = omega (arith, printed-short Request.Calls zs f)
 kept-short b k (Request.Special n) zs f e h = clash {t = false} (sym (special-untaken (guaranteeOf n zs)) ∙ h) refl
 kept-short b k (Request.Batch n) zs f e h =
-    omega (arith, batch-short n zs, batch-few b n zs e (taken-accepted (answer b (batch (fileIn n zs))) h))
+    omega (arith, batch-short n zs, batch-few b n zs e (taken-accepted (answer b (batch (batchBytes n zs))) h))
 kept-short b k Request.Report zs f e h = omega (arith, printed-short Request.Report zs f)
 kept-short b k (Request.Error w) zs f e h = absurd f

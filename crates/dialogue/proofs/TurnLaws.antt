@@ -46,7 +46,7 @@ module _ (way : Way) (p : Place) (j a r b : ℕ) (g : goesOn way p j a r b ≡ t
   goes-room : (20480 ≤ a - j) × (16384 ≤ b - r)
   unfolding goesOn
   goes-room =
-      let h = and-right (not (ended way p) && (way .batch || eqb j 0)) (leb 20480 (a - j) && leb 16384 (b - r)) g in (
+      let h = and-right (not (ended way p) && (way .gathers || eqb j 0)) (leb 20480 (a - j) && leb 16384 (b - r)) g in (
         leb-true 20480 (a - j) (and-left (leb 20480 (a - j)) (leb 16384 (b - r)) h),
         leb-true 16384 (b - r) (and-right (leb 20480 (a - j)) (leb 16384 (b - r)) h),
       )
@@ -56,8 +56,8 @@ module _ (way : Way) (p : Place) (j a r b : ℕ) (g : goesOn way p j a r b ≡ t
   unfolding goesOn
   going =
       not-true (ended way p)
-      (and-left (not (ended way p)) (way .batch || eqb j 0)
-      (and-left (not (ended way p) && (way .batch || eqb j 0)) (leb 20480 (a - j) && leb 16384 (b - r)) g))
+      (and-left (not (ended way p)) (way .gathers || eqb j 0)
+      (and-left (not (ended way p) && (way .gathers || eqb j 0)) (leb 20480 (a - j) && leb 16384 (b - r)) g))
 
 -- ---- lines one after the other, and one more
 
@@ -256,7 +256,7 @@ done way room s t input k f used end j r x at-end h =
 
 -- Whether one more line is taken, as the code tests it.
 pub goes : (way : Way) (p : Place) (j a r b : ℕ) (t : Bool)
-    → t ≡ ((not (way .bails && ltb 0 (p .refused)) && (way .batch || eqb j 0)) && (leb 20480 (a - j) && leb 16384 (b - r))) → t ≡ goesOn way p j a r b
+    → t ≡ ((not (way .bails && ltb 0 (p .refused)) && (way .gathers || eqb j 0)) && (leb 20480 (a - j) && leb 16384 (b - r))) → t ≡ goesOn way p j a r b
 unfolding goesOn ended
 goes way p j a r b t e = e
 

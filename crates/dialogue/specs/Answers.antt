@@ -40,10 +40,10 @@ pub record LineTaken (way : Way) (room : ℕ) (words : List ℕ) (p : Place) (l 
   pub formed : WellFormed m
 
 -- Whether one more line is taken, where j bytes of the journal and r of the answers are written and there is room for so many: none behind a
--- refusal or an error where that is the last, none behind a kept line but in a batch, and none where its bytes might have no room.
+-- refusal or an error where that is the last, none behind a kept line but where lines are kept together, and none where its bytes might have no room.
 unfoldable pub goesOn : Way → Place → (j journalRoom r answerRoom : ℕ) → Bool
 goesOn way p j journalRoom r answerRoom =
-    (not (ended way p) && (way .batch || eqb j 0)) && (leb mostKept (journalRoom - j) && leb mostSaid (answerRoom - r))
+    (not (ended way p) && (way .gathers || eqb j 0)) && (leb mostKept (journalRoom - j) && leb mostSaid (answerRoom - r))
 
 -- Each of the lines was one more that is taken.
 abbrev pub WentOn : Way → (room journalRoom answerRoom : ℕ) → State → (j r : ℕ) → List (List ℕ) → Type 0

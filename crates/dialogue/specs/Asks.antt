@@ -39,7 +39,7 @@ heldBack way r =
 unfoldable pub requestOf : Way → ℕ → Place → List ℕ → Request
 requestOf way room p l = heldBack way (lineRequest (p .long) (p .kept) room (textOf (p .line) l))
 
--- What it asks, with the numbers of its lists.
+-- What it asks, with the numbers of its lists or the bytes of its file.
 unfoldable pub asks : Way → ℕ → Place → List ℕ → Asked
 asks way room p l = asked (requestOf way room p l) (parsed room (textOf (p .line) l) .numbers)
 

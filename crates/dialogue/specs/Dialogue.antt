@@ -13,7 +13,7 @@ use Rattle.dialogue.specs.Whole.{streamAfter, streamBytes, streamJournal
 
 -- How a journal is replayed: as the kept way takes an input, up to the first line that is refused or an error.
 abbrev pub replaying : Way
-replaying = record { keeps = true; reads = false; torn = false; bails = true; batch = true }
+replaying = record { keeps = true; reads = false; torn = false; bails = true; gathers = true }
 
 -- A state t from which a journal may be replayed that was begun at state s: the same book, as many calls kept, and no line refused.
 pub record Begins (s t : State) : Type 0 where

@@ -74,7 +74,7 @@ lastLine [] = []
 lastLine (b ∷ r) = (b ∷ r) ∷ []
 
 abbrev pub lastWay : Way → Way
-lastWay way = record { keeps = way .keeps; reads = way .reads; torn = way .keeps; bails = way .bails; batch = way .batch }
+lastWay way = record { keeps = way .keeps; reads = way .reads; torn = way .keeps; bails = way .bails; gathers = way .gathers }
 
 -- The whole input: the bytes of its answers, and those by the reading of the history.
 unfoldable pub wholeBytes : ℕ → Way → ℕ → State → List ℕ → List ℕ

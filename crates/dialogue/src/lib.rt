@@ -14,7 +14,7 @@ pub struct Way {
     pub reads: bool,
     pub torn: bool,
     pub bails: bool,
-    pub batch: bool,
+    pub gathers: bool,
 }
 
 // How far an input is taken: its lines, those of them that were refused or an error, the calls kept in the journal, and whether the line that

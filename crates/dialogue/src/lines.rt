@@ -116,7 +116,7 @@ fn goes_on(
     ensures { λ r. ⌜ r ≡ goesOn way place kept «journal_room» end room ⌝ }
 {
     let ended = way.bails & (0 < place.refused);
-    let one = way.batch | (kept == 0);
+    let one = way.gathers | (kept == 0);
     let fits = (MOST_KEPT <= journal_room - kept) & (MOST_SAID <= room - end);
     !ended & one & fits
 }

@@ -6,19 +6,19 @@ use lib.ListN.{length}
 use lib.IntN.{ℤ, pos, negsuc}
 
 -- A number in 2, 4 and 8 bytes, least byte first.
-abbrev pub le2 : ℕ → List ℕ
-le2 n = n % 256 ∷ n / 256 % 256 ∷ []
+abbrev pub inTwoBytes : ℕ → List ℕ
+inTwoBytes n = n % 256 ∷ n / 256 % 256 ∷ []
 
-abbrev pub le4 : ℕ → List ℕ
-le4 n = le2 (n % 65536) ++ le2 (n / 65536)
+abbrev pub inFourBytes : ℕ → List ℕ
+inFourBytes n = inTwoBytes (n % 65536) ++ inTwoBytes (n / 65536)
 
-abbrev pub le8 : ℕ → List ℕ
-le8 n = le4 (n % 4294967296) ++ le4 (n / 4294967296)
+abbrev pub inEightBytes : ℕ → List ℕ
+inEightBytes n = inFourBytes (n % 4294967296) ++ inFourBytes (n / 4294967296)
 
 -- A figure's 8 bytes: a negative one is 2^64 less its amount.
 abbrev pub cents : ℤ → List ℕ
-cents (pos n) = le8 n
-cents (negsuc n) = le8 (18446744073709551615 - n)
+cents (pos n) = inEightBytes n
+cents (negsuc n) = inEightBytes (18446744073709551615 - n)
 
 abbrev pub allCents : List ℤ → List ℕ
 allCents [] = []
@@ -31,7 +31,7 @@ part p figures = p ∷ length figures ∷ allCents figures
 -- The pairs of some parts, the first of which begins at this place.
 abbrev pub pairs : ℕ → List (List ℕ) → List ℕ
 pairs at [] = []
-pairs at (x ∷ parts) = le4 at ++ le4 (length x) ++ pairs (at + length x) parts
+pairs at (x ∷ parts) = inFourBytes at ++ inFourBytes (length x) ++ pairs (at + length x) parts
 
 abbrev pub joined : List (List ℕ) → List ℕ
 joined [] = []
@@ -39,4 +39,4 @@ joined (x ∷ parts) = x ++ joined parts
 
 -- The file of a month with these parts.
 abbrev pub file : ℕ → List (List ℕ) → List ℕ
-file month parts = le2 month ++ le2 (length parts) ++ pairs (4 + 8 * length parts) parts ++ joined parts
+file month parts = inTwoBytes month ++ inTwoBytes (length parts) ++ pairs (4 + 8 * length parts) parts ++ joined parts

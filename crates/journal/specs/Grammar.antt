@@ -78,8 +78,8 @@ advanceOf l =
 unfoldable pub statementOf : Left → Request
 statementOf l = let p = fieldOf Kind.Natural l in closed (p .left) (Request.Statement (p .value))
 
--- What a line is: a call, nothing or an error, and the numbers of its lists in a row or the bytes of its
--- file; of an error, the numbers of lists before the fault.
+-- What a line is: a call, nothing or an error, and the numbers of its lists in a row or the bytes of its file; of an error, the numbers of
+-- lists before the fault.
 pub record Parsed : Type 0 where
   pub request : Request
   pub numbers : List ℤ

@@ -26,7 +26,7 @@ use Rattle.words.proofs.HexLaws.{value-small}
 use Rattle.words.proofs.WordLaws.{solid}
 use Rattle.journal.specs.declared.Request.{Request}
 use Rattle.printing.specs.Decimals.{spaced, joined}
-use Rattle.printing.specs.Hex.{lastHex, hexByte, hexBytes, fileWords}
+use Rattle.printing.specs.Hex.{lastHex, hexByte, hexBytes, hexWords}
 use Rattle.printing.specs.Lines.{IsByte, callWords, printed}
 use Rattle.printing.specs.Placed.{Put}
 use Rattle.printing.specs.PlacedLaws.{Putting, putting-goes, putting-ends, put-none, put-then, put-blank, put-first}
@@ -154,26 +154,26 @@ hex-word (z ∷ zs) =
     every-cons wordByte (lastHex (natAbs z / 16)) (lastHex (natAbs z) ∷ hexBytes zs) (last-word (natAbs z / 16))
     (every-cons wordByte (lastHex (natAbs z)) (hexBytes zs) (last-word (natAbs z)) (hex-word zs))
 
-pub file-words : (zs : List ℤ) → All IsWord (fileWords zs)
-unfolding fileWords
+pub file-words : (zs : List ℤ) → All IsWord (hexWords zs)
+unfolding hexWords
 file-words [] = tt
 file-words (z ∷ zs) = (record { some-byte = omega (arith, hex-long (z ∷ zs)); bytes = hex-word (z ∷ zs) }, tt)
 
 -- How long the line of a batch is: five bytes, and a blank and two digits for each byte where there is one.
 
-file-long : (zs : List ℤ) → 0 < length zs → length (spaced (fileWords zs)) ≡ 1 + 2 * length zs
-unfolding fileWords spaced
+file-long : (zs : List ℤ) → 0 < length zs → length (spaced (hexWords zs)) ≡ 1 + 2 * length zs
+unfolding hexWords spaced
 file-long [] h = absurd (omega arith)
 file-long (z ∷ zs) h = omega (arith, length-append (32 ∷ hexBytes (z ∷ zs)) [], hex-long (z ∷ zs))
 
-file-empty : (zs : List ℤ) → length zs ≡ 0 → length (spaced (fileWords zs)) ≡ 0
-unfolding fileWords spaced
+file-empty : (zs : List ℤ) → length zs ≡ 0 → length (spaced (hexWords zs)) ≡ 0
+unfolding hexWords spaced
 file-empty [] h = refl
 file-empty (z ∷ zs) h = absurd (omega arith)
 
-batch-line : (n : ℕ) (zs : List ℤ) → length (printed (Request.Batch n) zs) ≡ 5 + length (spaced (fileWords (take n zs)))
+batch-line : (n : ℕ) (zs : List ℤ) → length (printed (Request.Batch n) zs) ≡ 5 + length (spaced (hexWords (take n zs)))
 unfolding printed callWords joined
-batch-line n zs = length-append (text "batch") (spaced (fileWords (take n zs)))
+batch-line n zs = length-append (text "batch") (spaced (hexWords (take n zs)))
 
 pub batch-empty : (zs : List ℤ) → length (printed (Request.Batch 0) zs) ≡ 5
 batch-empty zs = omega (arith, batch-line 0 zs, file-empty (take 0 zs) refl)
@@ -183,7 +183,7 @@ batch-long n zs h g =
     let k : length (take n zs) ≡ n = length-take-le n zs g in
     omega (arith, batch-line n zs, file-long (take n zs) (omega (arith, k)), k)
 
-file-short : (zs : List ℤ) → length (spaced (fileWords zs)) ≤ 1 + 2 * length zs
+file-short : (zs : List ℤ) → length (spaced (hexWords zs)) ≤ 1 + 2 * length zs
 file-short [] = omega (arith, file-empty [] refl)
 file-short (z ∷ zs) = omega (arith, file-long (z ∷ zs) (omega arith))
 
@@ -203,19 +203,19 @@ module _ (e f g : List ℕ) (at p q : ℕ) where
       let k : n ≡ natAbs z = m ∙ ap natAbs (toZ-ofZ s) in
       rw (← k, ← c, ← d) (put-then (a ∷ []) (b ∷ []) e f g at p q x y)
 
-  pub put-file : (zs : List ℤ) → (length zs ≡ 0 → ⊥) → Put (32 ∷ []) e at p f → Put (hexBytes zs) f p q g → Put (spaced (fileWords zs)) e at q g
-  unfolding fileWords
+  pub put-file : (zs : List ℤ) → (length zs ≡ 0 → ⊥) → Put (32 ∷ []) e at p f → Put (hexBytes zs) f p q g → Put (spaced (hexWords zs)) e at q g
+  unfolding hexWords
   put-file [] n x y = absurd (n refl)
   put-file (z ∷ zs) n x y = put-blank e f g at p q (hexBytes (z ∷ zs)) x y
 
   pub put-batch : (zs : List ℤ) (n end : ℕ) → end ≡ min (0 + n) (length zs) → Put (text "batch") e at p f
-      → Put (spaced (fileWords (take end zs))) f p q g → Put (joined (text "batch" ∷ fileWords (take n zs))) e at q g
+      → Put (spaced (hexWords (take end zs))) f p q g → Put (joined (text "batch" ∷ hexWords (take n zs))) e at q g
   put-batch zs n end k x y =
       let t : take end zs ≡ take n zs = take-clipped n end zs (omega arith) in
-      put-first e f g at p q (text "batch") (fileWords (take n zs)) x (rw t at y)
+      put-first e f g at p q (text "batch") (hexWords (take n zs)) x (rw t at y)
 
-pub no-file : (zs : List ℤ) (e : List ℕ) (at : ℕ) → length zs ≡ 0 → Put (spaced (fileWords zs)) e at at e
-unfolding fileWords spaced
+pub no-file : (zs : List ℤ) (e : List ℕ) (at : ℕ) → length zs ≡ 0 → Put (spaced (hexWords zs)) e at at e
+unfolding hexWords spaced
 no-file [] e at h = put-none e at
 no-file (z ∷ zs) e at h = absurd (omega arith)
 

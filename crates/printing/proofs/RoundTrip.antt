@@ -31,7 +31,7 @@ use Rattle.journal.specs.declared.fields.Kind.{Kind}
 use Rattle.words.proofs.WordLaws.{solid}
 use Rattle.journal.proofs.Room.{_&_}
 use Rattle.printing.specs.Decimals.{decimal, integer, joined}
-use Rattle.printing.specs.Hex.{hexBytes, fileWords}
+use Rattle.printing.specs.Hex.{hexBytes, hexWords}
 use Rattle.printing.specs.Lines.{callWords, listWords, cut, printed, Natural64, Natural32, Fitting, Holds, Hold, IsByte}
 use Rattle.printing.proofs.PlainWords.{wordByte, IsWord, uncommented-line, no-control, joined-line, joined-words}
 use Rattle.printing.proofs.DecimalLaws.{decimal-word, integer-word}
@@ -204,14 +204,14 @@ unfolding batchOf fileOf checkedFile ended filed hexadecimal bytesOfHex each
 no-file-back room = rw (le-leb 0 room (omega arith))
 
 bytes-read : (room : ℕ) (zs : List ℤ) → All IsByte zs → length zs ≤ room
-    → batchOf room (more (fileWords zs)) ≡ record { request = Request.Batch (length zs); numbers = zs }
-unfolding fileWords
+    → batchOf room (more (hexWords zs)) ≡ record { request = Request.Batch (length zs); numbers = zs }
+unfolding hexWords
 bytes-read room [] a b = no-file-back room
 bytes-read room (z ∷ zs) a b =
     file-back room (hexBytes (z ∷ zs)) (z ∷ zs) (hex-hexadecimal (z ∷ zs)) (bytes-back (z ∷ zs) a) b
 
 batch-back : (room n : ℕ) (zs : List ℤ) → n ≡ length zs → All IsByte zs → length zs ≤ room
-    → batchOf room (more (fileWords (take n zs))) ≡ record { request = Request.Batch n; numbers = zs }
+    → batchOf room (more (hexWords (take n zs))) ≡ record { request = Request.Batch n; numbers = zs }
 batch-back room n zs e a b = rw (e, take-all (length zs) zs (omega arith)) (bytes-read room zs a b)
 
 -- The words of a call give the call.
@@ -241,7 +241,7 @@ words-back room (Request.Statement p) zs f h = rw (f .1) (at-name room 7 tt (dec
 words-back room Request.Calls zs f h = rw f (at-name room 8 tt [] ∙ ap plain (closed-back Request.Calls))
 words-back room (Request.Special n) zs f h =
     at-name room 9 tt (listWords (cut (lengthList n) zs)) ∙ special-back room n zs (f .0) (f .1) (f .2) h
-words-back room (Request.Batch n) zs f h = at-name room 11 tt (fileWords (take n zs)) ∙ batch-back room n zs (f .0) (f .1) h
+words-back room (Request.Batch n) zs f h = at-name room 11 tt (hexWords (take n zs)) ∙ batch-back room n zs (f .0) (f .1) h
 words-back room Request.Report zs f h = rw f (at-name room 10 tt [] ∙ ap plain (closed-back Request.Report))
 words-back room (Request.Error e) zs f h = absurd f
 

@@ -20,6 +20,6 @@ hexBytes [] = []
 hexBytes (z ∷ zs) = hexByte z ++ hexBytes zs
 
 -- "in one word; `batch` alone for an empty file".
-unfoldable pub fileWords : List ℤ → List (List ℕ)
-fileWords [] = []
-fileWords (z ∷ zs) = hexBytes (z ∷ zs) ∷ []
+unfoldable pub hexWords : List ℤ → List (List ℕ)
+hexWords [] = []
+hexWords (z ∷ zs) = hexBytes (z ∷ zs) ∷ []

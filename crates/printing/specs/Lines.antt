@@ -12,7 +12,7 @@ use Rattle.words.specs.Text.{text}
 use Rattle.journal.specs.Grammar.{areMarks, lengthList, total}
 use Rattle.journal.specs.declared.Request.{Request}
 use Rattle.printing.specs.Decimals.{decimal, integer, joined}
-use Rattle.printing.specs.Hex.{fileWords}
+use Rattle.printing.specs.Hex.{hexWords}
 
 -- Numbers cut into lists of given lengths.
 unfoldable pub cut : List ℕ → List ℤ → List (List ℤ)
@@ -24,8 +24,8 @@ unfoldable pub listWords : List (List ℤ) → List (List ℕ)
 listWords [] = []
 listWords (zs ∷ rest) = decimal (length zs) ∷ (map integer zs ++ listWords rest)
 
--- 'The journal': the words of a call, its numbers as numbers, with the numbers of its lists in a row, or the bytes of its file. What
--- is no call has none.
+-- 'The journal': the words of a call, its numbers as numbers, with the numbers of its lists in a row, or the bytes of its file. What is no
+-- call has none.
 unfoldable pub callWords : Request → List ℤ → List (List ℕ)
 callWords Request.Nothing zs = []
 callWords (Request.Fresh d) zs = text "fresh" ∷ decimal (d .0) ∷ []
@@ -40,7 +40,7 @@ callWords (Request.Advance t b) zs = text "advance" ∷ decimal (t .0) ∷ decim
 callWords (Request.Statement p) zs = text "statement" ∷ decimal p ∷ []
 callWords Request.Calls zs = text "calls" ∷ []
 callWords (Request.Special n) zs = text "special" ∷ listWords (cut (lengthList n) zs)
-callWords (Request.Batch n) zs = text "batch" ∷ fileWords (take n zs)
+callWords (Request.Batch n) zs = text "batch" ∷ hexWords (take n zs)
 callWords Request.Report zs = text "report" ∷ []
 callWords (Request.Error e) zs = []
 

@@ -5,7 +5,7 @@ ghost use Prim.Native.Nat.{_+_, _≤_, min};
 ghost use lib.ListN.{length, take};
 ghost use Rattle.words.specs.Text.{text};
 ghost use Rattle.printing.specs.Decimals.{decimal, integer, spaced, joined};
-ghost use Rattle.printing.specs.Hex.{fileWords};
+ghost use Rattle.printing.specs.Hex.{hexWords};
 ghost use Rattle.printing.specs.Lines.{printed, cut, listWords};
 ghost use Rattle.journal.specs.Grammar.{lengthList};
 ghost use Rattle.printing.specs.Placed.{Put};
@@ -100,7 +100,7 @@ fn put_special(out: &mut [u8], at: usize, n: Lengths, numbers: &[i64]) -> usize
 
 // batch HEX
 fn put_batch(out: &mut [u8], at: usize, n: usize, numbers: &[i64]) -> usize
-    ensures { λ r. ⌜ Put (joined (text "batch" ∷ fileWords (take n (now (numbers .entry))))) (now (out .entry)) at r (now (out .exit)) ⌝ }
+    ensures { λ r. ⌜ Put (joined (text "batch" ∷ hexWords (take n (now (numbers .entry))))) (now (out .entry)) at r (now (out .exit)) ⌝ }
 {
     let next = put_text(out, at, b"batch");
     let end = end_of(0, n, numbers.len());

@@ -1,7 +1,7 @@
 // Bytes as hexadecimal digits, two for each byte.
 ghost use mathlib.Core.Path.{_≡_};
 ghost use Rattle.printing.specs.Decimals.{spaced};
-ghost use Rattle.printing.specs.Hex.{lastHex, hexByte, hexBytes, fileWords};
+ghost use Rattle.printing.specs.Hex.{lastHex, hexByte, hexBytes, hexWords};
 ghost use Rattle.printing.specs.Placed.{Put};
 use crate::bytes::magnitude;
 use crate::bytes::put_byte;
@@ -25,7 +25,7 @@ fn put_hex(out: &mut [u8], at: usize, z: i64) -> usize
 }
 
 // Bytes one after the other.
-fn put_hexes(out: &mut [u8], at: usize, values: &[i64]) -> usize
+fn put_hex_bytes(out: &mut [u8], at: usize, values: &[i64]) -> usize
     ensures { λ r. ⌜ Put (hexBytes (now (values .entry))) (now (out .entry)) at r (now (out .exit)) ⌝ }
 {
     let mut p = at;
@@ -39,11 +39,11 @@ fn put_hexes(out: &mut [u8], at: usize, values: &[i64]) -> usize
 
 // A blank and the bytes of a file; nothing for an empty one.
 pub fn put_file(out: &mut [u8], at: usize, values: &[i64]) -> usize
-    ensures { λ r. ⌜ Put (spaced (fileWords (now (values .entry)))) (now (out .entry)) at r (now (out .exit)) ⌝ }
+    ensures { λ r. ⌜ Put (spaced (hexWords (now (values .entry)))) (now (out .entry)) at r (now (out .exit)) ⌝ }
 {
     if values.len() == 0 {
         return at;
     }
     let next = put_text(out, at, b" ");
-    put_hexes(out, next, values)
+    put_hex_bytes(out, next, values)
 }

@@ -218,7 +218,8 @@ abbrev pub firstDay : List ℕ → ℕ
 firstDay m = bookOfWords m .today .0
 
 -- No call yet.
-pub turn-first : (calls : List ℕ) (figures : List ℤ) (files : List ℕ) (out : List ℤ) (d count : ℕ) (x : Answer) (m : List ℕ) → d ≤ 29219 → BegunWords d x m
+pub turn-first : (calls : List ℕ) (figures : List ℤ) (files : List ℕ) (out : List ℤ) (d count : ℕ) (x : Answer) (m : List ℕ)
+    → d ≤ 29219 → BegunWords d x m
     → count ≡ min (length calls / 6) (length out / 6) → Turn calls figures files out (firstDay m) count 0 out m
 unfolding decided callsUpTo run
 turn-first calls figures files out d count x m h g e =
@@ -233,7 +234,8 @@ turn-first calls figures files out d count x m h g e =
       formed = g .formed;
     }
 
-module _ (calls : List ℕ) (figures : List ℤ) (files : List ℕ) (out₀ : List ℤ) (s count i : ℕ) (out : List ℤ) (m : List ℕ) (t : Turn calls figures files out₀ s count i out m) where
+module _ (calls : List ℕ) (figures : List ℤ) (files : List ℕ) (out₀ : List ℤ) (s count i : ℕ) (out : List ℤ) (m : List ℕ)
+    (t : Turn calls figures files out₀ s count i out m) where
   -- A call may be made on the words.
   pub turn-formed : WellFormed m
   turn-formed = t .formed
@@ -249,7 +251,8 @@ module _ (calls : List ℕ) (figures : List ℤ) (files : List ℕ) (out₀ : Li
   turn-room h = omega (arith, t .all, t .long)
 
   -- Its answer is the reading's decision.
-  turn-decided : answer (bookOfWords m) (callAt calls figures files i) ≡ decision s (eventsOf s (callsUpTo calls figures files i)) (callAt calls figures files i)
+  turn-decided : answer (bookOfWords m) (callAt calls figures files i)
+      ≡ decision s (eventsOf s (callsUpTo calls figures files i)) (callAt calls figures files i)
   turn-decided =
       given (bookOfWords m) (callAt calls figures files i) (answer (bookOfWords m) (callAt calls figures files i))
       (step (bookOfWords m) (callAt calls figures files i))
@@ -319,7 +322,8 @@ turn-all calls figures files out₀ s count i out m t h =
     })
 
 pub turn-last : (calls : List ℕ) (figures : List ℤ) (files : List ℕ) (out₀ out : List ℤ) (d count i : ℕ) (x : Answer) (m₀ m : List ℕ)
-    → d ≤ 29219 → BegunWords d x m₀ → Turn calls figures files out₀ (firstDay m₀) count i out m → count ≤ i → ReplayedFrom d calls figures files out₀ out x m
+    → d ≤ 29219 → BegunWords d x m₀ → Turn calls figures files out₀ (firstDay m₀) count i out m → count ≤ i
+    → ReplayedFrom d calls figures files out₀ out x m
 turn-last calls figures files out₀ out d count i x m₀ m h g t k =
     record {
       answered = g .begun .answered;

@@ -100,7 +100,8 @@ pub fn apply_at(
     place: usize,
 ) -> [i64; 6]
     requires { ⌜ WellFormed (now book) × (6 * place + 6 ≤ length (now calls)) ⌝ }
-    ensures { λ r. ⌜ GivenNumbers (now (book .entry)) (callAt (now (calls .entry)) (now (figures .entry)) (now (files .entry)) place) r (now (book .exit)) ⌝ }
+    ensures { λ r. ⌜ GivenNumbers (now (book .entry))
+        (callAt (now (calls .entry)) (now (figures .entry)) (now (files .entry)) place) r (now (book .exit)) ⌝ }
 {
     let at = 6 * place;
     apply(

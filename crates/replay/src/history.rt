@@ -32,8 +32,8 @@ fn put(out: &mut [i64], at: usize, numbers: [i64; 6])
 }
 
 // Writes a fresh book on a day into lent words, makes the calls in turn on it, and writes the six numbers of each answer; says what the fresh
-// book answered, and leaves the book at the end. Six words are a call; a settlement's figures are a part of `figures`, and a
-// batch's file is a part of `files`.
+// book answered, and leaves the book at the end. Six words are a call; a settlement's figures are a part of `figures`, and a batch's file is a
+// part of `files`.
 pub fn replay(
     start: Day,
     calls: &[u64],

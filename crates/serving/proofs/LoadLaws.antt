@@ -1,144 +1,206 @@
--- The line that a file's bytes make: its digits one after the other, its length, and that it is one line.
+-- The line that a file's bytes make: the numbers written, its length, that it is one line, and what it asks of the book.
 -- Assumes nothing.
-use Prim.Native.Nat.{ℕ, suc, _+_, _*_, _/_, _%_, _≤_, _<_}
+use Prim.Native.Nat.{ℕ, suc, _+_, _*_, _≤_, _<_, min}
 use mathlib.Core.Path.{_≡_, refl, sym, ap, subst, _∙_}
-use mathlib.Core.Bool.{Bool, true, false, not, _&&_}
-use mathlib.Core.List.{List, [], _∷_, _++_}
+use mathlib.Core.Bool.{Bool, true, false, not, cond, _&&_}
+use mathlib.Core.List.{List, [], _∷_, _++_, map, append-nil}
 use native.Mathlib.Numerals.{add-one}
 use native.Mathlib.Omega.{arith}
-use borrow.Author.Tests.{lt-ltb, le-ltb, ne-eqb, not-true, not-false}
-use lib.Dec.{eqb, ltb}
-use lib.ListN.{length, take, drop, getD, drop-of-length-le, length-append}
-use lib.Seq.{drop-cons}
+use borrow.Author.Tests.{not-true, not-false}
+use mir.Syntax.{w8}
+use mir.Val.{Fits}
+use lib.IntN.{ℤ, pos}
+use lib.ListN.{length, take, drop, getD, set, drop-of-length-le, length-append, length-map}
+use lib.Seq.{sets, sets-eq, length-sets, take-all, take-append-seam, drop-cons}
 use Rattle.laws.specs.Cases.{split, clash}
-use Rattle.words.specs.Text.{text}
+use Rattle.laws.specs.Lists.{All, all-map}
+use Rattle.book.specs.Call.{batch}
+use Rattle.book.specs.Account.{answer}
+use Rattle.journal.specs.Grammar.{Parsed, parsed}
+use Rattle.journal.specs.declared.Request.{Request}
+use Rattle.printing.specs.declared.Answer.{Answer}
+use Rattle.printing.specs.Lines.{printed, IsByte}
 use Rattle.printing.specs.Placed.{Put}
-use Rattle.printing.specs.PlacedLaws.{put-none, put-then, Putting, putting-goes, putting-ends, put-end, put-bytes}
+use Rattle.printing.specs.PlacedLaws.{put-end, put-bytes}
+use Rattle.printing.proofs.HexLaws.{batch-short}
+use Rattle.printing.proofs.RoundTrip.{round-trip}
+use Rattle.answering.specs.Asked.{call, byteOf, batchBytes, asked, answerTo, bookAfter}
+use Rattle.answering.specs.Kept.{takes, freshFirst, keptLine}
+use Rattle.answering.specs.Lines.{lineRequest}
+use Rattle.answering.specs.Shown.{shown}
 use Rattle.dialogue.specs.declared.Way.{Way}
 use Rattle.dialogue.specs.Split.{linesIn}
-use Rattle.dialogue.specs.Turns.{State, allJournal, afterAll}
+use Rattle.dialogue.specs.Asks.{textOf, heldBack, requestOf, asks}
+use Rattle.dialogue.specs.Said.{said, tabled}
+use Rattle.dialogue.specs.Turns.{State, next, answerOf, isKept, after, bytesOf, numeric, journalOf, afterAll, allBytes, allJournal}
+use Rattle.dialogue.proofs.CompleteLines.{line-first}
+use Rattle.dialogue.proofs.KeptForm.{printed-plain, printed-text}
 use Rattle.storage.specs.declared.kept.Journal.{Journal}
 use Rattle.storage.specs.declared.whole.Contents.{Contents}
 use Rattle.storage.specs.Whole.{WholeRead}
 use Rattle.serving.specs.declared.delivery.Progress.{Progress}
 use Rattle.serving.specs.Delivery.{Grown}
 use Rattle.serving.specs.Parts.{Drained}
-use Rattle.serving.specs.Load.{hexDigit, hexByte, hexOf, hexWord, batchText, batchLine, Entered, EnteredIf}
+use Rattle.serving.specs.Load.{AreBytes, batchText, batchLine, MayEnter, Loads, Entered, EnteredIf}
 
--- ---- digits
+-- ---- the bytes as numbers
 
-pub digit-low : (n : ℕ) → n < 10 → 48 + n ≡ hexDigit n
-unfolding hexDigit
-digit-low n h = rw (lt-ltb n 10 h) refl
+-- A list all of whose places hold bytes is one of bytes.
+all-bytes : (bytes : List ℕ) → ((i : ℕ) → Fits w8 (getD bytes i 0)) → All (λ (b : ℕ). b < 256) bytes
+all-bytes [] h = tt
+all-bytes (b ∷ l) h = (omega (arith, h 0), all-bytes l (λ i. h (suc i)))
 
-pub digit-high : (n : ℕ) → 10 ≤ n → 87 + n ≡ hexDigit n
-unfolding hexDigit
-digit-high n h = rw (le-ltb n 10 h) refl
+pub are-bytes : (bytes : List ℕ) → ((i : ℕ) → Fits w8 (getD bytes i 0)) → AreBytes bytes
+are-bytes bytes h = record { all = all-bytes bytes h }
 
-pub two-digits : (b x y : ℕ) (e f g : List ℕ) (at p q : ℕ) → b < 256 → x ≡ hexDigit (b / 16 % 16) → y ≡ hexDigit (b % 16) → Put (x ∷ []) e at p f
-    → Put (y ∷ []) f p q g → Put (hexByte b) e at q g
-unfolding hexByte
-two-digits b x y e f g at p q h j k u v =
-    let m : b / 16 % 16 ≡ b / 16 = omega arith in
-    let high : x ≡ hexDigit (b / 16) = j ∙ ap hexDigit m in
-    rw (← high, ← k) (put-then (x ∷ []) (y ∷ []) e f g at p q u v)
+-- The bytes that are left, written from place i on, give what all of them give.
+module _ (bytes : List ℕ) (e f : List ℤ) (i : ℕ) (known : sets f i (map pos (drop i bytes)) ≡ sets e 0 (map pos bytes)) where
+  pub numbers-on : (v : ℤ) → i < length bytes → v ≡ pos (getD bytes i 0)
+      → sets (set f i v) (i + 1) (map pos (drop (i + 1) bytes)) ≡ sets e 0 (map pos bytes)
+  numbers-on v h g =
+      let z : map pos (drop i bytes) ≡ v ∷ map pos (drop (suc i) bytes) = rw g (ap (map pos) (drop-cons bytes i 0 h)) in
+      rw (add-one i) (sym (ap (sets f i) z) ∙ known)
 
-hex-next : (b : ℕ) (l : List ℕ) → hexOf (b ∷ l) ≡ hexByte b ++ hexOf l
-unfolding hexOf
-hex-next b l = refl
+  pub numbers-all : length bytes ≤ i → f ≡ sets e 0 (map pos bytes)
+  numbers-all h = sym (ap (λ (l : List ℕ). sets f i (map pos l)) (drop-of-length-le bytes h)) ∙ known
 
-hex-nil : hexOf [] ≡ []
-unfolding hexOf
-hex-nil = refl
-
-pub digits-more : (x bytes e f g : List ℕ) (at p q i : ℕ) → i < length bytes → Putting x (hexOf (drop i bytes)) e at p f
-    → Put (hexByte (getD bytes i 0)) f p q g → Putting x (hexOf (drop (i + 1) bytes)) e at q g
-digits-more x bytes e f g at p q i h w z =
-    putting-goes x (hexOf (drop i bytes)) (hexByte (getD bytes i 0)) (hexOf (drop (i + 1) bytes)) e f g at p q w
-    (rw (add-one i, drop-cons bytes i 0 h) (hex-next (getD bytes i 0) (drop (suc i) bytes))) z
-
-pub digits-done : (x bytes e f : List ℕ) (at p i : ℕ) → length bytes ≤ i → Putting x (hexOf (drop i bytes)) e at p f → Put x e at p f
-digits-done x bytes e f at p i h w = putting-ends x (hexOf (drop i bytes)) e f at p w (rw (drop-of-length-le bytes h) hex-nil)
+-- Numbers written into a list leave its length.
+pub same-room : (e f zs : List ℤ) → f ≡ sets e 0 zs → length f ≡ length e
+same-room e f zs w = ap length w ∙ length-sets e 0 zs
 
 -- ---- the line put together
 
-pub no-word : (bytes e : List ℕ) (at : ℕ) → length bytes ≡ 0 → Put (hexWord bytes) e at at e
-unfolding hexWord
-no-word [] e at h = put-none e at
-no-word (b ∷ l) e at h = absurd (omega arith)
+-- The numbers at the front of a list into which they were written are the bytes, so that the kept line is that of the bytes.
+module _ (bytes : List ℕ) (e f : List ℤ) (h : length bytes ≤ length e) (w : f ≡ sets e 0 (map pos bytes)) where
+  long : length (map pos bytes) ≡ length bytes
+  long = length-map bytes pos
 
-pub some-word : (bytes e f g : List ℕ) (at p q : ℕ) → (length bytes ≡ 0 → ⊥) → Put (32 ∷ []) e at p f → Put (hexOf bytes) f p q g
-    → Put (hexWord bytes) e at q g
-unfolding hexWord
-some-word [] e f g at p q h x y = absurd (h refl)
-some-word (b ∷ l) e f g at p q h x y = put-then (32 ∷ []) (hexOf (b ∷ l)) e f g at p q x y
+  in-front : f ≡ map pos bytes ++ drop (0 + length (map pos bytes)) e
+  in-front = w ∙ sets-eq (map pos bytes) e 0 (omega (arith, long))
 
-pub whole-line : (bytes e f g h : List ℕ) (p q r : ℕ) → Put (text "batch") e 0 p f → Put (hexWord bytes) f p q g → Put (10 ∷ []) g q r h
-    → Put (batchLine bytes) e 0 r h
+  front-is : take (min (length bytes) (length f)) f ≡ map pos bytes
+  front-is =
+      let n : min (length bytes) (length f) ≡ length (map pos bytes) = omega (arith, long, same-room e f (map pos bytes) w) in
+      ap (λ (k : ℕ). take k f) n
+      ∙ ap (take (length (map pos bytes))) in-front
+      ∙ take-append-seam (map pos bytes) (drop (0 + length (map pos bytes)) e)
+
+  kept-is : keptLine (Request.Batch (length bytes)) f ≡ batchLine bytes
+  unfolding keptLine batchLine batchText
+  kept-is = ap (λ (zs : List ℤ). printed (Request.Batch (length bytes)) zs ++ (10 ∷ [])) front-is
+
+  pub line-put : (n : ℕ) (d g : List ℕ) (r : ℕ) → n ≡ length bytes → Put (keptLine (Request.Batch n) f) d 0 r g → Put (batchLine bytes) d 0 r g
+  line-put n d g r m x =
+      subst (λ (l : List ℕ). Put l d 0 r g) (ap (λ (k : ℕ). keptLine (Request.Batch k) f) m ∙ kept-is) x
+
+-- ---- its length, and that it is one line
+
+line-length : (bytes : List ℕ) → length (batchLine bytes) ≤ 7 + 2 * length bytes
 unfolding batchLine batchText
-whole-line bytes e f g h p q r x y z =
-    put-then (text "batch" ++ hexWord bytes) (10 ∷ []) e g h 0 q r (put-then (text "batch") (hexWord bytes) e f g 0 p q x y) z
+line-length bytes =
+    let text = printed (Request.Batch (length bytes)) (map pos bytes) in
+    omega (arith, length-append text (10 ∷ []), batch-short (length bytes) (map pos bytes), length-map bytes pos)
 
--- ---- its length
-
-hex-length : (l : List ℕ) → length (hexOf l) ≡ 2 * length l
-unfolding hexOf hexByte
-hex-length [] = refl
-hex-length (b ∷ l) = omega (arith, hex-length l)
-
-word-length : (l : List ℕ) → length (hexWord l) ≤ 1 + 2 * length l
-unfolding hexWord
-word-length [] = omega arith
-word-length (b ∷ l) = omega (arith, hex-length (b ∷ l))
-
-line-length : (l : List ℕ) → length (batchLine l) ≤ 7 + 2 * length l
-unfolding batchLine batchText
-line-length l = omega (arith, length-append (text "batch" ++ hexWord l) (10 ∷ []), word-length l)
-
--- ---- that it is one line
-
--- a text with its newline is one line
-abbrev One : List ℕ → Type 0
-One t = linesIn (t ++ (10 ∷ [])) ≡ t ∷ []
-
-one-more : (x : ℕ) (t : List ℕ) → eqb x 10 ≡ false → One t → One (x ∷ t)
+no-lines : linesIn [] ≡ []
 unfolding linesIn
-one-more x t n o = rw (n, o) refl
+no-lines = refl
 
-none-one : One []
-unfolding linesIn
-none-one = refl
-
-digit-plain : (n : ℕ) → eqb (hexDigit n) 10 ≡ false
-unfolding hexDigit
-digit-plain n =
-    split (ltb n 10) (λ t. rw t (ne-eqb (48 + n) 10 (λ e. omega arith))) (λ t. rw t (ne-eqb (87 + n) 10 (λ e. omega arith)))
-
-hex-one : (l : List ℕ) → One (hexOf l)
-unfolding hexOf hexByte
-hex-one [] = none-one
-hex-one (b ∷ l) =
-    one-more (hexDigit (b / 16)) (hexDigit (b % 16) ∷ hexOf l) (digit-plain (b / 16))
-    (one-more (hexDigit (b % 16)) (hexOf l) (digit-plain (b % 16)) (hex-one l))
-
-word-one : (l : List ℕ) → One (hexWord l)
-unfolding hexWord
-word-one [] = none-one
-word-one (b ∷ l) = one-more 32 (hexOf (b ∷ l)) refl (hex-one (b ∷ l))
-
-line-one : (l : List ℕ) → linesIn (batchLine l) ≡ batchText l ∷ []
+line-one : (bytes : List ℕ) → linesIn (batchLine bytes) ≡ batchText bytes ∷ []
 unfolding batchLine batchText
-line-one l =
-    one-more 98 _ refl (one-more 97 _ refl (one-more 116 _ refl (one-more 99 _ refl (one-more 104 _ refl (word-one l)))))
+line-one bytes =
+    let text = printed (Request.Batch (length bytes)) (map pos bytes) in
+    line-first text [] (printed-plain (Request.Batch (length bytes)) (map pos bytes)) ∙ ap (λ (ls : List (List ℕ)). text ∷ ls) no-lines
+
+-- ---- what it asks of the book
+
+-- Bytes read from the numbers that they were written as.
+byte-same : (bytes : List ℕ) → All (λ (b : ℕ). b < 256) bytes → map byteOf (map pos bytes) ≡ bytes
+byte-same [] a = refl
+byte-same (b ∷ l) a =
+    let e : byteOf (pos b) ≡ b = omega (arith, a .0) in rw (e, byte-same l (a .1))
+
+file-same : (bytes : List ℕ) → AreBytes bytes → length bytes ≤ 32768 → batchBytes (length bytes) (map pos bytes) ≡ bytes
+unfolding batchBytes
+file-same bytes a h =
+    ap (map byteOf) (take-all (min (length bytes) 32768) (map pos bytes) (omega (arith, length-map bytes pos))) ∙ byte-same bytes (a .all)
+
+-- The line is read as the batch of the bytes: by the round trip of printing and parsing, and as it begins with no byte order mark.
+module _ (way : Way) (room : ℕ) (s : State) (bytes : List ℕ) (a : AreBytes bytes) (m : MayEnter way room s bytes) where
+  abbrev line : List ℕ
+  line = batchText bytes
+
+  abbrev read : Parsed
+  read = record { request = Request.Batch (length bytes); numbers = map pos bytes }
+
+  read-back : parsed room (textOf (s .place .line) line) ≡ read
+  unfolding batchText
+  read-back =
+      let r = Request.Batch (length bytes) in
+      let zs = map pos bytes in
+      ap (parsed room) (printed-text (s .place .line) r zs)
+      ∙ round-trip room r zs (sym (length-map bytes pos), all-map (λ (b : ℕ). b < 256) IsByte pos bytes (λ b h. h) (a .all))
+      (omega (arith, length-map bytes pos, m .fits))
+
+  request-is : requestOf way room (s .place) line ≡ Request.Batch (length bytes)
+  unfolding requestOf heldBack lineRequest freshFirst
+  request-is = rw (m .whole, m .changes, m .short) (ap (λ (x : Parsed). freshFirst (s .place .kept) (x .request)) read-back)
+
+  asks-batch : asks way room (s .place) line ≡ call (batch bytes)
+  unfolding asks
+  asks-batch =
+      ap (λ (r : Request). asked r (parsed room (textOf (s .place .line) line) .numbers)) request-is
+      ∙ ap (λ (x : Parsed). asked (Request.Batch (length bytes)) (x .numbers)) read-back
+      ∙ ap (λ (file : List ℕ). call (batch file)) (file-same bytes a (m .most))
+
+  abbrev reply : Answer
+  reply = shown (answer (s .book) (batch bytes))
+
+  answer-is : answerOf way room s line ≡ reply
+  unfolding answerOf
+  answer-is = ap (answerTo (s .book) (next (s .place .line))) asks-batch
+
+  numeric-is : numeric room (s .place .line) line ≡ line
+  unfolding numeric batchText
+  numeric-is = ap (λ (x : Parsed). printed (x .request) (x .numbers)) read-back
+
+  book-is : afterAll way room s (line ∷ []) .book ≡ bookAfter (s .book) (call (batch bytes))
+  unfolding afterAll after
+  book-is = rw (m .on) (ap (bookAfter (s .book)) asks-batch)
+
+  said-is : bytesOf way room s line ≡ said reply
+  unfolding bytesOf tabled
+  said-is =
+      let b = bookAfter (s .book) (asks way room (s .place) line) in
+      ap (λ (r : Request). said (answerOf way room s line) ++ tabled r b) request-is
+      ∙ append-nil (said (answerOf way room s line))
+      ∙ ap said answer-is
+
+  bytes-are : allBytes way room s (line ∷ []) ≡ said reply
+  unfolding allBytes
+  bytes-are = rw (m .on) (append-nil (bytesOf way room s line) ∙ said-is)
+
+  kept-is-line : journalOf way room s line ≡ cond (way .keeps && takes reply) (line ++ (10 ∷ [])) []
+  unfolding journalOf isKept
+  kept-is-line =
+      ap (λ (l : List ℕ). cond (way .keeps && takes (answerOf way room s line)) (l ++ (10 ∷ [])) []) numeric-is
+      ∙ ap (λ (x : Answer). cond (way .keeps && takes x) (line ++ (10 ∷ [])) []) answer-is
+
+  journal-is : allJournal way room s (line ∷ []) ≡ cond (way .keeps && takes reply) (batchLine bytes) []
+  unfolding allJournal batchLine
+  journal-is = rw (m .on) (append-nil (journalOf way room s line) ∙ kept-is-line)
+
+  -- so the book, the answer and the journal are those of that call
+  pub loads : Loads way room s bytes
+  loads = record { asked = asks-batch; book = book-is; answered = bytes-are; journal = journal-is }
 
 -- ---- the line taken
 
-module _ (way : Way) (room : ℕ) (s : State) (bytes e f : List ℕ) (r : ℕ) (x : Put (batchLine bytes) e 0 r f)
+module _ (way : Way) (room most : ℕ) (k : most ≡ room) (s : State) (bytes e f : List ℕ) (r : ℕ) (x : Put (batchLine bytes) e 0 r f)
     (h : 7 + 2 * length bytes ≤ length e) where
   within : 0 + length (batchLine bytes) ≤ length e
   within = omega (arith, line-length bytes)
 
-  pub is-line : take r f ≡ batchLine bytes
+  is-line : take r f ≡ batchLine bytes
   is-line =
       let n : r ≡ length (batchLine bytes) = omega (arith, put-end (batchLine bytes) e f 0 r x within) in
       rw n (put-bytes (batchLine bytes) e f 0 r x within)
@@ -146,13 +208,20 @@ module _ (way : Way) (room : ℕ) (s : State) (bytes e f : List ℕ) (r : ℕ) (
   taken-line : linesIn (take r f) ≡ batchText bytes ∷ []
   taken-line = ap linesIn is-line ∙ line-one bytes
 
-  pub entered : (t : State) (used : ℕ) (ok : Bool) → Drained way room s (take r f) used t ok → Entered way room s bytes t ok
-  entered t used ok d = record { left = λ o. d .left o ∙ ap (afterAll way room s) taken-line }
+  pub entered : AreBytes bytes → (t : State) (used : ℕ) (ok : Bool) → Drained way most s (take r f) used t ok → Entered way room s bytes t ok
+  entered a t used ok d =
+      record {
+        left = λ o. d .left o ∙ ap (afterAll way most s) taken-line ∙ ap (λ (n : ℕ). afterAll way n s (batchText bytes ∷ [])) k;
+        loads = loads way room s bytes a;
+      }
 
-  pub entered-grown : (silent : Bool) (j k : Journal) → Grown silent j (length (allJournal way room s (linesIn (take r f)))) k
-      → Grown silent j (length (allJournal way room s (batchText bytes ∷ []))) k
-  entered-grown silent j k g =
-      subst (λ (ls : List (List ℕ)). Grown silent j (length (allJournal way room s ls)) k) taken-line g
+  pub entered-grown : (silent : Bool) (j l : Journal) → Grown silent j (length (allJournal way most s (linesIn (take r f)))) l
+      → Grown silent j (length (allJournal way room s (batchText bytes ∷ []))) l
+  entered-grown silent j l g =
+      subst (λ (n : ℕ). Grown silent j n l)
+      (ap (λ (ls : List (List ℕ)). length (allJournal way most s ls)) taken-line
+      ∙ ap (λ (n : ℕ). length (allJournal way n s (batchText bytes ∷ []))) k)
+      g
 
 -- ---- .. where that is asked for
 

@@ -15,7 +15,7 @@ use Rattle.printing.specs.Placed.{Put}
 use Rattle.printing.specs.PlacedLaws.{put-then}
 use Rattle.dialogue.specs.declared.Place.{Place}
 use Rattle.serving.specs.declared.options.Options.{Options}
-use Rattle.serving.specs.Options.{optionNames, isDashed, withOption, withFile, withArgument}
+use Rattle.serving.specs.Options.{optionNames, isDashed, withOption, withLoad, withArgument}
 use Rattle.serving.specs.End.{endLine}
 
 pub empty-dashed : (a : List ℕ) → length a ≡ 0 → false ≡ isDashed a
@@ -57,17 +57,17 @@ pub one-file : (o : Options) (i : ℕ) (a : List ℕ) (dashed : Bool) → dashed
       awaits = false;
       load = i;
     }
-    ≡ withFile o i a
-unfolding withFile
+    ≡ withLoad o i a
+unfolding withLoad
 one-file o i a dashed e = rw e refl
 
-pub awaited : (o r : Options) (i : ℕ) (a : List ℕ) → o .awaits ≡ true → r ≡ withFile o i a → r ≡ withArgument o i a
+pub awaited : (o r : Options) (i : ℕ) (a : List ℕ) → o .awaits ≡ true → r ≡ withLoad o i a → r ≡ withArgument o i a
 unfolding withArgument
-awaited o r i a t e = e ∙ sym (cond-true (o .awaits) (withFile o i a) (withOption o i a) t)
+awaited o r i a t e = e ∙ sym (cond-true (o .awaits) (withLoad o i a) (withOption o i a) t)
 
 pub not-awaited : (o r : Options) (i : ℕ) (a : List ℕ) → o .awaits ≡ false → r ≡ withOption o i a → r ≡ withArgument o i a
 unfolding withArgument
-not-awaited o r i a t e = e ∙ sym (cond-false (o .awaits) (withFile o i a) (withOption o i a) t)
+not-awaited o r i a t e = e ∙ sym (cond-false (o .awaits) (withLoad o i a) (withOption o i a) t)
 
 pub end-line : (p : Place) (n : ℕ) (e f g h i j : List ℕ) (a b c d r : ℕ) → Put (text "end ") e 0 a f
     → Put (decimal (p .line)) f a b g → Put (text " ") g b c h

@@ -46,7 +46,7 @@ unfolding goesOn
 would-go way p j a r b e x y h k =
     let m : leb mostKept (a - 0) ≡ true = le-leb mostKept (a - 0) (omega arith) in
     let n : leb 16384 (b - 0) ≡ true = le-leb 16384 (b - 0) (omega arith) in
-    rw (e, x, y, m, n, or-true (way .batch)) refl
+    rw (e, x, y, m, n, or-true (way .gathers)) refl
 
 -- ---- the lines of some bytes of a part
 

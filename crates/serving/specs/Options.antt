@@ -53,8 +53,8 @@ withOption o i a =
     }
 
 -- "`--load FILE`": what is asked for where the i-th argument stands behind `--load`. It is the name of the file, and may not begin as an option does.
-unfoldable pub withFile : Options → ℕ → List ℕ → Options
-withFile o i a =
+unfoldable pub withLoad : Options → ℕ → List ℕ → Options
+withLoad o i a =
     record {
       bail = o .bail;
       end = o .end;
@@ -70,7 +70,7 @@ withFile o i a =
 
 -- What is asked for with one argument more.
 unfoldable pub withArgument : Options → ℕ → List ℕ → Options
-withArgument o i a = cond (o .awaits) (withFile o i a) (withOption o i a)
+withArgument o i a = cond (o .awaits) (withLoad o i a) (withOption o i a)
 
 -- Whether the arguments are none that the program takes: one of them is wrong, `--load` has no file behind it, or `--read` has no journal or stands
 -- beside `--load`.

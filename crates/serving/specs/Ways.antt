@@ -11,8 +11,8 @@ atStart kept = record { line = 0; refused = 0; kept = kept; long = false }
 
 -- As a filter nothing is kept.
 abbrev pub filterWay : (bails : Bool) → Way
-filterWay bails = record { keeps = false; reads = false; torn = false; bails = bails; batch = true }
+filterWay bails = record { keeps = false; reads = false; torn = false; bails = bails; gathers = true }
 
 -- Behind a replay the journal is kept, or only read.
-abbrev pub behindReplay : (reads bails batch : Bool) → Way
-behindReplay reads bails batch = record { keeps = not reads; reads = reads; torn = false; bails = bails; batch = batch }
+abbrev pub behindReplay : (reads bails gathers : Bool) → Way
+behindReplay reads bails gathers = record { keeps = not reads; reads = reads; torn = false; bails = bails; gathers = gathers }

@@ -295,8 +295,8 @@ fn take_file(
     kept: &mut [u8],
     out: &mut [u8],
 ) -> Progress
-    requires { ⌜ WellFormed (now book) × (7 + 2 * length (now bytes) ≤ length (now buffer)) × (mostKept ≤ length (now kept))
-        × (16384 ≤ length (now out)) ⌝ }
+    requires { ⌜ WellFormed (now book) × (7 + 2 * length (now bytes) ≤ length (now buffer)) × (length (now bytes) ≤ length (now numbers))
+        × (mostKept ≤ length (now kept)) × (16384 ≤ length (now out)) ⌝ }
     ensures { λ r. ⌜ WellFormed (now (book .exit)) ⌝ }
     ensures { λ r. ⌜ EnteredIf (asked && (progress .journal .ok && not (ended way (progress .place)))) way (length (now (numbers .entry)))
         (stateOf (now (book .entry)) (progress .place)) progress (now (bytes .entry)) (stateOf (now (book .exit)) (r .place)) r ⌝ }
@@ -328,7 +328,7 @@ pub fn answer_all(
 {
     let mut buffer = io::large_buffer();
     let mut numbers = buffers::numbers();
-    let mut kept = io::large_buffer();
+    let mut kept = buffers::journal();
     let mut out = io::large_buffer();
     let last = take_input(
         from.input,

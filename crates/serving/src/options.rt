@@ -1,7 +1,7 @@
 // The arguments: options, the name of a journal, and that of a file to be entered.
 ghost use mathlib.Core.Path.{_≡_};
 ghost use mathlib.Core.Bool.{cond};
-ghost use Rattle.serving.specs.Options.{noOptions, isDashed, withOption, withFile, withArgument, isWrong};
+ghost use Rattle.serving.specs.Options.{noOptions, isDashed, withOption, withLoad, withArgument, isWrong};
 use words::place_of;
 
 // What the arguments ask for: the options, whether the usage or the version is asked for, whether there is one that is none of these, the place of
@@ -81,7 +81,7 @@ fn with_option(options: Options, place: usize, argument: &[u8]) -> Options
 
 // What is asked for with the name of the file to be entered, at a place, which does not begin as an option does.
 fn with_file(options: Options, place: usize, argument: &[u8]) -> Options
-    ensures { λ r. ⌜ r ≡ withFile options place (now (argument .entry)) ⌝ }
+    ensures { λ r. ⌜ r ≡ withLoad options place (now (argument .entry)) ⌝ }
 {
     Options {
         bail: options.bail,

@@ -14,8 +14,7 @@ use storage::about;
 use storage::about_line;
 use storage::show_dropped;
 
-// The most bytes of a line that any version of the ledger kept, with its newline: what stands behind the last newline and is as long is no rest of
-// one.
+// More bytes than any version of the ledger kept in a line, with its newline: what stands behind the last newline and is as long is no rest of one.
 const MOST: usize = 20480;
 
 // How a journal was replayed: whether it may be gone on with, how many calls it has, and the bytes of its complete lines.

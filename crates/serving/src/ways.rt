@@ -41,20 +41,20 @@ pub fn filtering(bails: bool) -> Way
         reads: false,
         torn: false,
         bails,
-        batch: true,
+        gathers: true,
     }
 }
 
 // Behind the replay of a journal: it is kept, or only read.
-pub fn behind_replay(reads: bool, bails: bool, batch: bool) -> Way
-    ensures { λ r. ⌜ r ≡ behindReplay reads bails batch ⌝ }
+pub fn behind_replay(reads: bool, bails: bool, gathers: bool) -> Way
+    ensures { λ r. ⌜ r ≡ behindReplay reads bails gathers ⌝ }
 {
     Way {
         keeps: !reads,
         reads,
         torn: false,
         bails,
-        batch,
+        gathers,
     }
 }
 
@@ -67,7 +67,7 @@ pub fn replaying() -> Way
         reads: false,
         torn: false,
         bails: true,
-        batch: true,
+        gathers: true,
     }
 }
 
@@ -80,7 +80,7 @@ pub fn last(way: Way) -> Way
         reads: way.reads,
         torn: way.keeps,
         bails: way.bails,
-        batch: way.batch,
+        gathers: way.gathers,
     }
 }
 

@@ -14,8 +14,8 @@ slice-aggregate-put-text c = search needs
 put-text-requires : tie.Need-put-text-requires
 put-text-requires c κs = search needs
 
-put-hexes-requires : tie.Need-put-hexes-requires
-put-hexes-requires c κs = search needs
+put-hex-bytes-requires : tie.Need-put-hex-bytes-requires
+put-hex-bytes-requires c κs = search needs
 
 same-length : tie.Need-same-length
 same-length c = search needs
@@ -30,6 +30,6 @@ put-file-spec =
     returns
     slice-aggregate-put-text
     put-text-requires
-    put-hexes-requires
+    put-hex-bytes-requires
     same-length
     returns-2)

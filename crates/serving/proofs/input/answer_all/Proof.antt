@@ -11,11 +11,11 @@ large-buffer-requires c κs = search needs
 numbers-requires : tie.Need-numbers-requires
 numbers-requires c κs = search needs
 
+journal-requires : tie.Need-journal-requires
+journal-requires c κs = search needs
+
 large-buffer-requires-2 : tie.Need-large-buffer-requires-2
 large-buffer-requires-2 c κs = search needs
-
-large-buffer-requires-3 : tie.Need-large-buffer-requires-3
-large-buffer-requires-3 c κs = search needs
 
 slice-aggregate-take-input : tie.Need-slice-aggregate-take-input
 slice-aggregate-take-input c = search needs
@@ -54,8 +54,9 @@ take-file-requires c κs =
     let start = input .before .before .before .before .before .before .before .before .before .before .before .before .before in (
       taken .ensures,
       omega (arith, taken .kept, first .large-buffer .ensures, start .pre .1),
-      omega (arith, taken .kept, second .large-buffer2 .ensures),
-      omega (arith, taken .kept, third .large-buffer3 .ensures),
+      omega (arith, taken .kept, second .before .numbers .ensures, start .pre .1),
+      omega (arith, taken .kept, second .journal .ensures),
+      omega (arith, taken .kept, third .large-buffer2 .ensures),
     )
 
 goes-on-requires : tie.Need-goes-on-requires
@@ -82,8 +83,8 @@ answer-all-spec =
     (tie.spec
     large-buffer-requires
     numbers-requires
+    journal-requires
     large-buffer-requires-2
-    large-buffer-requires-3
     slice-aggregate-take-input
     slice-aggregate-take-input-2
     slice-aggregate-take-input-3

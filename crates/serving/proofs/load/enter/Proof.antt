@@ -1,8 +1,10 @@
--- `serving::load::enter` meets its contract: the bytes handed over are the line, which is one line.
+-- `serving::load::enter` meets its contract: the bytes handed over are the line, which is one line and asks for the batch of the file.
 -- Assumes nothing.
 use native.Mathlib.Omega.{arith}
+use mathlib.Core.List.{map}
+use lib.IntN.{pos}
 use lib.ListN.{length-take}
-use Rattle.serving.proofs.LoadLaws.{entered, entered-grown}
+use Rattle.serving.proofs.LoadLaws.{are-bytes, same-room, entered, entered-grown}
 use borrow.Author.Needs.{needs}
 use Rattle.serving.proofs.load.enter.Statement.{statement}
 use Rattle.serving.proofs.load.enter.Tie as tie
@@ -37,13 +39,16 @@ same-length-5 c = search needs
 returns : tie.Need-returns
 returns c =
     let drained = c .before .before .before .before .before .before .before .before in
-    let put = drained .before .before .before .before .before .before .before .before in
-    let start = put .before .before .before .before .before .before .before .before in
-    let room = start .pre .1 in (
+    let put = drained .before .before .before .before .before .before .before .before .before in
+    let known = put .before .before .before .before .before .before in
+    let start = known .before .before .before in
+    let line = put .put-line .ensures in
+    let same = same-room (start .args .numbers .now) _ (map pos (start .args .bytes .now)) (line .0) in
+    let bytes = are-bytes _ (known .shared-slice-known2 .given) in (
       drained .drain .ensures .0 .0,
       (
-        entered _ _ _ _ _ _ _ (put .put-line .ensures) room _ _ _ (drained .drain .ensures .1 .0),
-        entered-grown _ _ _ _ _ _ _ (put .put-line .ensures) room _ _ _ (drained .drain .ensures .1 .1),
+        entered _ _ _ same _ _ _ _ _ (line .1) (start .pre .1) bytes _ _ _ (drained .drain .ensures .1 .0),
+        entered-grown _ _ _ same _ _ _ _ _ (line .1) (start .pre .1) _ _ _ (drained .drain .ensures .1 .1),
       ),
     )
 

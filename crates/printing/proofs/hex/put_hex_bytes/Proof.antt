@@ -1,4 +1,4 @@
--- `printing::hex::put_hexes` meets its contract. The loop's invariant: the bytes that are left, written from place p on, give what all give.
+-- `printing::hex::put_hex_bytes` meets its contract. The loop's invariant: the bytes that are left, written from place p on, give what all give.
 -- The measure is how many are left.
 -- Assumes nothing.
 use Rattle.printing.specs.PlacedLaws.{Putting, putting-starts}
@@ -8,8 +8,8 @@ use Prim.Native.Nat.{_≤_, _-_}
 use mathlib.Core.Path.{_≡_, refl}
 use lib.ListN.{length, drop}
 use borrow.Author.Needs.{needs}
-use Rattle.printing.proofs.hex.put_hexes.Statement.{statement}
-use Rattle.printing.proofs.hex.put_hexes.Tie as tie
+use Rattle.printing.proofs.hex.put_hex_bytes.Statement.{statement}
+use Rattle.printing.proofs.hex.put_hex_bytes.Tie as tie
 
 abbrev Inv-loop : tie.InvT-loop
 Inv-loop out₀ at values p₀ i₀ out p i =
@@ -45,8 +45,8 @@ same-length c = search needs
 returns : tie.Need-returns Inv-loop μ-loop
 returns c = search (hexes-done, needs)
 
-pub put-hexes-spec : {M : Type 1} → statement M
-put-hexes-spec =
+pub put-hex-bytes-spec : {M : Type 1} → statement M
+put-hex-bytes-spec =
     tie.close
     (tie.spec
     Inv-loop
