@@ -1,7 +1,7 @@
 // Numbers in the bytes of a file, least byte first. There is no byte behind the end: it counts as 0.
 ghost use mathlib.Core.Path.{_≡_};
-ghost use Prim.Native.Nat.{_+_, _<_, _^_};
-ghost use lib.ListN.{getD};
+ghost use Prim.Native.Nat.{_+_, _<_, _≤_, _^_};
+ghost use lib.ListN.{length, getD};
 ghost use Rattle.batch.specs.Bytes.{numberAt, signedOf};
 
 // The number of those that a signed number of 64 bits can be from 0 on, and the largest of 64 bits.
@@ -24,19 +24,56 @@ pub fn number2(file: &[u8], at: usize) -> u16
     byte_at(file, at) as u16 + 256 * (byte_at(file, at + 1) as u16)
 }
 
-// The number in four bytes.
-pub fn number4(file: &[u8], at: usize) -> u32
-    requires { ⌜ at + 3 < 2 ^ 64 ⌝ }
+// A byte as a number of 16 bits.
+fn wide(byte: u8) -> u16
+    ensures { λ r. ⌜ (r ≡ byte) × (r ≤ 255) ⌝ }
+{
+    byte as u16
+}
+
+// The number in two bytes that are there.
+fn two_at(file: &[u8], at: usize) -> u16
+    requires { ⌜ at + 2 ≤ length (now file) ⌝ }
+    ensures { λ r. ⌜ r ≡ numberAt (now (file .entry)) at 2 ⌝ }
+{
+    wide(file[at]) + 256 * wide(file[at + 1])
+}
+
+// The number in four bytes that are there.
+fn four_at(file: &[u8], at: usize) -> u32
+    requires { ⌜ at + 4 ≤ length (now file) ⌝ }
     ensures { λ r. ⌜ r ≡ numberAt (now (file .entry)) at 4 ⌝ }
 {
+    two_at(file, at) as u32 + 65536 * (two_at(file, at + 2) as u32)
+}
+
+// The number in eight bytes that are there.
+fn eight_at(file: &[u8], at: usize) -> u64
+    requires { ⌜ at + 8 ≤ length (now file) ⌝ }
+    ensures { λ r. ⌜ r ≡ numberAt (now (file .entry)) at 8 ⌝ }
+{
+    four_at(file, at) as u64 + 4294967296 * (four_at(file, at + 4) as u64)
+}
+
+// The number in four bytes: at once where all are there.
+pub fn number4(file: &[u8], at: usize) -> u32
+    requires { ⌜ at + 4 < 2 ^ 64 ⌝ }
+    ensures { λ r. ⌜ r ≡ numberAt (now (file .entry)) at 4 ⌝ }
+{
+    if at + 4 <= file.len() {
+        return four_at(file, at);
+    }
     number2(file, at) as u32 + 65536 * (number2(file, at + 2) as u32)
 }
 
-// The number in eight bytes.
+// The number in eight bytes: at once where all are there.
 pub fn number8(file: &[u8], at: usize) -> u64
-    requires { ⌜ at + 7 < 2 ^ 64 ⌝ }
+    requires { ⌜ at + 8 < 2 ^ 64 ⌝ }
     ensures { λ r. ⌜ r ≡ numberAt (now (file .entry)) at 8 ⌝ }
 {
+    if at + 8 <= file.len() {
+        return eight_at(file, at);
+    }
     number4(file, at) as u64 + 4294967296 * (number4(file, at + 4) as u64)
 }
 

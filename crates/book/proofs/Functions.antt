@@ -5,6 +5,8 @@ pub mod Begins
 pub mod Answers
 pub mod DaysOpened
 pub mod OnWords
+pub mod OnSettlements
+pub mod SettlementsPut
 pub mod OnBatches
 pub mod OnPositions
 pub mod FilesInWords

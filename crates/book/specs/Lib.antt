@@ -8,4 +8,5 @@ pub mod InWords
 pub mod Opened
 pub mod Positions
 pub mod Left
+pub mod Settlements
 pub mod Batches

@@ -1,25 +1,48 @@
-// Batches (paper 02, Ask 1): a month in one file. All parts are judged on the book as it is, and then settled one after the other: a participant
-// stands in one part alone, so that each part is judged as if those before it were settled, and a refused batch has written nothing.
+// Batches (paper 02, Ask 1): a month in one file. All parts are judged on the book as it is, and then what they leave is written, one after the
+// other: a participant stands in one part alone, so that each part is judged as if those before it were settled, and a refused batch has written
+// nothing.
 use crate::Loaded;
-use crate::calls::is_settled;
-use crate::calls::settle;
-use crate::calls::settle_outcome;
+use crate::settlements::is_settled;
+use crate::settlements::put_settled;
+use crate::settlements::settle_answer;
 use batch::Form;
 use batch::form_of;
 use batch::month;
 use batch::part_at;
 use batch::put_figures;
+use calendar::Day;
 use calendar::Month;
+use calendar::month_of;
 use file::Settled;
+use file::settle::check_due;
+use file::settle::outside_months;
+use layout::parts::number;
+use manual::figures::sum_figures;
 ghost use mathlib.Core.Path.{_≡_};
+ghost use mathlib.Core.Bool.{true};
+ghost use Prim.Native.Nat.{_≤_};
+ghost use lib.ListN.{length};
+ghost use Rattle.calendar.specs.Civil.{monthOf};
 ghost use Rattle.batch.specs.declared.Form.the-variants.{Parts};
-ghost use Rattle.batch.specs.Batch.{participantAt, formOf};
-ghost use Rattle.file.specs.Answer.{settledSays};
-ghost use Rattle.layout.specs.Words.{bookOfWords};
+ghost use Rattle.batch.specs.Batch.{monthIn, formOf};
+ghost use Rattle.file.specs.Answer.{accepted, settledSays};
+ghost use Rattle.file.specs.Settle.{outsideMonths, checkDue};
+ghost use Rattle.layout.specs.Words.{bookOfWords, todayIn};
 ghost use Rattle.layout.specs.WellFormed.{WellFormed};
-ghost use Rattle.book.specs.Call.{on, batch, partAct, refusalOf, batchSays, loadedSays};
-ghost use Rattle.book.specs.Batches.{judged, madeParts};
+ghost use Rattle.book.specs.Call.{batch, refusalOf, batchSays, loadedSays};
+ghost use Rattle.book.specs.Batches.{judged, madeParts, Judges};
 ghost use Rattle.book.specs.InWords.{GivenWords};
+
+// What the settlement of a part answers, in a row of such answers.
+pub struct PartAnswer {
+    pub answer: Settled,
+}
+
+// How a batch is judged: what it answers, and where that is no refusal what its parts do.
+pub struct Judged {
+    pub loaded: Loaded,
+    pub answers: [PartAnswer; 64],
+}
 
 // The number of a settlement's refusal, 0 if it is none.
 fn refusal(answer: Settled) -> u32
@@ -31,70 +54,74 @@ fn refusal(answer: Settled) -> u32
     number
 }
 
-// What the settlement of a part answers on the book as it is.
-fn part_answer(words: &[u64], file: &[u8], at: u32) -> Settled
-    requires { ⌜ WellFormed (now words) ⌝ }
+// What the settlement of a part answers on the book as it is, given whether the batch's month is outside its range and whether a check is due. The
+// part's figures are read to the front of the lent ones.
+fn part_answer(
+    words: &[u64],
+    file: &[u8],
+    at: u32,
+    outside: bool,
+    due: bool,
+    figures: &mut [i64],
+) -> Settled
+    requires { ⌜ WellFormed (now words) × (outside ≡ outsideMonths (monthOf (todayIn (now words))) (monthIn (now file)))
+        × (due ≡ checkDue (monthOf (todayIn (now words))) (monthIn (now file))) × (255 ≤ length (now figures)) ⌝ }
     ensures { λ r. ⌜ settledSays r ≡ judged (bookOfWords (now (words .entry))) (now (file .entry)) at ⌝ }
 {
     let part = part_at(file, at);
     if 63 < part.participant {
         return Settled::Refused(1);
     }
-    let mut figures = [0i64; 255];
-    put_figures(file, at, &mut figures);
+    put_figures(file, at, figures);
     let rows = part.rows;
-    let settled = settle_outcome(
-        words,
-        part.participant,
-        Month(month(file)),
-        &figures[0..rows],
-    );
-    settled.answer
+    let sum = sum_figures(&figures[0..rows]);
+    settle_answer(words, part.participant, outside, due, sum)
 }
 
 // Judges the parts of a batch on the book as it is, the first refused one with its index.
-fn judge(words: &[u64], file: &[u8], parts: u32) -> Loaded
-    requires { ⌜ WellFormed (now words) ⌝ }
-    ensures { λ r. ⌜ loadedSays r ≡ batchSays (Parts parts) (judged (bookOfWords (now (words .entry))) (now (file .entry))) ⌝ }
+fn judge(words: &[u64], file: &[u8], parts: u32) -> Judged
+    requires { ⌜ WellFormed (now words) × (parts ≤ 64) ⌝ }
+    ensures { λ r. ⌜ (loadedSays (r .loaded) ≡ batchSays (Parts parts) (judged (bookOfWords (now (words .entry))) (now (file .entry))))
+        × (accepted (loadedSays (r .loaded)) ≡ true → Judges (bookOfWords (now (words .entry))) (now (file .entry)) parts (r .answers)) ⌝ }
 {
+    let current = month_of(Day(number(words[1])));
+    let outside = outside_months(current, Month(month(file)));
+    let due = check_due(current, Month(month(file)));
+    let mut figures = [0i64; 255];
+    let none = PartAnswer {
+        answer: Settled::Refused(0),
+    };
+    let mut answers = [none; 64];
     let mut i = 0;
     while i < parts {
-        let answer = part_answer(words, file, i);
+        let answer = part_answer(words, file, i, outside, due, &mut figures);
         if !is_settled(answer) {
-            return Loaded::Refused(refusal(answer), i);
+            return Judged {
+                loaded: Loaded::Refused(refusal(answer), i),
+                answers,
+            };
         }
+        answers[i as usize] = PartAnswer { answer };
         i += 1;
     }
-    Loaded::Parts(parts)
+    Judged {
+        loaded: Loaded::Parts(parts),
+        answers,
+    }
 }
 
-// Settles a part.
-fn settle_part(words: &mut [u64], file: &[u8], at: u32) -> Settled
-    requires { ⌜ WellFormed (now words) ⌝ }
-    ensures { λ r. ⌜ GivenWords (now (words .entry)) (on (participantAt (now (file .entry)) at) (partAct (now (file .entry)) at)) (settledSays r)
-        (now (words .exit)) ⌝ }
-{
-    let part = part_at(file, at);
-    let mut figures = [0i64; 255];
-    put_figures(file, at, &mut figures);
-    let rows = part.rows;
-    settle(
-        words,
-        part.participant,
-        Month(month(file)),
-        &figures[0..rows],
-    )
-}
-
-// Settles the parts of a batch in pair order.
-fn settle_parts(words: &mut [u64], file: &[u8], parts: u32)
-    requires { ⌜ WellFormed (now words) ⌝ }
+// Writes what the parts of a batch leave, in pair order.
+fn put_parts(words: &mut [u64], file: &[u8], parts: u32, answers: [PartAnswer; 64])
+    requires { ⌜ WellFormed (now words) × (formOf (now file) ≡ Parts parts) × (parts ≤ 64) × Judges (bookOfWords (now words)) (now file) parts answers ⌝ }
     ensures { λ r. ⌜ WellFormed (now (words .exit))
         × (bookOfWords (now (words .exit)) ≡ madeParts (bookOfWords (now (words .entry))) (now (file .entry)) parts) ⌝ }
 {
     let mut i = 0;
     while i < parts {
-        settle_part(words, file, i);
+        let part = part_at(file, i);
+        let kept = answers[i as usize];
+        let answer = kept.answer;
+        put_settled(words, part.participant, Month(month(file)), answer);
         i += 1;
     }
 }
@@ -104,10 +131,13 @@ fn load_parts(words: &mut [u64], file: &[u8], parts: u32) -> Loaded
     requires { ⌜ WellFormed (now words) × (formOf (now file) ≡ Parts parts) ⌝ }
     ensures { λ r. ⌜ GivenWords (now (words .entry)) (batch (now (file .entry))) (loadedSays r) (now (words .exit)) ⌝ }
 {
-    match judge(words, file, parts) {
+    let judged = judge(words, file, parts);
+    let loaded = judged.loaded;
+    let answers = judged.answers;
+    match loaded {
         Loaded::Refused(number, pair) => Loaded::Refused(number, pair),
         Loaded::Parts(n) => {
-            settle_parts(words, file, parts);
+            put_parts(words, file, parts, answers);
             Loaded::Parts(n)
         }
     }

@@ -7,12 +7,12 @@ mod calls;
 mod days;
 mod positions;
 mod questions;
+mod settlements;
 
 pub use batches::load;
 pub use begin::fresh;
 pub use calls::admit;
 pub use calls::annual_run;
-pub use calls::settle;
 pub use days::advance;
 pub use positions::lodge;
 pub use positions::release;
@@ -21,6 +21,7 @@ pub use questions::is_admitted;
 pub use questions::role;
 pub use questions::statement;
 pub use questions::today;
+pub use settlements::settle;
 
 // What an advance answers: how many days it opened, or the number of its refusal.
 pub enum Advanced {

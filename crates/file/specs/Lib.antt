@@ -10,6 +10,7 @@ pub mod Admit
 pub mod Lodge
 pub mod Release
 pub mod Settle
+pub mod DueCheck
 pub mod CheckLaws
 pub mod Annual
 pub mod Window

@@ -10,7 +10,7 @@ pub mod cover;
 pub mod holding;
 mod opening;
 pub mod release;
-mod settle;
+pub mod settle;
 
 // A position of a file: nothing, cash with its amount, or a letter with its amount, first and last day, both included.
 pub enum Position {
@@ -92,12 +92,6 @@ pub struct Statement {
     pub shortfall: u64,
     pub charged: u64,
     pub accrued: u64,
-}
-
-// A file beside the answer of a settlement.
-pub struct FileSettled {
-    pub answer: Settled,
-    pub file: File,
 }
 
 // A file beside the answer of an annual run.

@@ -128,3 +128,27 @@ written-within l us vs i j h k same =
         ∙ inside n (n - i) (omega arith) (omega arith))
         (λ u. let d = ltb-false n (i + length us) u in
         written-behind l i (written us j vs) n (omega (arith, size)) ∙ sym (written-behind l (i + j) vs n (omega arith))))
+
+-- Words written over as many others.
+pub written-over : (l : List ℕ) (i : ℕ) (us vs : List ℕ) → length us ≡ length vs → i + length us ≤ length l
+    → written (written l i us) i vs ≡ written l i vs
+written-over l i us vs same room =
+    ext-getD 0 (written (written l i us) i vs) (written l i vs)
+    (length-written (written l i us) i vs ∙ long ∙ sym (length-written l i vs))
+    (λ n b. at n)
+  where
+    long : length (written l i us) ≡ length l
+    long = length-written l i us
+
+    at : (n : ℕ) → getD (written (written l i us) i vs) n 0 ≡ getD (written l i vs) n 0
+    at n =
+        split (ltb n i)
+        (λ t. let c = ltb-true n i t in
+        written-before (written l i us) i vs n c ∙ written-before l i us n c ∙ sym (written-before l i vs n c))
+        (λ t. let c = ltb-false n i t in
+        split (ltb n (i + length vs))
+        (λ u. let d = ltb-true n (i + length vs) u in
+        written-in (written l i us) i vs n (n - i) (omega arith) (omega arith) (omega (arith, long))
+        ∙ sym (written-in l i vs n (n - i) (omega arith) (omega arith) (omega arith)))
+        (λ u. let d = ltb-false n (i + length vs) u in
+        written-behind (written l i us) i vs n d ∙ written-behind l i us n (omega arith) ∙ sym (written-behind l i vs n d)))

@@ -4,7 +4,7 @@ use Prim.Native.Nat.{ℕ, _+_, _≤_, _<_}
 use native.Mathlib.Omega.{arith}
 use native.Mathlib.Nat.{add-zero}
 use mathlib.Core.Path.{_≡_, refl, sym, ap, subst, _∙_}
-use mathlib.Core.Bool.{Bool, true, false, cond}
+use mathlib.Core.Bool.{true, false, cond}
 use mathlib.Core.List.{List, [], _∷_}
 use borrow.Author.Tests.{lt-ltb, le-ltb}
 use lib.Dec.{ltb}
@@ -142,7 +142,3 @@ count-fits b n s h = let few = sound-made b s in omega arith
 
 pub admission-few : (t role : ℕ) (g : File) → t ≤ 29219 → g ≡ admittedFile t role → g .count ≤ 4
 admission-few t role g h e = subst (λ (z : File). z .count ≤ 4) (sym e) (admitted-sound t role h .count)
-
-pub settlement-few : (t : Bool) (n : ℕ) → n ≡ cond t 1 0 → n ≤ 4
-settlement-few true n e = omega arith
-settlement-few false n e = omega arith

@@ -5,36 +5,43 @@ use Prim.Native.Nat.{ℕ, zero, suc, _+_, _-_, _≤_, _<_}
 use native.Mathlib.Omega.{arith}
 use native.Mathlib.Numerals.{add-one}
 use mathlib.Core.Path.{_≡_, refl, sym, ap, subst, _∙_}
-use mathlib.Core.Bool.{Bool, true, false, not, cond}
+use mathlib.Core.Bool.{Bool, true, false, not}
 use mathlib.Core.List.{List, [], _∷_}
-use borrow.Author.Tests.{lt-ltb, le-ltb}
-use lib.Dec.{ltb}
-use lib.ListN.{length, take}
+use borrow.Author.Tests.{lt-ltb, le-ltb, ltb-true, ltb-false, eqb-true, eqb-false}
+use lib.Dec.{ltb, eqb}
+use lib.ListN.{length, getD, set, take}
+use lib.Seq.{getD-set-same, getD-set-other}
 use lib.IntN.{ℤ}
 use types.Run.{OneOf, miss}
 use denote.Enum.Declared.{tagOf}
-use Rattle.laws.specs.Cases.{cond-true, cond-false}
-use Rattle.laws.specs.Least.{least, NoneBelow, least-none, least-found, none-next}
+use Rattle.laws.specs.Cases.{split, clash, cond-true, cond-false}
+use Rattle.laws.specs.Least.{least, NoneBelow, least-none, least-found}
+use Rattle.calendar.specs.Civil.{monthOf}
+use Rattle.manual.specs.declared.Sum.{Sum}
+use Rattle.manual.specs.Figures.{summed}
 use Rattle.batch.specs.declared.Form.{Form}
 use Rattle.batch.specs.declared.Form.the-variants.{Parts, Refused}
 use Rattle.batch.specs.declared.parts.Part.{Part}
-use Rattle.batch.specs.Batch.{monthIn, countIn, participantAt, formOf}
-use Rattle.batch.specs.FormLaws.{isBatch, whole}
+use Rattle.batch.specs.Batch.{monthIn, countIn, participantAt, figuresAt, formOf}
+use Rattle.batch.specs.FormLaws.{isBatch, Whole, whole}
 use Rattle.batch.specs.Parts.{PartIs, FiguresPut, part-figures}
 use Rattle.file.specs.declared.File.{File}
 use Rattle.file.specs.declared.Settled.{Settled}
 use Rattle.file.specs.declared.Settled.the-variants as Settlements
 use Rattle.file.proofs.Settled.{the-type}
 use Rattle.file.specs.Answer.{Answer, refused, refusedPair, batched, accepted, settledSays}
+use Rattle.file.specs.Settle.{outsideMonths, checkDue}
 use Rattle.layout.specs.Book.{Book}
 use Rattle.layout.specs.Words.{bookOfWords, fileInWords, todayIn}
 use Rattle.layout.specs.WellFormed.{WellFormed}
 use Rattle.book.specs.declared.Loaded.{Loaded}
 use Rattle.book.specs.declared.Loaded.the-variants as Loads
-use Rattle.book.specs.Call.{Act, settle, Call, on, batch, partAct, refusalOf, firstRefused, batchSays, loadedSays}
-use Rattle.book.specs.Account.{fileAnswer, answerOn, afterParts, partAnswer, answer, applied, step}
-use Rattle.book.specs.Batches.{judged, madeParts}
+use Rattle.book.specs.declared.batches.PartAnswer.{PartAnswer}
+use Rattle.book.specs.Call.{settle, Call, on, batch, partAct, refusalOf, firstRefused, batchSays, loadedSays}
+use Rattle.book.specs.Account.{fileAt, fileAnswer, answerOn, afterParts, partAnswer, answer, applied, step}
+use Rattle.book.specs.Batches.{judged, madeParts, Judges}
 use Rattle.book.specs.InWords.{GivenWords}
+use Rattle.book.specs.Settlements.{AnswersSettlement, PutsSettlement}
 use Rattle.book.proofs.History.Parts.{partsIn, batch-accepted, batch-agree, part-alone}
 use Rattle.book.proofs.History.Life.{given}
 use Rattle.book.proofs.Functions.OnFile.{above-answer, known-answer}
@@ -43,16 +50,11 @@ use Rattle.book.proofs.Functions.OnWords.{in-words, nothing-written, fi
 -- ---- judging
 
 -- None of the first i settlements is refused.
-abbrev pub NoneRefused : (ℕ → Answer) → ℕ → Type 0
+abbrev NoneRefused : (ℕ → Answer) → ℕ → Type 0
 NoneRefused x i = NoneBelow (λ k. not (accepted (x k))) i
 
-pub one-more : (x : ℕ → Answer) (i : ℕ) (y : Answer) (ok : Bool) → NoneRefused x i → y ≡ x i → ok ≡ accepted y → ok ≡ true
-    → NoneRefused x (i + 1)
-one-more x i y ok none e a t =
-    none-next (λ k. not (accepted (x k))) i none (ap (λ (z : Answer). not (accepted z)) (sym e) ∙ ap not (sym a ∙ t))
-
 -- The first refusal is answered with its pair's index ..
-pub says-refused : (n i : ℕ) (x : ℕ → Answer) (y : Answer) (ok : Bool) (number : ℕ) → i < n → NoneRefused x i → y ≡ x i → ok ≡ accepted y
+says-refused : (n i : ℕ) (x : ℕ → Answer) (y : Answer) (ok : Bool) (number : ℕ) → i < n → NoneRefused x i → y ≡ x i → ok ≡ accepted y
     → ok ≡ false → number ≡ refusalOf y → refusedPair number i ≡ batchSays (Parts n) x
 unfolding batchSays firstRefused
 says-refused n i x y ok number h none e a f r =
@@ -65,7 +67,7 @@ says-refused n i x y ok number h none e a f r =
     (ap (λ (k : ℕ). ltb k n) is ∙ lt-ltb i n h))
 
 -- .. and a batch with none answers how many parts it has.
-pub says-all : (n : ℕ) (x : ℕ → Answer) → NoneRefused x n → batched n ≡ batchSays (Parts n) x
+says-all : (n : ℕ) (x : ℕ → Answer) → NoneRefused x n → batched n ≡ batchSays (Parts n) x
 unfolding batchSays firstRefused
 says-all n x none =
     let first = least (λ k. not (accepted (x k))) n in
@@ -73,8 +75,55 @@ says-all n x none =
     sym (cond-false (ltb first n) (refusedPair (refusalOf (x first)) first) (batched n)
     (ap (λ (k : ℕ). ltb k n) is ∙ le-ltb n n (omega arith)))
 
-pub says-all-of : (n i : ℕ) (x : ℕ → Answer) → i ≤ n → n ≤ i → NoneRefused x i → batched n ≡ batchSays (Parts n) x
-says-all-of n i x low high none = let e : i ≡ n = omega arith in says-all n x (subst (NoneRefused x) e none)
+-- The answers that are kept of the parts.
+abbrev noAnswer : PartAnswer
+noAnswer = record { answer = Settlements.Refused 0 }
+
+module _ (b : Book) (file : List ℕ) where
+  pub judges-first : (answers : List PartAnswer) → Judges b file 0 answers
+  judges-first answers = record { same = λ j h. absurd (omega arith); settled = λ j h. absurd (omega arith) }
+
+  -- one more, which is no refusal
+  pub judges-next : (i : ℕ) (answers : List PartAnswer) (r : Settled) (ok : Bool) → Judges b file i answers → i < length answers
+      → settledSays r ≡ judged b file i → ok ≡ accepted (settledSays r) → ok ≡ true → Judges b file (i + 1) (set answers i (record { answer = r }))
+  judges-next i answers r ok js room e a t =
+      record {
+        same = λ j h.
+            split (eqb j i)
+            (λ q. let is : j ≡ i = eqb-true j i q in
+            ap (λ (k : ℕ). settledSays (getD (set answers i (record { answer = r })) k noAnswer .answer)) is
+            ∙ ap (λ (x : PartAnswer). settledSays (x .answer)) (getD-set-same answers i (record { answer = r }) noAnswer room)
+            ∙ e
+            ∙ ap (judged b file) (sym is))
+            (λ q. let other : j ≡ i → ⊥ = eqb-false j i q in
+            ap (λ (x : PartAnswer). settledSays (x .answer)) (getD-set-other answers i j (record { answer = r }) noAnswer other)
+            ∙ js .same j (earlier j i h other));
+        settled = λ j h.
+            split (eqb j i)
+            (λ q. ap (λ (k : ℕ). accepted (judged b file k)) (eqb-true j i q) ∙ ap accepted (sym e) ∙ sym a ∙ t)
+            (λ q. js .settled j (earlier j i h (eqb-false j i q)));
+      }
+    where
+      earlier : (j i : ℕ) → j < i + 1 → (j ≡ i → ⊥) → j < i
+      earlier j i h ne = split (ltb j i) (ltb-true j i) (λ f. absurd (ne (let not = ltb-false j i f in omega arith)))
+
+  pub judges-all : (i n : ℕ) (answers : List PartAnswer) → i ≤ n → n ≤ i → Judges b file i answers → Judges b file n answers
+  judges-all i n answers low high js = let e : i ≡ n = omega arith in subst (λ (k : ℕ). Judges b file k answers) e js
+
+  none-refused : (i : ℕ) (answers : List PartAnswer) → Judges b file i answers → NoneRefused (judged b file) i
+  none-refused i answers js k h = ap not (js .settled k h)
+
+  -- so what is found is what the batch says
+  pub judge-refused : (n i : ℕ) (answers : List PartAnswer) (r : Settled) (ok : Bool) (number : ℕ) → Judges b file i answers → i < n
+      → settledSays r ≡ judged b file i → ok ≡ accepted (settledSays r) → ok ≡ false → number ≡ refusalOf (settledSays r)
+      → refusedPair number i ≡ batchSays (Parts n) (judged b file)
+  judge-refused n i answers r ok number js h e a f q =
+      says-refused n i (judged b file) (settledSays r) ok number h (none-refused i answers js) e a f q
+
+  pub judge-all : (n i : ℕ) (answers : List PartAnswer) → i ≤ n → n ≤ i → Judges b file i answers
+      → batched n ≡ batchSays (Parts n) (judged b file)
+  judge-all n i answers low high js =
+      says-all n (judged b file) (none-refused n answers (judges-all i n answers low high js))
 
 -- To judge the parts on the book before the batch is to judge each behind those before it.
 pub judged-is : (b : Book) (file : List ℕ) (n : ℕ) → formOf file ≡ Parts n → batchSays (Parts n) (judged b file) ≡ answer b (batch file)
@@ -117,35 +166,22 @@ unfolding answer
 part-above b file k part is h =
     above-answer b (participantAt file k) (partAct file k) (lt-ltb 63 (participantAt file k) (omega (arith, is .participant)))
 
-module _ (file : List ℕ) (k : ℕ) (part : Part) (mo : ℕ) (before after : List ℤ) (is : PartIs file k part) (put : FiguresPut file k before after)
-    (month : mo ≡ monthIn file) where
-  -- What a part asks, by the figures that were read from it.
-  abbrev act : Act
-  act = settle mo (take (part .rows - 0) after)
-
-  act-is : act ≡ partAct file k
-  act-is = λ i. settle (month i) (part-figures file k part before after is put i)
-
-  -- What its settlement answers on the file taken out of the words is what it answers on the book.
-  pub part-judged : (l : List ℕ) (x : Answer) → part .participant ≤ 63 → x ≡ fileAnswer (fileInWords l (part .participant)) (todayIn l) act
-      → x ≡ judged (bookOfWords l) file k
-  unfolding answer bookOfWords
-  part-judged l x low e =
-      let p = participantAt file k in
-      let h : p ≤ 63 = omega (arith, is .participant) in
-      known-answer (bookOfWords l) p (partAct file k) x (le-ltb 63 p h)
-      (e
-      ∙ (λ i. fileAnswer (fileInWords l (is .participant i)) (todayIn l) (act-is i))
-      ∙ ap (λ (f : File). fileAnswer f (todayIn l) (partAct file k)) (sym (file-there l p h)))
-
-  -- What its settlement gives is what the part's does.
-  pub part-given : (l m : List ℕ) (x : Answer) → GivenWords l (on (part .participant) act) x m
-      → GivenWords l (on (participantAt file k) (partAct file k)) x m
-  part-given l m x g = subst (λ (c : Call). GivenWords l c x m) (λ i. on (is .participant i) (act-is i)) g
+-- What its settlement answers, by the figures that were read from it.
+pub part-judged : (file : List ℕ) (k : ℕ) (part : Part) (before after : List ℤ) (l : List ℕ) (outside due : Bool) (sum : Sum) (x : Answer)
+    → PartIs file k part → FiguresPut file k before after → part .participant ≤ 63 → outside ≡ outsideMonths (monthOf (todayIn l)) (monthIn file)
+    → due ≡ checkDue (monthOf (todayIn l)) (monthIn file) → sum ≡ summed (take (part .rows - 0) after)
+    → AnswersSettlement l (part .participant) outside due sum x → x ≡ judged (bookOfWords l) file k
+unfolding answer bookOfWords
+part-judged file k part before after l outside due sum x is put low o d s answers =
+    let p = participantAt file k in
+    let h : p ≤ 63 = omega (arith, is .participant) in
+    known-answer (bookOfWords l) p (partAct file k) x (le-ltb 63 p h)
+    (answers (monthIn file) (figuresAt file k) o d (s ∙ ap summed (part-figures file k part before after is put))
+    ∙ ap (λ (q : ℕ). fileAnswer (fileInWords l q) (todayIn l) (partAct file k)) (is .participant)
+    ∙ ap (λ (f : File). fileAnswer f (todayIn l) (partAct file k)) (sym (file-there l p h)))
 
 -- ---- all parts
 
--- One more part is settled.
 pub made-first : (b : Book) (file : List ℕ) → b ≡ madeParts b file 0
 unfolding madeParts
 made-first b file = refl
@@ -158,6 +194,7 @@ made-all b file k n l low high e = let same : k ≡ n = omega arith in e ∙ ap 
 pub same-words : (l m : List ℕ) → WellFormed l → WellFormed m → length m ≡ length l
 same-words l m w v = v .long ∙ sym (w .long)
 
+-- One more part is settled.
 pub made-next : (b : Book) (file : List ℕ) (k : ℕ) (l m : List ℕ) (x : Answer) → bookOfWords l ≡ madeParts b file k
     → GivenWords l (on (participantAt file k) (partAct file k)) x m → bookOfWords m ≡ madeParts b file (k + 1)
 unfolding madeParts
@@ -166,9 +203,77 @@ made-next b file k l m x e g =
     ∙ ap (λ (z : Book). step z (on (participantAt file k) (partAct file k))) e
     ∙ ap (madeParts b file) (sym (add-one k))
 
+-- A part that is no refusal is of a participant up to 63.
+low-participant : (b : Book) (file : List ℕ) (k : ℕ) → accepted (judged b file k) ≡ true → participantAt file k ≤ 63
+unfolding answer
+low-participant b file k e =
+    split (ltb 63 (participantAt file k))
+    (λ h. clash {t = false} (ap accepted (above-answer b (participantAt file k) (partAct file k) h) ∙ e) refl)
+    (λ h. ltb-false 63 (participantAt file k) h)
+
+module _ (b : Book) (file : List ℕ) (n i : ℕ) (answers : List PartAnswer) (js : Judges b file n answers) (h : i < n) (part : Part)
+    (is : PartIs file i part) where
+  pub part-low : part .participant ≤ 63
+  part-low = omega (arith, is .participant, low-participant b file i (js .settled i h))
+
+  -- What is kept of part i is what it answers behind the parts before it.
+  module _ (form : formOf file ≡ Parts n) (l : List ℕ) (so-far : bookOfWords l ≡ madeParts b file i) where
+    batch-whole : Whole file
+    batch-whole = whole file (ap isBatch form)
+
+    count : n ≡ countIn file
+    count = ap partsIn (sym form ∙ batch-whole .form)
+
+    behind : (k : ℕ) → k < n → judged b file k ≡ partAnswer b file k
+    behind k g = sym (part-alone b file batch-whole k (omega (arith, count)))
+
+    kept-answer : settledSays (getD answers i noAnswer .answer) ≡ fileAnswer (fileInWords l (participantAt file i)) (todayIn l) (partAct file i)
+    unfolding partAnswer answer bookOfWords
+    kept-answer =
+        let p = participantAt file i in
+        let low : p ≤ 63 = low-participant b file i (js .settled i h) in
+        let made : madeParts b file i ≡ afterParts b file i =
+        made-is b file i (λ k g. ap accepted (sym (behind k (omega arith))) ∙ js .settled k (omega arith)) in
+        js .same i h
+        ∙ behind i h
+        ∙ ap (λ (z : Book). answerOn z p (partAct file i)) (sym (so-far ∙ made))
+        ∙ sym (known-answer (bookOfWords l) p (partAct file i)
+        (fileAnswer (fileAt (bookOfWords l) p) (todayIn l) (partAct file i)) (le-ltb 63 p low) refl)
+        ∙ ap (λ (f : File). fileAnswer f (todayIn l) (partAct file i)) (file-there l p low)
+
+    -- .. so what is written is what its settlement leaves.
+    pub part-given : (mo : ℕ) (r : Settled) (m : List ℕ) → mo ≡ monthIn file → r ≡ getD answers i noAnswer .answer
+        → PutsSettlement l (part .participant) mo (settledSays r) m
+        → GivenWords l (on (participantAt file i) (partAct file i)) (settledSays r) m
+    part-given mo r m month e puts =
+        subst (λ (c : Call). GivenWords l c (settledSays r) m) (λ j. on (is .participant j) (settle (month j) (figuresAt file i)))
+        (puts (figuresAt file i)
+        (ap settledSays e ∙ kept-answer
+        ∙ sym (λ j. fileAnswer (fileInWords l (is .participant j)) (todayIn l) (settle (month j) (figuresAt file i)))))
+
+-- What is kept of a part, whatever stands behind the last.
+pub kept-there : (answers : List PartAnswer) (i n : ℕ) (x : PartAnswer) → length answers ≡ 64 → n ≤ 64 → i < n
+    → getD answers i x .answer ≡ getD answers i noAnswer .answer
+kept-there answers i n x long few h = there answers i (omega arith)
+  where
+    there : (l : List PartAnswer) (k : ℕ) → k < length l → getD l k x .answer ≡ getD l k noAnswer .answer
+    there [] k h = absurd (omega arith)
+    there (a ∷ l) zero h = refl
+    there (a ∷ l) (suc k) h = there l k (omega arith)
+
 -- The form of a file, as it was found.
 pub form-parts : (file : List ℕ) (form : Form) (n : ℕ) → form ≡ formOf file → form ≡ Parts n → formOf file ≡ Parts n
 form-parts file form n e r = sym e ∙ r
+
+pub few-parts : (file : List ℕ) (n : ℕ) → formOf file ≡ Parts n → n ≤ 64
+few-parts file n form =
+    let w = whole file (ap isBatch form) in
+    omega (arith, w .most, ap partsIn (sym form ∙ w .form))
+
+-- The answers, where the batch is accepted.
+pub judged-parts : (b : Book) (file : List ℕ) (n k : ℕ) (answers : List PartAnswer) (r : Loaded)
+    → (accepted (loadedSays r) ≡ true → Judges b file n answers) → r ≡ Loads.Parts k → Judges b file n answers
+judged-parts b file n k answers r js e = js (ap (λ (x : Loaded). accepted (loadedSays x)) e)
 
 module _ (l : List ℕ) (w : WellFormed l) (file : List ℕ) where
   -- A refused batch leaves every word.

@@ -16,7 +16,7 @@ use Rattle.file.specs.Answer.{Answer, refused, done, called, covered, recorded,
 use Rattle.file.specs.Answer.{decide, accepted}
 use Rattle.file.specs.Admit.{noFile, admittedFile, callsOfAdmission}
 use Rattle.file.specs.CheckLaws.{settled-answer}
-use Rattle.file.specs.Settle.{settleAnswer, settledFile, settledAnswer, settlementCalls, checkDue}
+use Rattle.file.specs.Settle.{settleAnswer, settledAnswer, settlementCalls, checkDue}
 use Rattle.calendar.specs.Civil.{monthOf}
 use Rattle.manual.specs.Figures.{sumOf}
 use Rattle.file.specs.Annual.{annualAnswer, annualFile}
@@ -105,10 +105,6 @@ settled-called f t m figures =
     either false z = refl
 
 -- A refused call leaves the file as it was.
-settled-refused : (f : File) (t m : ℕ) (figures : List ℤ) → accepted (settleAnswer f t m figures) ≡ false → settledFile f t m figures ≡ f
-unfolding settledFile
-settled-refused f t m figures e = rw e
-
 annual-refused : (f : File) (t : ℕ) → accepted (annualAnswer f t) ≡ false → annualFile f t ≡ f
 unfolding annualFile
 annual-refused f t e = rw e
@@ -136,20 +132,9 @@ module _ (f : File) (t : ℕ) (a : Act) (x : Answer) (judged : fileAnswer f t a 
       )
 
 module _ (f : File) (t : ℕ) where
-  pub unknown-settle : (m : ℕ) (figures : List ℤ) → f .admitted ≡ false
-      → (refused 2 ≡ fileAnswer f t (settle m figures)) × (f ≡ fileLeft f t (settle m figures))
-  unfolding fileAnswer
-  unknown-settle m figures = unknown f t (settle m figures) (settleAnswer f t m figures) refl
-
   pub unknown-annual : f .admitted ≡ false → (refused 2 ≡ fileAnswer f t annualRun) × (f ≡ fileLeft f t annualRun)
   unfolding fileAnswer
   unknown-annual = unknown f t annualRun (annualAnswer f t) refl
-
-  pub known-settle : (m : ℕ) (figures : List ℤ) (x : Answer) (g : File) → f .admitted ≡ true
-      → (x ≡ settleAnswer f t m figures) × (g ≡ settledFile f t m figures)
-      → (x ≡ fileAnswer f t (settle m figures)) × (g ≡ fileLeft f t (settle m figures))
-  unfolding fileAnswer fileAfter
-  known-settle m figures x g e = known f t (settle m figures) (settleAnswer f t m figures) refl e (settled-refused f t m figures) x g
 
   pub known-annual : (x : Answer) (g : File) → f .admitted ≡ true → (x ≡ annualAnswer f t) × (g ≡ annualFile f t)
       → (x ≡ fileAnswer f t annualRun) × (g ≡ fileLeft f t annualRun)

@@ -1,6 +1,6 @@
 -- What each public call gives on words, from what it did: the participant's file taken out, its method's answer, and the file put back.
 -- Assumes nothing.
-use Prim.Native.Nat.{ℕ, zero, suc, _+_, _-_, _*_, _%_, _≤_, _<_}
+use Prim.Native.Nat.{ℕ, zero, suc, _+_, _-_, _≤_, _<_}
 use native.Mathlib.Nat.{add-zero}
 use native.Mathlib.Omega.{arith}
 use native.Mathlib.Numerals.{add-one}
@@ -8,14 +8,11 @@ use mathlib.Core.Path.{_≡_, refl, sym, ap, subst, _∙_}
 use mathlib.Core.Bool.{Bool, true, false, cond, not}
 use mathlib.Core.List.{List, [], _∷_, _++_, append-nil}
 use borrow.Author.Tests.{le-ltb}
-use lib.IntN.{ℤ, natAbs}
-use lib.Seq.{getD-set-same}
+use lib.IntN.{ℤ}
 use lib.ListN.{length, getD, set, drop, replicate, length-set, length-replicate, drop-of-length-le, List·getD-eq-default}
 use Rattle.laws.specs.Cases.{cond-true, cond-false}
 use Rattle.laws.specs.Lists.{All}
-use Rattle.manual.specs.Figures.{sumOf}
 use Rattle.file.specs.declared.File.{File}
-use Rattle.file.specs.declared.MonthTotal.{MonthTotal}
 use Rattle.file.specs.declared.AnnualRun.{AnnualRun}
 use Rattle.file.specs.declared.Slot.{Slot}
 use Rattle.file.specs.declared.Statement.{Statement}
@@ -23,21 +20,17 @@ use Rattle.file.specs.Answer.{Answer, refused, done, called, covered, recorded,
 use Rattle.file.specs.Answer.{accepted, annualSays, statementSays}
 use Rattle.file.specs.Admit.{noFile, admittedFile}
 use Rattle.file.specs.Annual.{annualAmountOf, annualAnswer, annualFile}
-use Rattle.file.specs.Calls.{callOf}
-use Rattle.file.specs.Fields.{openCalls, coverOf, shortfallOf, withTotals, withNext, setTo}
-use Rattle.file.specs.KeepsCalls.{open-count}
+use Rattle.file.specs.Fields.{coverOf, shortfallOf, withNext, setTo}
 use Rattle.file.specs.Position.{coverOn}
-use Rattle.file.specs.Settle.{settleAnswer, settledFile, settlementCalls, callsSettled}
-use Rattle.file.specs.Totals.{noTotal, totalOf, withTotal}
 use Rattle.file.specs.Sound.{Sound, SoundPosition}
 use Rattle.file.specs.Statement.{fileStatement}
-use Rattle.layout.specs.Parts.{flagOf, totalWords, TotalBack, written}
-use Rattle.layout.specs.Files.{fileOfWords, slotsOfWords, totalsOfWords, wordsAt, Put}
+use Rattle.layout.specs.Parts.{flagOf, written}
+use Rattle.layout.specs.Files.{fileOfWords, slotsOfWords, wordsAt, Put}
 use Rattle.layout.specs.Words.{bookLength, place, fileInWords, todayIn, bookOfWords, bookWords}
 use Rattle.layout.specs.WellFormed.{SoundBook, WellFormed}
 use Rattle.layout.proofs.BookLaws.{book-long, book-file, put-book, put-length, made-book, canonical-put, canonical-made, freshWords, fresh-words}
 use Rattle.layout.proofs.BookLaws.{canonical-fresh}
-use Rattle.layout.proofs.PartLaws.{withMonths, total-put, next-put}
+use Rattle.layout.proofs.PartLaws.{next-put}
 use Rattle.book.specs.Call.{Act, admit, settle, annualRun, Call, on, statement, callsMade, isCalled}
 use Rattle.book.specs.Account.{fileAt, freshBook, ifAdmitted, fileAnswer, fileAfter, callsAdded, answer, step, applied}
 use Rattle.book.specs.Reading.Decisions.{cause}
@@ -45,10 +38,10 @@ use Rattle.book.specs.Left.{fileLeft}
 use Rattle.book.specs.Reached.{Given, Begun}
 use Rattle.book.specs.InWords.{GivenWords, BegunWords}
 use Rattle.book.proofs.Functions.Answers.{storedIn, above, left-none, left-settle, left-admit}
-use Rattle.book.proofs.Functions.Answers.{gave-admitted-already, gave-no-role, admission-few, settlement-few, count-fits}
+use Rattle.book.proofs.Functions.Answers.{gave-admitted-already, gave-no-role, admission-few, count-fits}
 use Rattle.book.proofs.Functions.Answers.{above-statement, unknown-statement, gave-statement, gave-count}
 use Rattle.book.proofs.Functions.Begins.{begun-refused, begun-done}
-use Rattle.book.proofs.Functions.OnFile.{known-answer, called-is}
+use Rattle.book.proofs.Functions.OnFile.{known-answer}
 use Rattle.book.proofs.Functions.SoundBook.{sound-file, step-sound, fresh-sound, behind-admitted}
 use Rattle.book.proofs.Participant.Decide.{decide-accepted}
 use Rattle.book.proofs.History.Life.{given}
@@ -92,8 +85,8 @@ pub admit-room : (l : List ℕ) (t role : ℕ) (g : File) → WellFormed l → t
     → getD l 2 0 + g .count < 18446744073709551616
 admit-room l t role g w e h = room l (g .count) w (admission-few t role g (day-within l t w e) h)
 
-pub settle-room : (l : List ℕ) (t : Bool) (n : ℕ) → WellFormed l → n ≡ cond t 1 0 → getD l 2 0 + n < 18446744073709551616
-settle-room l t n w e = room l n w (settlement-few t n e)
+pub call-room : (l : List ℕ) → WellFormed l → getD l 2 0 + 1 < 18446744073709551616
+call-room l w = room l 1 w (omega arith)
 
 -- A participant above 63 has none.
 pub none-there : (l : List ℕ) (p : ℕ) → 63 < p → fileAt (bookOfWords l) p ≡ noFile
@@ -119,27 +112,12 @@ pub there-role : (l : List ℕ) (p : ℕ) → p ≤ 63 → getD l (place p + 2) 
 unfolding fileOfWords
 there-role l p h = sym (ap (λ (z : File). z .role) (file-there l p h))
 
--- A file that is read has sixteen month totals.
-file-totals : (l : List ℕ) (p : ℕ) → length (fileInWords l p .totals) ≡ 16
-unfolding fileOfWords totalsOfWords
-file-totals l p = refl
-
 -- ---- the calls on a participant's file
 
--- A settlement's answer behind cause 2.
-admitted-answer : (f : File) (t m : ℕ) (figures : List ℤ) → accepted (fileAnswer f t (settle m figures)) ≡ true
-    → accepted (ifAdmitted f (settleAnswer f t m figures)) ≡ true
-unfolding fileAnswer
-admitted-answer f t m figures e = e
-
 -- What stands behind cause 2 is the answer.
-is-behind : (f : File) (x : Answer) → accepted (ifAdmitted f x) ≡ true → ifAdmitted f x ≡ x
+pub is-behind : (f : File) (x : Answer) → accepted (ifAdmitted f x) ≡ true → ifAdmitted f x ≡ x
 unfolding ifAdmitted
 is-behind f x e = decide-accepted (cause 2 (not (f .admitted)) ∷ []) x e
-
-no-call : (called : Bool) → _≡_ {A = ℕ} (cond called 1 0) 0 → called ≡ false
-no-call true e = absurd (omega (arith, e))
-no-call false e = refl
 
 -- The amount that an annual run answers.
 abbrev amountIn : Answer → ℕ
@@ -207,7 +185,7 @@ module _ (l : List ℕ) (p : ℕ) (w : WellFormed l) (low : p ≤ 63) where
         left-settle (bookOfWords l) p low mo figures x k g
         (said (λ z. fileAnswer z (todayIn l) (settle mo figures)) x a) (said (λ z. fileLeft z (todayIn l) (settle mo figures)) g b) c
 
-    given-settled : (mo : ℕ) (figures : List ℤ) (x : Answer) → x ≡ fileAnswer (fileInWords l p) (todayIn l) (settle mo figures)
+    pub given-settled : (mo : ℕ) (figures : List ℤ) (x : Answer) → x ≡ fileAnswer (fileInWords l p) (todayIn l) (settle mo figures)
         → g ≡ fileLeft (fileInWords l p) (todayIn l) (settle mo figures) → _≡_ {A = ℕ} (cond (isCalled x) 1 0) 0
         → GivenWords l (on p (settle mo figures)) x m
     unfolding bookOfWords
@@ -242,59 +220,7 @@ module _ (l : List ℕ) (p : ℕ) (w : WellFormed l) (low : p ≤ 63) where
         let go : accepted (fileAnswer f t a) ≡ true = ap accepted (sym b) ∙ sym r ∙ good in
         (go, cond-true (accepted (fileAnswer f t a)) (fileAfter f t a) f go)
 
-    -- a settlement that called nothing changes a month's total and no more
-    month-left : (mo : ℕ) (figures : List ℤ) (x : Answer) (ok : Bool) (n : ℕ) (g : File) → x ≡ fileAnswer f t (settle mo figures)
-        → g ≡ fileLeft f t (settle mo figures) → ok ≡ accepted x → ok ≡ true → n ≡ cond (isCalled x) 1 0 → n ≡ 0
-        → withMonths f (set (f .totals) (mo % 16) (getD (g .totals) (mo % 16) noTotal)) ≡ g
-    unfolding fileAfter settledFile callsSettled withTotal
-    month-left mo figures x ok n g b c r good number none =
-        let s = file-sound f t refl refl in
-        let go = after (settle mo figures) x ok b r good in
-        let own = behind-admitted f (settleAnswer f t mo figures) (admitted-answer f t mo figures (go .0)) in
-        let not : settlementCalls f t mo figures ≡ false =
-        sym (called-is f t mo figures (go .0)) ∙ ap isCalled (sym b) ∙ no-call (isCalled x) (sym number ∙ none) in
-        let T = totalOf mo (sumOf figures) in
-        let same : callsSettled f t mo figures ≡ openCalls f =
-        cond-false (settlementCalls f t mo figures) (openCalls f ++ (callOf (natAbs (sumOf figures)) (t + 10) ∷ [])) (openCalls f) not in
-        let is : g ≡ withMonths f (set (f .totals) (mo % 16) T) =
-        c
-        ∙ go .1
-        ∙ cond-true (accepted (settleAnswer f t mo figures))
-        (withTotals f (withTotal (f .totals) mo (sumOf figures)) (callsSettled f t mo figures)) f own
-        ∙ ap (withTotals f (set (f .totals) (mo % 16) T)) same
-        ∙ (λ i. record {
-          admitted = f .admitted;
-          role = f .role;
-          firm = f .firm;
-          slots = f .slots;
-          calls = sym (s .places) i;
-          count = open-count f t s i;
-          next = f .next;
-          totals = set (f .totals) (mo % 16) T;
-          charged = f .charged;
-          accrued = f .accrued;
-        }) in
-        ap (λ (z : MonthTotal). withMonths f (set (f .totals) (mo % 16) z))
-        (ap (λ (z : File). getD (z .totals) (mo % 16) noTotal) is
-        ∙ getD-set-same (f .totals) (mo % 16) T noTotal (omega (arith, sixteen)))
-        ∙ sym is
-      where
-        sixteen : length (f .totals) ≡ 16
-        sixteen = file-totals l p
-
-    -- .. and leaves that total
-    pub given-recorded : (m : List ℕ) (mo : ℕ) (figures : List ℤ) (x : Answer) (ok : Bool) (n : ℕ) (g : File)
-        → x ≡ fileAnswer f t (settle mo figures) → g ≡ fileLeft f t (settle mo figures) → ok ≡ accepted x → ok ≡ true
-        → n ≡ cond (isCalled x) 1 0 → n ≡ 0
-        → m ≡ written l (place p + (49 + 3 * (mo % 16))) (totalWords (getD (g .totals) (mo % 16) noTotal))
-        → TotalBack (getD (g .totals) (mo % 16) noTotal) → GivenWords l (on p (settle mo figures)) x m
-    given-recorded m mo figures x ok n g b c r good number none stored back =
-        let z = getD (g .totals) (mo % 16) noTotal in
-        let put = total-put l m p (w .canonical) (w .long) low (mo % 16) z (omega arith) back stored in
-        given-settled m (withMonths f (set (f .totals) (mo % 16) z)) put mo figures x b
-        (month-left mo figures x ok n g b c r good number none ∙ c) (sym number ∙ none)
-
-    -- one that called leaves its file, and the count
+    -- a settlement that called leaves its file, and the count
     pub given-called : (m : List ℕ) (mo : ℕ) (figures : List ℤ) (x : Answer) (g : File) (k : ℕ)
         → x ≡ fileAnswer f t (settle mo figures) → g ≡ fileLeft f t (settle mo figures) → k ≡ cond (isCalled x) 1 0 → Put l (place p) g m
         → GivenWords l (on p (settle mo figures)) x (set m 2 (getD l 2 0 + k))
@@ -399,10 +325,6 @@ today-there l t e = λ i. record { 0 = e i }
 pub answer-read : (l : List ℕ) (p : ℕ) (a : Act) (f : File) (t : ℕ) (x : Answer) → f ≡ fileInWords l p → t ≡ todayIn l → x ≡ fileAnswer f t a
     → x ≡ fileAnswer (fileInWords l p) (todayIn l) a
 answer-read l p a f t x e q h = h ∙ (λ i. fileAnswer (e i) (q i) a)
-
-pub left-read : (l : List ℕ) (p : ℕ) (a : Act) (f g : File) (t : ℕ) → f ≡ fileInWords l p → t ≡ todayIn l → g ≡ fileLeft f t a
-    → g ≡ fileLeft (fileInWords l p) (todayIn l) a
-left-read l p a f g t e q h = h ∙ (λ i. fileLeft (e i) (q i) a)
 
 -- ---- a fresh book
 

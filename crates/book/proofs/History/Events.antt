@@ -9,10 +9,10 @@ use borrow.Author.Tests.{eqb-true, eqb-false}
 use lib.Dec.{eqb, ltb}
 use Rattle.laws.specs.Cases.{by-test}
 use Rattle.file.specs.Answer.{daysOpened, accepted}
-use Rattle.book.specs.Call.{Act, Call, on, advance, statement, callsMade}
+use Rattle.book.specs.Call.{Act, advance}
 use Rattle.book.specs.Reading.Events as E
 use Rattle.book.specs.Reading.Events.{Event, did, Own, act, mine, todayOf, withDays}
-use Rattle.book.specs.Reading.Decisions.{cause, ownCauses, ownAnswer, decision, withCall, eventsOf}
+use Rattle.book.specs.Reading.Decisions.{cause, ownCauses, decision}
 use Rattle.book.proofs.Participant.Lawful.{todayIn, NoneHolds, Lawful}
 use Rattle.file.specs.DecideLaws.{none-holds}
 use Rattle.book.proofs.History.Advances.{days-fit}

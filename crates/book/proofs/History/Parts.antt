@@ -1,9 +1,9 @@
 -- The parts of a batch, each of another participant: by the account and by the reading each is answered as if it stood alone.
 -- Assumes nothing.
-use Prim.Native.Nat.{ℕ, zero, suc, _<_, _≤_}
+use Prim.Native.Nat.{ℕ, zero, suc, _<_}
 use native.Mathlib.Omega.{arith}
-use mathlib.Core.Path.{_≡_, refl, sym, ap, ap₂, subst, _∙_}
-use mathlib.Core.Bool.{Bool, true, false, not, cond}
+use mathlib.Core.Path.{_≡_, refl, sym, ap, _∙_}
+use mathlib.Core.Bool.{Bool, true, false, not}
 use mathlib.Core.List.{List}
 use borrow.Author.Tests.{ltb-true, ltb-false}
 use lib.Dec.{ltb}
@@ -14,12 +14,11 @@ use Rattle.batch.specs.declared.Form.{Form}
 use Rattle.batch.specs.declared.Form.the-variants.{Parts, Refused}
 use Rattle.batch.specs.Batch.{countIn, participantAt, formOf}
 use Rattle.batch.specs.FormLaws.{isBatch, Whole, whole, participants-differ}
-use Rattle.file.specs.declared.File.{File}
 use Rattle.file.specs.Admit.{noFile}
 use Rattle.file.specs.Answer.{Answer, refusedPair, batched, accepted}
 use Rattle.layout.specs.Book.{Book}
 use Rattle.book.specs.Call.{Act, partAct, refusalOf, firstRefused, batchSays}
-use Rattle.book.specs.Account.{fileAt, withFile, fileAfter, callsAdded, ifNumbered, fileAnswer, answerOn, appliedOn, afterParts, partAnswer}
+use Rattle.book.specs.Account.{fileAt, withFile, ifNumbered, fileAnswer, answerOn, afterParts, partAnswer}
 
 -- ---- what a batch answers
 

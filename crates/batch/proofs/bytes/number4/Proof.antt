@@ -1,9 +1,18 @@
--- `batch::bytes::number4` meets its contract: the first two bytes, and 65,536 times the others.
+-- `batch::bytes::number4` meets its contract: the first two bytes, and 65,536 times the others, there or not.
 -- Assumes nothing.
 use borrow.Author.Needs.{needs}
 use Rattle.batch.proofs.ByteLaws.{four-bytes}
 use Rattle.batch.proofs.bytes.number4.Statement.{statement}
 use Rattle.batch.proofs.bytes.number4.Tie as tie
+
+add-if1 : tie.Need-add-if1
+add-if1 c = search needs
+
+four-at-requires : tie.Need-four-at-requires
+four-at-requires c κs = search needs
+
+returns : tie.Need-returns
+returns c = search needs
 
 number2-requires : tie.Need-number2-requires
 number2-requires c κs = search needs
@@ -26,13 +35,16 @@ mul-result c = search needs
 add-result : tie.Need-add-result
 add-result c = search needs
 
-returns : tie.Need-returns
-returns c = search (four-bytes, needs)
+returns-2 : tie.Need-returns-2
+returns-2 c = search (four-bytes, needs)
 
 pub number4-spec : {M : Type 1} → statement M
 number4-spec =
     tie.close
     (tie.spec
+    add-if1
+    four-at-requires
+    returns
     number2-requires
     cast-result
     add-number2
@@ -40,4 +52,4 @@ number4-spec =
     cast-result-2
     mul-result
     add-result
-    returns)
+    returns-2)

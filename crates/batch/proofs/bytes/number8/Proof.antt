@@ -1,9 +1,18 @@
--- `batch::bytes::number8` meets its contract: the first four bytes, and 2^32 times the others.
+-- `batch::bytes::number8` meets its contract: the first four bytes, and 2^32 times the others, there or not.
 -- Assumes nothing.
 use borrow.Author.Needs.{needs}
 use Rattle.batch.proofs.ByteLaws.{eight-bytes}
 use Rattle.batch.proofs.bytes.number8.Statement.{statement}
 use Rattle.batch.proofs.bytes.number8.Tie as tie
+
+add-if1 : tie.Need-add-if1
+add-if1 c = search needs
+
+eight-at-requires : tie.Need-eight-at-requires
+eight-at-requires c κs = search needs
+
+returns : tie.Need-returns
+returns c = search needs
 
 number4-requires : tie.Need-number4-requires
 number4-requires c κs = search needs
@@ -26,13 +35,16 @@ mul-result c = search needs
 add-result : tie.Need-add-result
 add-result c = search needs
 
-returns : tie.Need-returns
-returns c = search (eight-bytes, needs)
+returns-2 : tie.Need-returns-2
+returns-2 c = search (eight-bytes, needs)
 
 pub number8-spec : {M : Type 1} → statement M
 number8-spec =
     tie.close
     (tie.spec
+    add-if1
+    eight-at-requires
+    returns
     number4-requires
     cast-result
     add-number4
@@ -40,4 +52,4 @@ number8-spec =
     cast-result-2
     mul-result
     add-result
-    returns)
+    returns-2)

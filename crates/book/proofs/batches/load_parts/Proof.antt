@@ -1,21 +1,21 @@
 -- `book::batches::load_parts` meets its contract: a refused part leaves every word, and where there is none all are settled.
 -- Assumes nothing.
 use borrow.Author.Needs.{needs}
-use Rattle.book.proofs.Functions.OnBatches.{load-refused, load-settled}
+use Rattle.book.proofs.Functions.OnBatches.{few-parts, judged-parts, load-refused, load-settled}
 use Rattle.book.proofs.batches.load_parts.Statement.{statement}
 use Rattle.book.proofs.batches.load_parts.Tie as tie
 
 judge-requires : tie.Need-judge-requires
-judge-requires c κs = search needs
+judge-requires c κs = (search needs, search (few-parts, needs))
 
-enum-known-number : tie.Need-enum-known-number
-enum-known-number c = search needs
+enum-known-loaded : tie.Need-enum-known-loaded
+enum-known-loaded c = search needs
 
-enum-known-n : tie.Need-enum-known-n
-enum-known-n c = search needs
+enum-known-loaded-2 : tie.Need-enum-known-loaded-2
+enum-known-loaded-2 c = search needs
 
-settle-parts-requires : tie.Need-settle-parts-requires
-settle-parts-requires c κs = search needs
+put-parts-requires : tie.Need-put-parts-requires
+put-parts-requires c κs = (search needs, search needs, search (few-parts, needs), search (judged-parts, needs))
 
 same-length : tie.Need-same-length
 same-length c = search needs
@@ -34,9 +34,9 @@ load-parts-spec =
     tie.close
     (tie.spec
     judge-requires
-    enum-known-number
-    enum-known-n
-    settle-parts-requires
+    enum-known-loaded
+    enum-known-loaded-2
+    put-parts-requires
     same-length
     returns
     same-length-2

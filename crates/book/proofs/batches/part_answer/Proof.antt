@@ -1,4 +1,4 @@
--- `book::batches::part_answer` meets its contract: the figures are those of the part, and its settlement is judged on the file taken out.
+-- `book::batches::part_answer` meets its contract: the figures are those of the part, and it is answered as their settlement.
 -- Assumes nothing.
 use borrow.Author.Needs.{needs}
 use Rattle.book.proofs.Functions.OnBatches.{part-above, part-judged}
@@ -11,26 +11,26 @@ part-at-requires c κs = search needs
 returns : tie.Need-returns
 returns c = search (part-above, needs)
 
-slice-aggregate-put-figures : tie.Need-slice-aggregate-put-figures
-slice-aggregate-put-figures c = search needs
-
 put-figures-requires : tie.Need-put-figures-requires
 put-figures-requires c κs = search needs
 
-month-requires : tie.Need-month-requires
-month-requires c κs = search needs
+sub-sum-figures : tie.Need-sub-sum-figures
+sub-sum-figures c = search needs
 
-sub-settle-outcome : tie.Need-sub-settle-outcome
-sub-settle-outcome c = search needs
+part-sum-figures-start : tie.Need-part-sum-figures-start
+part-sum-figures-start c = search needs
 
-part-settle-outcome-start : tie.Need-part-settle-outcome-start
-part-settle-outcome-start c = search needs
+part-sum-figures-end : tie.Need-part-sum-figures-end
+part-sum-figures-end c = search needs
 
-part-settle-outcome-end : tie.Need-part-settle-outcome-end
-part-settle-outcome-end c = search needs
+sum-figures-requires : tie.Need-sum-figures-requires
+sum-figures-requires c κs = search needs
 
-settle-outcome-requires : tie.Need-settle-outcome-requires
-settle-outcome-requires c κs = search needs
+settle-answer-requires : tie.Need-settle-answer-requires
+settle-answer-requires c κs = search needs
+
+same-length : tie.Need-same-length
+same-length c = search needs
 
 returns-2 : tie.Need-returns-2
 returns-2 c = search (part-judged, needs)
@@ -41,11 +41,11 @@ part-answer-spec =
     (tie.spec
     part-at-requires
     returns
-    slice-aggregate-put-figures
     put-figures-requires
-    month-requires
-    sub-settle-outcome
-    part-settle-outcome-start
-    part-settle-outcome-end
-    settle-outcome-requires
+    sub-sum-figures
+    part-sum-figures-start
+    part-sum-figures-end
+    sum-figures-requires
+    settle-answer-requires
+    same-length
     returns-2)
