@@ -1,21 +1,26 @@
--- A part from its bytes, and its figures put one after the other.
+-- A part from its bytes, and the sum of its figures.
 -- Assumes nothing.
-use Prim.Native.Nat.{ℕ, suc, _+_, _*_, _≤_, _<_}
+use Prim.Native.Nat.{ℕ, _+_, _*_, _≤_, _<_}
 use native.Mathlib.Omega.{arith}
-use native.Mathlib.Numerals.{add-one}
-use mathlib.Core.Path.{_≡_, refl, sym, ap, ap₂, _∙_}
-use mathlib.Core.List.{List, [], _∷_, _++_}
-use mir.Facts.{toZ-ofZ}
+use mathlib.Core.Path.{_≡_, sym, ap, subst, _∙_}
+use mathlib.Core.Bool.{Bool, true, false, _||_}
+use mathlib.Core.List.{List}
 use mir.Syntax.{w64}
-use mir.Val.{SFits}
-use lib.IntN.{ℤ, pos}
-use lib.ListN.{length, take, drop, getD, set}
-use lib.Seq.{take-at, take-all, take-suc, set-at, drop-cons, append-snoc, length-take-le}
+use mir.Val.{SFits, toZ, ofZ}
+use lib.Dec.{leb, ltb}
+use lib.IntN.{ℤ, pos, natAbs, _+ℤ_}
+use lib.ListN.{length, getD}
+use Rattle.laws.specs.Lists.{table}
 use Rattle.laws.specs.Read.{read}
 use Rattle.laws.specs.Tabulated.{length-table, getD-table}
+use Rattle.manual.specs.declared.Sum.{Sum}
+use Rattle.manual.specs.declared.Sum.the-variants.{Total, Refused}
+use Rattle.manual.specs.Figures.{bound, summed}
+use Rattle.manual.proofs.Sums.{SoFar, wrong-number, out-of-range, sum-fits, sum-again, sum-ends}
+use Rattle.batch.specs.declared.parts.Part.{Part}
 use Rattle.batch.specs.Bytes.{numberAt, signedOf}
 use Rattle.batch.specs.Batch.{offsetAt, participantAt, rowsAt, figuresAt}
-use Rattle.batch.specs.Parts.{partOf, PartIs, FiguresPut}
+use Rattle.batch.specs.Parts.{partOf, PartIs}
 
 -- A part, from its offset and its two bytes.
 pub part-is : (file : List ℕ) (i p r o : ℕ) → o ≡ offsetAt file i → p ≡ getD file o 0 → r ≡ getD file (o + 1) 0 → r < 256
@@ -35,54 +40,57 @@ part-is file i p r o e f g h l =
 
 -- ---- the figures
 
-pub figures-long : (file : List ℕ) (i : ℕ) → length (figuresAt file i) ≡ rowsAt file i
+-- So many figures, the first of them at a place.
+abbrev pub figuresFrom : List ℕ → (first rows : ℕ) → List ℤ
+figuresFrom file first rows = table rows (λ k. signedOf (numberAt file (first + 8 * k) 8))
+
+-- Those of a part.
+part-figures : (file : List ℕ) (i : ℕ) (part : Part) (first rows : ℕ) → PartIs file i part → first ≡ part .offset + 2 → rows ≡ part .rows
+    → figuresFrom file first rows ≡ figuresAt file i
 unfolding figuresAt
-figures-long file i = length-table (rowsAt file i) (λ k. signedOf (numberAt file (offsetAt file i + 2 + 8 * k) 8))
+part-figures file i part first rows is e q =
+    λ j. figuresFrom file ((e ∙ ap (λ (o : ℕ). o + 2) (is .offset)) j) ((q ∙ is .rows) j)
 
--- The figure at k.
-pub figure-at : (file : List ℕ) (i k : ℕ) → k < rowsAt file i
-    → getD (figuresAt file i) k (pos 0) ≡ signedOf (numberAt file (offsetAt file i + 2 + 8 * k) 8)
-unfolding figuresAt
-figure-at file i k h = getD-table (rowsAt file i) (λ k. signedOf (numberAt file (offsetAt file i + 2 + 8 * k) 8)) k (pos 0) h
+module _ (file : List ℕ) (first rows : ℕ) where
+  abbrev l : List ℤ
+  l = figuresFrom file first rows
 
--- The first k figures are put.
-pub record Putting (file : List ℕ) (i k : ℕ) (before now : List ℤ) : Type 0 where
-  pub few : k ≤ rowsAt file i
-  pub sofar : now ≡ take k (figuresAt file i) ++ drop k before
+  long : length l ≡ rows
+  long = length-table rows (λ k. signedOf (numberAt file (first + 8 * k) 8))
 
-pub putting-first : (file : List ℕ) (i : ℕ) (before : List ℤ) → Putting file i 0 before before
-putting-first file i before = record { few = omega arith; sofar = refl }
+  -- The figure at k, as the code reads it, and whether it is within its bound.
+  module _ (k w s : ℕ) (r : ℤ) (t : Bool) (h : k < rows) (few : rows ≤ 16) (word : w ≡ numberAt file (first + 8 * k) 8) (figure : r ≡ signedOf w)
+      (fits : SFits w64 r) (said : t ≡ leb (natAbs (read r)) bound) (inv : SoFar l s k) where
+    figure-is : r ≡ getD l k (pos 0)
+    figure-is =
+        figure ∙ ap signedOf word ∙ sym (getD-table rows (λ k. signedOf (numberAt file (first + 8 * k) 8)) k (pos 0) h)
 
--- One more.
-pub putting-next : (file : List ℕ) (i k : ℕ) (before now : List ℤ) (x : ℤ) → Putting file i k before now → k < rowsAt file i → k < length before
-    → x ≡ signedOf (numberAt file (offsetAt file i + 2 + 8 * k) 8) → Putting file i (k + 1) before (set now k x)
-putting-next file i k before now x s h l e =
-    let new = figuresAt file i in
-    let within : k < length new = omega (arith, figures-long file i) in
-    record {
-      few = omega arith;
-      sofar =
-          ap (λ (z : List ℤ). set z k x) (s .sofar ∙ ap (λ (z : List ℤ). take k new ++ z) (drop-cons before k (pos 0) l))
-          ∙ set-at (take k new) (getD before k (pos 0)) (drop (suc k) before) x k (length-take-le k new (omega arith))
-          ∙ sym (append-snoc (take k new) x (drop (suc k) before))
-          ∙ ap (λ (z : ℤ). (take k new ++ (z ∷ [])) ++ drop (suc k) before) (e ∙ sym (figure-at file i k h))
-          ∙ ap (λ (z : List ℤ). z ++ drop (suc k) before) (sym (take-suc new k (pos 0) within))
-          ∙ ap (λ (m : ℕ). take m new ++ drop m before) (sym (add-one k));
-    }
+    there : SFits w64 (getD l k (pos 0))
+    there = subst (SFits w64) figure-is fits
 
--- One more, as the code reads it.
-pub putting-turn : (file : List ℕ) (i k : ℕ) (before now : List ℤ) (rows first w : ℕ) (z : ℤ) → Putting file i k before now → rows ≡ rowsAt file i
-    → k < rows → rows ≤ 255 → 255 ≤ length before → first ≡ offsetAt file i + 2 → w ≡ numberAt file (first + 8 * k) 8 → SFits w64 z
-    → z ≡ signedOf w → Putting file i (k + 1) before (set now k (read z))
-putting-turn file i k before now rows first w z s r h few long f e fits g =
-    let word : w ≡ numberAt file (offsetAt file i + 2 + 8 * k) 8 = e ∙ ap (λ (o : ℕ). numberAt file (o + 8 * k) 8) f in
-    putting-next file i k before now (read z) s (omega arith) (omega arith) (toZ-ofZ fits ∙ g ∙ ap signedOf word)
+    found : t ≡ leb (natAbs (read (getD l k (pos 0)))) bound
+    found = said ∙ ap (λ (z : ℤ). leb (natAbs (read z)) bound) figure-is
 
--- All.
-pub putting-all : (file : List ℕ) (i k : ℕ) (before now : List ℤ) → Putting file i k before now → rowsAt file i ≤ k → FiguresPut file i before now
-putting-all file i k before now s h =
-    let rows : k ≡ rowsAt file i = omega arith in
-    let long = figures-long file i in
-    let whole : now ≡ figuresAt file i ++ drop (rowsAt file i) before =
-    s .sofar ∙ ap₂ _++_ (take-all k (figuresAt file i) (omega arith)) (ap (λ (m : ℕ). drop m before) rows) in
-    record { whole = whole; front = ap (take (rowsAt file i)) whole ∙ take-at (figuresAt file i) (drop (rowsAt file i) before) (rowsAt file i) long }
+    pub part-out : 5 ≤ rows → t ≡ false → Refused 11 ≡ summed l
+    part-out some f = out-of-range t l s k there (omega (arith, long)) (omega (arith, long)) found inv (omega (arith, long)) f
+
+    pub part-fits : t ≡ true → SFits w64 (toZ w64 s +ℤ read r)
+    part-fits e =
+        subst (λ (z : ℤ). SFits w64 (toZ w64 s +ℤ read z)) (sym figure-is)
+        (sum-fits t l s k there (omega (arith, long)) (omega (arith, long)) found inv e)
+
+    pub part-again : t ≡ true → SoFar l (ofZ w64 (toZ w64 s +ℤ read r)) (k + 1)
+    part-again e =
+        subst (λ (z : ℤ). SoFar l (ofZ w64 (toZ w64 s +ℤ read z)) (k + 1)) (sym figure-is)
+        (sum-again t l s k there (omega (arith, long)) (omega (arith, long)) found inv e)
+
+  pub part-ends : (s k : ℕ) → rows ≤ k → 5 ≤ rows → rows ≤ 16 → SoFar l s k → Total (toZ w64 s) ≡ summed l
+  part-ends s k h some few inv = sum-ends l s k (omega (arith, long)) (omega (arith, long)) (omega (arith, long)) inv
+
+  pub part-wrong : (t : Bool) → t ≡ (ltb rows 5 || ltb 16 rows) → t ≡ true → Refused 10 ≡ summed l
+  part-wrong t said h = wrong-number t rows said l (sym long) h
+
+-- What is found of the figures is found of the part's.
+pub part-summed : (file : List ℕ) (part : Part) (first rows : ℕ) (r : Sum) → first ≡ part .offset + 2 → rows ≡ part .rows
+    → r ≡ summed (figuresFrom file first rows) → (i : ℕ) → PartIs file i part → r ≡ summed (figuresAt file i)
+part-summed file part first rows r e q h i is = h ∙ ap summed (part-figures file i part first rows is e q)

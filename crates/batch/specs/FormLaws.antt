@@ -13,8 +13,8 @@ use Rattle.laws.specs.Cases.{split, clash, or-first, or-second, and-left, and-r
 use Rattle.laws.specs.Least.{NoneBelow, none-below}
 use Rattle.batch.specs.declared.Form.{Form}
 use Rattle.batch.specs.declared.Form.the-variants.{Parts, Refused}
-use Rattle.batch.specs.Batch.{countIn, lengthAt, participantAt, rowsAt, tooShort, firstMisplaced, notFollowing, isBefore, wrongPart}
-use Rattle.batch.specs.Batch.{firstWrong, refusedIf, formOf}
+use Rattle.batch.specs.Batch.{countIn, offsetAt, lengthAt, endAt, beginsAt, participantAt, rowsAt, tooShort}
+use Rattle.batch.specs.Batch.{misplaced, firstMisplaced, notFollowing, isBefore, wrongPart, firstWrong, refusedIf, formOf}
 
 -- Whether a form is a batch, and how many parts it has.
 abbrev pub isBatch : Form → Bool
@@ -38,10 +38,12 @@ pub record Whole (file : List ℕ) : Type 0 where
   pub form : formOf file ≡ Parts (countIn file)
   pub some : 1 ≤ countIn file
   pub most : countIn file ≤ 64
+  pub follows : NoneBelow (misplaced file) (countIn file)
+  pub ends : endAt file (countIn file - 1) ≡ length file
   pub right : NoneBelow (wrongPart file) (countIn file)
 
 pub whole : (file : List ℕ) → isBatch (formOf file) ≡ true → Whole file
-unfolding formOf tooShort firstWrong
+unfolding formOf tooShort notFollowing firstMisplaced firstWrong
 whole file e =
     let n = countIn file in
     let third = refusedIf 22 (firstWrong file) (ltb (firstWrong file) n) (Parts n) in
@@ -54,6 +56,8 @@ whole file e =
       form = a .1 ∙ b .1 ∙ c .1;
       some = leb-true 1 n (and-left (leb 1 n) (leb n 64) count);
       most = leb-true n 64 (and-right (leb 1 n) (leb n 64) count);
+      follows = none-below (misplaced file) n (ltb-false (firstMisplaced file) n (or-first _ _ (b .0)));
+      ends = eqb-true (endAt file (n - 1)) (length file) (not-not _ (or-second (ltb (firstMisplaced file) n) _ (b .0)));
       right = none-below (wrongPart file) n (ltb-false (firstWrong file) n (c .0));
     }
 
@@ -81,3 +85,26 @@ participants-differ file w i j h k =
     let long = not (eqb (lengthAt file j) (2 + 8 * rowsAt file j)) in
     let twice = isBefore file j (participantAt file j) in
     not-before file i j (participantAt file j) h (or-second long twice (or-second short (long || twice) (w .right j k)))
+
+-- ---- a part lies in the file
+
+-- Each part begins where the one before it ended, so that it ends no earlier.
+ends-grow : (file : List ℕ) → Whole file → (i j : ℕ) → i + j < countIn file → endAt file i ≤ endAt file (i + j)
+unfolding misplaced endAt beginsAt
+ends-grow file w i zero h = let e : i + 0 ≡ i = omega arith in rw e (omega arith)
+ends-grow file w i (suc j) h =
+    let next : i + suc j ≡ suc (i + j) = omega arith in
+    let begins : offsetAt file (suc (i + j)) ≡ endAt file (i + j) =
+    eqb-true (offsetAt file (suc (i + j))) (beginsAt file (suc (i + j))) (not-not _ (w .follows (suc (i + j)) (omega arith))) in
+    rw next (omega (arith, ends-grow file w i j (omega arith), begins))
+
+-- A part with its figures ends within the file, so that no byte outside is read.
+pub part-inside : (file : List ℕ) → Whole file → (i : ℕ) → i < countIn file → offsetAt file i + 2 + 8 * rowsAt file i ≤ length file
+unfolding wrongPart endAt
+part-inside file w i h =
+    let last = ends-grow file w i (countIn file - 1 - i) (omega arith) in
+    let there : i + (countIn file - 1 - i) ≡ countIn file - 1 = omega arith in
+    let end : endAt file (i + (countIn file - 1 - i)) ≡ length file = ap (endAt file) there ∙ w .ends in
+    let long =
+    eqb-true (lengthAt file i) (2 + 8 * rowsAt file i) (not-not _ (or-first _ _ (or-second (ltb (lengthAt file i) 2) _ (w .right i h)))) in
+    omega arith

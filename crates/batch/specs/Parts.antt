@@ -1,14 +1,11 @@
 -- One part of a file as a record, and what the functions on it leave. Paper 02, Ask 1.
 -- Assumes nothing.
-use Prim.Native.Nat.{ℕ, _+_, _*_, _-_, _≤_, _<_}
-use native.Mathlib.Omega.{arith}
-use mathlib.Core.Path.{_≡_, ap, _∙_}
+use Prim.Native.Nat.{ℕ, _+_, _*_, _≤_, _<_}
+use mathlib.Core.Path.{_≡_}
 use mathlib.Core.Bool.{Bool, not, _||_}
-use mathlib.Core.List.{List, _++_}
+use mathlib.Core.List.{List}
 use lib.Dec.{ltb, eqb}
-use lib.ListN.{take, drop}
-use lib.IntN.{ℤ}
-use Rattle.batch.specs.Batch.{offsetAt, lengthAt, participantAt, rowsAt, figuresAt}
+use Rattle.batch.specs.Batch.{offsetAt, lengthAt, participantAt, rowsAt}
 use Rattle.batch.specs.declared.parts.Part.{Part}
 
 -- "Each part holds a participant (1 byte), a row count r (1 byte)": the part of pair i.
@@ -23,18 +20,6 @@ pub record PartIs (file : List ℕ) (i : ℕ) (part : Part) : Type 0 where
   pub offset : part .offset ≡ offsetAt file i
   pub few : part .rows ≤ 255
   pub low : part .offset < 4294967296
-
--- "r signed 8-byte cents": the figures of pair i's part stand at the front of the lent ones, and the others are as they were.
-pub record FiguresPut (file : List ℕ) (i : ℕ) (before after : List ℤ) : Type 0 where
-  pub whole : after ≡ figuresAt file i ++ drop (rowsAt file i) before
-  pub front : take (rowsAt file i) after ≡ figuresAt file i
-
--- So a caller that takes as many of the lent figures as the part has rows takes the part's figures.
-pub part-figures : (file : List ℕ) (i : ℕ) (part : Part) (before after : List ℤ) → PartIs file i part → FiguresPut file i before after
-    → take (part .rows - 0) after ≡ figuresAt file i
-part-figures file i part before after is put =
-    let rows : part .rows - 0 ≡ rowsAt file i = omega (arith, is .rows) in
-    ap (λ (n : ℕ). take n after) rows ∙ put .front
 
 -- "a wrong part length": the first of what cause 22 names.
 unfoldable pub wrongLength : List ℕ → ℕ → Bool

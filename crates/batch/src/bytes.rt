@@ -1,4 +1,4 @@
-// Numbers in the bytes of a file, least byte first. There is no byte behind the end: it counts as 0.
+// Numbers in the bytes of a file, least byte first. Where a byte is asked for that is behind the end, it counts as 0.
 ghost use mathlib.Core.Path.{_≡_};
 ghost use Prim.Native.Nat.{_+_, _<_, _≤_, _^_};
 ghost use lib.ListN.{length, getD};
@@ -48,7 +48,7 @@ fn four_at(file: &[u8], at: usize) -> u32
 }
 
 // The number in eight bytes that are there.
-fn eight_at(file: &[u8], at: usize) -> u64
+pub fn eight_at(file: &[u8], at: usize) -> u64
     requires { ⌜ at + 8 ≤ length (now file) ⌝ }
     ensures { λ r. ⌜ r ≡ numberAt (now (file .entry)) at 8 ⌝ }
 {
@@ -64,17 +64,6 @@ pub fn number4(file: &[u8], at: usize) -> u32
         return four_at(file, at);
     }
     number2(file, at) as u32 + 65536 * (number2(file, at + 2) as u32)
-}
-
-// The number in eight bytes: at once where all are there.
-pub fn number8(file: &[u8], at: usize) -> u64
-    requires { ⌜ at + 8 < 2 ^ 64 ⌝ }
-    ensures { λ r. ⌜ r ≡ numberAt (now (file .entry)) at 8 ⌝ }
-{
-    if at + 8 <= file.len() {
-        return eight_at(file, at);
-    }
-    number4(file, at) as u64 + 4294967296 * (number4(file, at + 4) as u64)
 }
 
 // The signed number that 64 bits are.

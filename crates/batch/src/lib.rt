@@ -8,7 +8,7 @@ pub mod reader; // reader.rt: the reader of a file's parts
 pub use checks::form_of;
 pub use pairs::month;
 pub use parts::Part;
-pub use parts::put_figures;
+pub use parts::sum_part;
 pub use reader::BatchReader;
 pub use reader::part_at;
 

@@ -1,11 +1,17 @@
-// One part of a file: its participant, its row count and where it begins; and its figures.
-ghost use Prim.Native.Nat.{_≤_};
+// One part of a file: its participant, its row count and where it begins; and the sum of its figures.
+ghost use mathlib.Core.Path.{_≡_};
+ghost use Prim.Native.Nat.{ℕ, _+_, _*_, _≤_};
 ghost use lib.ListN.{length};
-ghost use Rattle.batch.specs.Parts.{PartIs, FiguresPut};
+ghost use Rattle.manual.specs.Figures.{summed};
+ghost use Rattle.batch.specs.Batch.{figuresAt};
+ghost use Rattle.batch.specs.Parts.{PartIs};
 use crate::bytes::byte_at;
-use crate::bytes::number8;
+use crate::bytes::eight_at;
 use crate::bytes::signed;
 use crate::pairs::offset_at;
+use manual::Sum;
+use manual::figures::within;
+use manual::figures::wrong_count;
 
 // A part: its participant, how many figures it has, and where it begins.
 pub struct Part {
@@ -28,17 +34,25 @@ pub fn part_in(file: &[u8], at: u32) -> Part
     }
 }
 
-// Writes the figures of a pair's part to the front of the lent figures.
-pub fn put_figures(file: &[u8], at: u32, figures: &mut [i64])
-    requires { ⌜ 255 ≤ length (now figures) ⌝ }
-    ensures { λ _. ⌜ FiguresPut (now (file .entry)) at (now (figures .entry)) (now (figures .exit)) ⌝ }
+// The sum of the figures of a part that lies in the file, or the first of the causes 10 and 11 that holds.
+pub fn sum_part(file: &[u8], part: Part) -> Sum
+    requires { ⌜ part .offset + 2 + 8 * part .rows ≤ length (now file) ⌝ }
+    ensures { λ r. ⌜ ((i : ℕ) → PartIs (now (file .entry)) i part → r ≡ summed (figuresAt (now (file .entry)) i)) ⌝ }
 {
-    let part = part_in(file, at);
     let rows = part.rows;
+    if wrong_count(rows) {
+        return Sum::Refused(10);
+    }
     let first = part.offset + 2;
+    let mut total: i64 = 0;
     let mut i = 0;
     while i < rows {
-        figures[i] = signed(number8(file, first + 8 * i));
+        let figure = signed(eight_at(file, first + 8 * i));
+        if !within(figure) {
+            return Sum::Refused(11);
+        }
+        total += figure;
         i += 1;
     }
+    Sum::Total(total)
 }

@@ -10,16 +10,36 @@ ghost use Prim.Native.Nat.{_+_, _*_, _<_, _≤_};
 ghost use lib.ListN.{length};
 ghost use Rattle.layout.specs.WellFormed.{WellFormed};
 
+// A participant's figure of a month.
+fn figure(participant: usize, k: usize) -> u64
+    requires { ⌜ (participant < 64) × (k < 16) ⌝ }
+    ensures { λ r. ⌜ r < 10000 ⌝ }
+{
+    (1000 + 16 * participant + k) as u64
+}
+
+// Writes the figures of all participants, sixteen each.
+fn put_month(figures: &mut [i64])
+    requires { ⌜ 1024 ≤ length (now figures) ⌝ }
+{
+    let mut i = 0;
+    while i < 1024 {
+        figures[i] = figure(i / 16, i % 16) as i64;
+        i += 1;
+    }
+}
+
 // The settlements of a month, one of each participant. The sum of the answers.
-fn settle_all(book: &mut [u64], month: Month) -> u64
-    requires { ⌜ WellFormed (now book) ⌝ }
+fn settle_all(book: &mut [u64], month: Month, figures: &[i64]) -> u64
+    requires { ⌜ WellFormed (now book) × (1024 ≤ length (now figures)) ⌝ }
     ensures { λ r. ⌜ WellFormed (now (book .exit)) ⌝ }
 {
-    let figures = [1000i64; 16];
     let mut sum = 0;
     let mut participant = 0;
     while participant < 64 {
-        let answer = answers::settled(book::settle(book, participant, month, &figures));
+        let at = 16 * participant as usize;
+        let end = at + 16;
+        let answer = answers::settled(book::settle(book, participant, month, &figures[at..end]));
         sum = wrapping_add_u64(sum, answer);
         participant += 1;
     }
@@ -27,14 +47,14 @@ fn settle_all(book: &mut [u64], month: Month) -> u64
 }
 
 // So many times the settlements of a month. The sum of the answers.
-fn settlements(book: &mut [u64], month: Month, rounds: u64) -> u64
-    requires { ⌜ WellFormed (now book) ⌝ }
+fn settlements(book: &mut [u64], month: Month, figures: &[i64], rounds: u64) -> u64
+    requires { ⌜ WellFormed (now book) × (1024 ≤ length (now figures)) ⌝ }
     ensures { λ r. ⌜ WellFormed (now (book .exit)) ⌝ }
 {
     let mut sum = 0;
     let mut i = 0;
     while i < rounds {
-        sum = wrapping_add_u64(sum, settle_all(book, month));
+        sum = wrapping_add_u64(sum, settle_all(book, month, figures));
         i += 1;
     }
     sum
@@ -53,13 +73,13 @@ fn put_number(file: &mut [u8], at: usize, number: u64, count: usize)
     }
 }
 
-// Writes the 16 figures of a part.
-fn put_figures(file: &mut [u8], at: usize)
-    requires { ⌜ at + 128 ≤ length (now file) ⌝ }
+// Writes the 16 figures of a participant's part.
+fn put_figures(file: &mut [u8], at: usize, participant: usize)
+    requires { ⌜ (at + 128 ≤ length (now file)) × (participant < 64) ⌝ }
 {
     let mut i = 0;
     while i < 16 {
-        put_number(file, at + 8 * i, 1000, 8);
+        put_number(file, at + 8 * i, figure(participant, i), 8);
         i += 1;
     }
 }
@@ -73,7 +93,7 @@ fn put_part(file: &mut [u8], participant: usize)
     put_number(file, 8 + 8 * participant, 130, 4);
     put_number(file, offset, participant as u64, 1);
     put_number(file, offset + 1, 16, 1);
-    put_figures(file, offset + 2);
+    put_figures(file, offset + 2, participant);
 }
 
 // Writes the file of a month.
@@ -120,8 +140,10 @@ pub fn run(timed: bool, rounds: u64) {
     participants::admit_all(&mut book, 4);
     book::advance(&mut book, Day(700), 29219);
     let month = Month(21);
+    let mut figures = [0i64; 1024];
+    put_month(&mut figures);
     let began = clock::now();
-    let sum = settlements(&mut book, month, rounds);
+    let sum = settlements(&mut book, month, &figures, rounds);
     let took = clock::since(began);
     report(timed, b"64 settlements: ", rounds, sum, took);
     let mut file = [0u8; 8836];

@@ -9,7 +9,7 @@ use batch::Form;
 use batch::form_of;
 use batch::month;
 use batch::part_at;
-use batch::put_figures;
+use batch::sum_part;
 use calendar::Day;
 use calendar::Month;
 use calendar::month_of;
@@ -17,14 +17,13 @@ use file::Settled;
 use file::settle::check_due;
 use file::settle::outside_months;
 use layout::parts::number;
-use manual::figures::sum_figures;
 ghost use mathlib.Core.Path.{_≡_};
 ghost use mathlib.Core.Bool.{true};
-ghost use Prim.Native.Nat.{_≤_};
+ghost use Prim.Native.Nat.{_+_, _*_, _≤_};
 ghost use lib.ListN.{length};
 ghost use Rattle.calendar.specs.Civil.{monthOf};
 ghost use Rattle.batch.specs.declared.Form.the-variants.{Parts};
-ghost use Rattle.batch.specs.Batch.{monthIn, formOf};
+ghost use Rattle.batch.specs.Batch.{monthIn, offsetAt, rowsAt, formOf};
 ghost use Rattle.file.specs.Answer.{accepted, settledSays};
 ghost use Rattle.file.specs.Settle.{outsideMonths, checkDue};
 ghost use Rattle.layout.specs.Words.{bookOfWords, todayIn};
@@ -54,47 +53,37 @@ fn refusal(answer: Settled) -> u32
     number
 }
 
-// What the settlement of a part answers on the book as it is, given whether the batch's month is outside its range and whether a check is due. The
-// part's figures are read to the front of the lent ones.
-fn part_answer(
-    words: &[u64],
-    file: &[u8],
-    at: u32,
-    outside: bool,
-    due: bool,
-    figures: &mut [i64],
-) -> Settled
+// What the settlement of a part answers on the book as it is, given whether the batch's month is outside its range and whether a check is due.
+fn part_answer(words: &[u64], file: &[u8], at: u32, outside: bool, due: bool) -> Settled
     requires { ⌜ WellFormed (now words) × (outside ≡ outsideMonths (monthOf (todayIn (now words))) (monthIn (now file)))
-        × (due ≡ checkDue (monthOf (todayIn (now words))) (monthIn (now file))) × (255 ≤ length (now figures)) ⌝ }
+        × (due ≡ checkDue (monthOf (todayIn (now words))) (monthIn (now file)))
+        × (offsetAt (now file) at + 2 + 8 * rowsAt (now file) at ≤ length (now file)) ⌝ }
     ensures { λ r. ⌜ settledSays r ≡ judged (bookOfWords (now (words .entry))) (now (file .entry)) at ⌝ }
 {
     let part = part_at(file, at);
     if 63 < part.participant {
         return Settled::Refused(1);
     }
-    put_figures(file, at, figures);
-    let rows = part.rows;
-    let sum = sum_figures(&figures[0..rows]);
+    let sum = sum_part(file, part);
     settle_answer(words, part.participant, outside, due, sum)
 }
 
 // Judges the parts of a batch on the book as it is, the first refused one with its index.
 fn judge(words: &[u64], file: &[u8], parts: u32) -> Judged
-    requires { ⌜ WellFormed (now words) × (parts ≤ 64) ⌝ }
+    requires { ⌜ WellFormed (now words) × (formOf (now file) ≡ Parts parts) ⌝ }
     ensures { λ r. ⌜ (loadedSays (r .loaded) ≡ batchSays (Parts parts) (judged (bookOfWords (now (words .entry))) (now (file .entry))))
         × (accepted (loadedSays (r .loaded)) ≡ true → Judges (bookOfWords (now (words .entry))) (now (file .entry)) parts (r .answers)) ⌝ }
 {
     let current = month_of(Day(number(words[1])));
     let outside = outside_months(current, Month(month(file)));
     let due = check_due(current, Month(month(file)));
-    let mut figures = [0i64; 255];
     let none = PartAnswer {
         answer: Settled::Refused(0),
     };
     let mut answers = [none; 64];
     let mut i = 0;
     while i < parts {
-        let answer = part_answer(words, file, i, outside, due, &mut figures);
+        let answer = part_answer(words, file, i, outside, due);
         if !is_settled(answer) {
             return Judged {
                 loaded: Loaded::Refused(refusal(answer), i),
@@ -112,7 +101,7 @@ fn judge(words: &[u64], file: &[u8], parts: u32) -> Judged
 
 // Writes what the parts of a batch leave, in pair order.
 fn put_parts(words: &mut [u64], file: &[u8], parts: u32, answers: [PartAnswer; 64])
-    requires { ⌜ WellFormed (now words) × (formOf (now file) ≡ Parts parts) × (parts ≤ 64) × Judges (bookOfWords (now words)) (now file) parts answers ⌝ }
+    requires { ⌜ WellFormed (now words) × (formOf (now file) ≡ Parts parts) × Judges (bookOfWords (now words)) (now file) parts answers ⌝ }
     ensures { λ r. ⌜ WellFormed (now (words .exit))
         × (bookOfWords (now (words .exit)) ≡ madeParts (bookOfWords (now (words .entry))) (now (file .entry)) parts) ⌝ }
 {

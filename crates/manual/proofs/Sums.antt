@@ -1,13 +1,13 @@
 -- The loop over a month's figures: what is summed and what is left make the whole, and each figure passed is within its bound. Assumes nothing.
 use Prim.Native.Nat.{ℕ, _+_, _*_, _≤_, _<_}
 use mathlib.Core.Path.{_≡_, refl, sym, _∙_, ap}
-use mathlib.Core.Bool.{Bool, true, false}
+use mathlib.Core.Bool.{Bool, true, false, _||_}
 use mathlib.Core.List.{List}
 use native.Mathlib.Nat.{le-trans}
 use native.Mathlib.Omega.{arith}
 use native.Mathlib.Numerals.{add-one}
-use borrow.Author.Tests.{lt-ltb, le-ltb, leb-true}
-use lib.Dec.{leb, leb·suc-suc}
+use borrow.Author.Tests.{lt-ltb, le-ltb, ltb-false, leb-true}
+use lib.Dec.{leb, ltb, leb·suc-suc}
 use lib.ListN.{length, getD, drop, drop-of-length-le}
 use lib.Seq.{drop-cons}
 use lib.IntN.{ℤ, pos, negsuc, natAbs, _+ℤ_, +ℤ-idr}
@@ -15,7 +15,7 @@ use lib.Signed.{leZ}
 use mir.Syntax.{w64}
 use mir.Val.{SFits, toZ, ofZ}
 use mir.Facts.{toZ-ofZ}
-use Rattle.laws.specs.Cases.{clash}
+use Rattle.laws.specs.Cases.{clash, cond-true, or-first, or-second}
 use Rattle.laws.specs.Integers.{natAbs-add, sumOf, sumOf-turn}
 use Rattle.laws.specs.Signed.{fits-natAbs}
 use Rattle.laws.specs.Read.{read}
@@ -38,15 +38,25 @@ below-low x f p = rw (toZ-ofZ f) (plain x (rw (toZ-ofZ f) at p))
     plain (pos n) p = clash refl p
     plain (negsuc n) p = sym (leb·suc-suc n 999999999999)
 
--- ---- cause 10
+-- ---- cause 10, by the number of the figures
 
-pub too-few : (l : List ℤ) → length l < 5 → Refused 10 ≡ summed l
-unfolding summed wrongCount
-too-few l h = rw (lt-ltb (length l) 5 h)
+pub count-few : (n : ℕ) → n < 5 → true ≡ (ltb n 5 || ltb 16 n)
+count-few n h = rw (lt-ltb n 5 h)
 
-pub too-many : (l : List ℤ) → 5 ≤ length l → 16 < length l → Refused 10 ≡ summed l
-unfolding summed wrongCount
-too-many l g h = rw (le-ltb (length l) 5 g, lt-ltb 16 (length l) h)
+pub count-many : (n : ℕ) → 5 ≤ n → ltb 16 n ≡ (ltb n 5 || ltb 16 n)
+count-many n h = rw (le-ltb n 5 h)
+
+module _ (t : Bool) (n : ℕ) (said : t ≡ (ltb n 5 || ltb 16 n)) where
+  pub at-least-five : t ≡ false → 5 ≤ n
+  at-least-five h = ltb-false n 5 (or-first (ltb n 5) (ltb 16 n) (sym said ∙ h))
+
+  pub at-most-sixteen : t ≡ false → n ≤ 16
+  at-most-sixteen h = ltb-false 16 n (or-second (ltb n 5) (ltb 16 n) (sym said ∙ h))
+
+  pub wrong-number : (l : List ℤ) → n ≡ length l → t ≡ true → Refused 10 ≡ summed l
+  unfolding summed wrongCount
+  wrong-number l e h =
+      sym (cond-true (ltb (length l) 5 || ltb 16 (length l)) (Refused 10) _ (ap (λ (k : ℕ). ltb k 5 || ltb 16 k) (sym e) ∙ sym said ∙ h))
 
 -- ---- a turn at the next figure, which t found within the bound or not
 

@@ -1,14 +1,25 @@
 use crate::Sum;
 ghost use mathlib.Core.Path.{_≡_};
 ghost use lib.IntN.{natAbs};
-ghost use lib.Dec.{leb};
+ghost use mathlib.Core.Bool.{_||_};
+ghost use lib.Dec.{leb, ltb};
 ghost use Rattle.manual.specs.Figures.{bound, summed};
 
 // The bound of a figure, 10^12 cents.
 const BOUND: i64 = 1000000000000;
 
+// Cause 10: whether so many figures are fewer than 5 or more than 16.
+pub fn wrong_count(count: usize) -> bool
+    ensures { λ r. ⌜ r ≡ (ltb count 5 || ltb 16 count) ⌝ }
+{
+    if count < 5 {
+        return true;
+    }
+    16 < count
+}
+
 // Whether a figure is within plus or minus 10^12.
-fn within(figure: i64) -> bool
+pub fn within(figure: i64) -> bool
     ensures { λ r. ⌜ r ≡ leb (natAbs figure) bound ⌝ }
 {
     -BOUND <= figure && figure <= BOUND
@@ -18,10 +29,7 @@ fn within(figure: i64) -> bool
 pub fn sum_figures(figures: &[i64]) -> Sum
     ensures { λ r. ⌜ r ≡ summed (now (figures .entry)) ⌝ }
 {
-    if figures.len() < 5 {
-        return Sum::Refused(10);
-    }
-    if 16 < figures.len() {
+    if wrong_count(figures.len()) {
         return Sum::Refused(10);
     }
     let mut total: i64 = 0;

@@ -1,7 +1,7 @@
 -- What loading a batch gives: all its parts are judged on the book as it is, which is to judge each behind those before it, and are settled in
 -- turn where none is refused.
 -- Assumes nothing.
-use Prim.Native.Nat.{ℕ, zero, suc, _+_, _-_, _≤_, _<_}
+use Prim.Native.Nat.{ℕ, zero, suc, _+_, _*_, _≤_, _<_}
 use native.Mathlib.Omega.{arith}
 use native.Mathlib.Numerals.{add-one}
 use mathlib.Core.Path.{_≡_, refl, sym, ap, subst, _∙_}
@@ -9,9 +9,8 @@ use mathlib.Core.Bool.{Bool, true, false, not}
 use mathlib.Core.List.{List, [], _∷_}
 use borrow.Author.Tests.{lt-ltb, le-ltb, ltb-true, ltb-false, eqb-true, eqb-false}
 use lib.Dec.{ltb, eqb}
-use lib.ListN.{length, getD, set, take}
+use lib.ListN.{length, getD, set}
 use lib.Seq.{getD-set-same, getD-set-other}
-use lib.IntN.{ℤ}
 use types.Run.{OneOf, miss}
 use denote.Enum.Declared.{tagOf}
 use Rattle.laws.specs.Cases.{split, clash, cond-true, cond-false}
@@ -22,9 +21,9 @@ use Rattle.manual.specs.Figures.{summed}
 use Rattle.batch.specs.declared.Form.{Form}
 use Rattle.batch.specs.declared.Form.the-variants.{Parts, Refused}
 use Rattle.batch.specs.declared.parts.Part.{Part}
-use Rattle.batch.specs.Batch.{monthIn, countIn, participantAt, figuresAt, formOf}
-use Rattle.batch.specs.FormLaws.{isBatch, Whole, whole}
-use Rattle.batch.specs.Parts.{PartIs, FiguresPut, part-figures}
+use Rattle.batch.specs.Batch.{monthIn, countIn, offsetAt, participantAt, rowsAt, figuresAt, formOf}
+use Rattle.batch.specs.FormLaws.{isBatch, Whole, whole, part-inside}
+use Rattle.batch.specs.Parts.{PartIs}
 use Rattle.file.specs.declared.File.{File}
 use Rattle.file.specs.declared.Settled.{Settled}
 use Rattle.file.specs.declared.Settled.the-variants as Settlements
@@ -151,6 +150,18 @@ settled-is b file e =
     made-is b file (countIn file) (batch-accepted file (partAnswer b file) e .each)
     ∙ sym (cond-true (accepted (answer b (batch file))) (afterParts b file (countIn file)) b e)
 
+-- ---- a batch of n parts
+
+pub few-parts : (file : List ℕ) (n : ℕ) → formOf file ≡ Parts n → n ≤ 64
+few-parts file n form =
+    let w = whole file (ap isBatch form) in
+    omega (arith, w .most, ap partsIn (sym form ∙ w .form))
+
+pub all-inside : (file : List ℕ) (n i : ℕ) → formOf file ≡ Parts n → i < n → offsetAt file i + 2 + 8 * rowsAt file i ≤ length file
+all-inside file n i form h =
+    let w = whole file (ap isBatch form) in
+    part-inside file w i (omega (arith, ap partsIn (sym form ∙ w .form)))
+
 -- ---- one part
 
 -- A settlement that is none of the other cases is refused; one that is has no number.
@@ -166,17 +177,17 @@ unfolding answer
 part-above b file k part is h =
     above-answer b (participantAt file k) (partAct file k) (lt-ltb 63 (participantAt file k) (omega (arith, is .participant)))
 
--- What its settlement answers, by the figures that were read from it.
-pub part-judged : (file : List ℕ) (k : ℕ) (part : Part) (before after : List ℤ) (l : List ℕ) (outside due : Bool) (sum : Sum) (x : Answer)
-    → PartIs file k part → FiguresPut file k before after → part .participant ≤ 63 → outside ≡ outsideMonths (monthOf (todayIn l)) (monthIn file)
-    → due ≡ checkDue (monthOf (todayIn l)) (monthIn file) → sum ≡ summed (take (part .rows - 0) after)
+-- What its settlement answers, by the sum of its figures.
+pub part-judged : (file : List ℕ) (k : ℕ) (part : Part) (l : List ℕ) (outside due : Bool) (sum : Sum) (x : Answer)
+    → PartIs file k part → part .participant ≤ 63 → outside ≡ outsideMonths (monthOf (todayIn l)) (monthIn file)
+    → due ≡ checkDue (monthOf (todayIn l)) (monthIn file) → ((i : ℕ) → PartIs file i part → sum ≡ summed (figuresAt file i))
     → AnswersSettlement l (part .participant) outside due sum x → x ≡ judged (bookOfWords l) file k
 unfolding answer bookOfWords
-part-judged file k part before after l outside due sum x is put low o d s answers =
+part-judged file k part l outside due sum x is low o d s answers =
     let p = participantAt file k in
     let h : p ≤ 63 = omega (arith, is .participant) in
     known-answer (bookOfWords l) p (partAct file k) x (le-ltb 63 p h)
-    (answers (monthIn file) (figuresAt file k) o d (s ∙ ap summed (part-figures file k part before after is put))
+    (answers (monthIn file) (figuresAt file k) o d (s k is)
     ∙ ap (λ (q : ℕ). fileAnswer (fileInWords l q) (todayIn l) (partAct file k)) (is .participant)
     ∙ ap (λ (f : File). fileAnswer f (todayIn l) (partAct file k)) (sym (file-there l p h)))
 
@@ -252,9 +263,9 @@ module _ (b : Book) (file : List ℕ) (n i : ℕ) (answers : List PartAnswer) (j
         ∙ sym (λ j. fileAnswer (fileInWords l (is .participant j)) (todayIn l) (settle (month j) (figuresAt file i)))))
 
 -- What is kept of a part, whatever stands behind the last.
-pub kept-there : (answers : List PartAnswer) (i n : ℕ) (x : PartAnswer) → length answers ≡ 64 → n ≤ 64 → i < n
+pub kept-there : (file : List ℕ) (answers : List PartAnswer) (i n : ℕ) (x : PartAnswer) → length answers ≡ 64 → formOf file ≡ Parts n → i < n
     → getD answers i x .answer ≡ getD answers i noAnswer .answer
-kept-there answers i n x long few h = there answers i (omega arith)
+kept-there file answers i n x long form h = there answers i (omega (arith, few-parts file n form))
   where
     there : (l : List PartAnswer) (k : ℕ) → k < length l → getD l k x .answer ≡ getD l k noAnswer .answer
     there [] k h = absurd (omega arith)
@@ -264,11 +275,6 @@ kept-there answers i n x long few h = there answers i (omega arith)
 -- The form of a file, as it was found.
 pub form-parts : (file : List ℕ) (form : Form) (n : ℕ) → form ≡ formOf file → form ≡ Parts n → formOf file ≡ Parts n
 form-parts file form n e r = sym e ∙ r
-
-pub few-parts : (file : List ℕ) (n : ℕ) → formOf file ≡ Parts n → n ≤ 64
-few-parts file n form =
-    let w = whole file (ap isBatch form) in
-    omega (arith, w .most, ap partsIn (sym form ∙ w .form))
 
 -- The answers, where the batch is accepted.
 pub judged-parts : (b : Book) (file : List ℕ) (n k : ℕ) (answers : List PartAnswer) (r : Loaded)

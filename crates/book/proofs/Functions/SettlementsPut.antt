@@ -7,13 +7,14 @@ use mathlib.Core.Bool.{Bool, true, false, cond, _&&_}
 use mathlib.Core.List.{List, [], _∷_, _++_}
 use borrow.Author.Tests.{leb-false}
 use lib.Dec.{leb}
-use lib.IntN.{ℤ, pos, negsuc, natAbs}
+use lib.IntN.{ℤ, pos, natAbs}
 use lib.ListN.{length, getD, set, length-append, length-set}
 use lib.Signed.{ltZ}
 use mir.Facts.{toZ-ofZ}
 use mir.Syntax.{w64}
 use mir.Val.{SFits}
-use Rattle.laws.specs.Cases.{cond-true, cond-false, clash, and-left, and-right}
+use Rattle.laws.specs.Cases.{cond-true, cond-false, and-left, and-right}
+use Rattle.laws.specs.Integers.{above-natural}
 use Rattle.laws.specs.Read.{read}
 use Rattle.calendar.specs.declared.Day.{Day}
 use Rattle.calendar.specs.declared.Month.{Month}
@@ -75,11 +76,6 @@ called-long l m n us vs i j k v y one two =
     ∙ length-written m j vs
     ∙ ap length (one .0)
     ∙ length-written l i us
-
--- A total that is above an amount is what its magnitude is.
-above-magnitude : (d : ℕ) (e : ℤ) → ltZ (pos d) e ≡ true → pos (natAbs e) ≡ e
-above-magnitude d (pos n) h = refl
-above-magnitude d (negsuc n) h = clash {t = false} h refl
 
 -- An answer that keeps a total and no more.
 abbrev pub keepsTotal : Bool → ℤ → Answer
@@ -208,7 +204,7 @@ module _ (l : List ℕ) (p : ℕ) (w : WellFormed l) (low : p ≤ 63) where
         record {
           calls = said .0;
           few = omega (arith, room, open-count f t s);
-          total = ap pos same ∙ above-magnitude (deposited f t) e above;
+          total = ap pos same ∙ sym (above-natural (deposited f t) e above);
           amount = said .1;
           day = said .2;
         }

@@ -8,10 +8,10 @@ use Rattle.bench.proofs.batches.put_figures.Statement.{statement}
 use Rattle.bench.proofs.batches.put_figures.Tie as tie
 
 abbrev Inv-loop : tie.InvT-loop
-Inv-loop file₀ at i₀ file i = (i ≤ 16) × (length file ≡ length file₀)
+Inv-loop file₀ at participant i₀ file i = (i ≤ 16) × (length file ≡ length file₀)
 
 abbrev μ-loop : tie.MeasureT-loop
-μ-loop file₀ at i₀ file i = 16 - i
+μ-loop file₀ at participant i₀ file i = 16 - i
 
 loop-holds : tie.Need-loop-holds Inv-loop μ-loop
 loop-holds c = search needs
@@ -21,6 +21,9 @@ mul-put-number c = search needs
 
 add-put-number : tie.Need-add-put-number Inv-loop μ-loop
 add-put-number c = search needs
+
+figure-requires : tie.Need-figure-requires Inv-loop μ-loop
+figure-requires c κs = search needs
 
 put-number-requires : tie.Need-put-number-requires Inv-loop μ-loop
 put-number-requires c κs = search needs
@@ -49,6 +52,7 @@ put-figures-spec =
     loop-holds
     mul-put-number
     add-put-number
+    figure-requires
     put-number-requires
     add-i
     loop-less

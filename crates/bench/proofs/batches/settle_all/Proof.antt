@@ -1,4 +1,4 @@
--- `bench::batches::settle_all` meets its contract: it settles 64 times.
+-- `bench::batches::settle_all` meets its contract: the book stays well formed. The measure is the participants left.
 -- Assumes nothing.
 use borrow.Author.Needs.{needs}
 use Prim.Native.Nat.{_-_, _≤_}
@@ -15,8 +15,23 @@ abbrev μ-loop : tie.MeasureT-loop
 loop-holds : tie.Need-loop-holds Inv-loop μ-loop
 loop-holds c = search needs
 
-slice-aggregate-settle : tie.Need-slice-aggregate-settle Inv-loop μ-loop
-slice-aggregate-settle c = search needs
+mul-at : tie.Need-mul-at Inv-loop μ-loop
+mul-at c = search needs
+
+add-end : tie.Need-add-end Inv-loop μ-loop
+add-end c = search needs
+
+mul-settle : tie.Need-mul-settle Inv-loop μ-loop
+mul-settle c = search needs
+
+sub-settle : tie.Need-sub-settle Inv-loop μ-loop
+sub-settle c = search needs
+
+part-settle-start : tie.Need-part-settle-start Inv-loop μ-loop
+part-settle-start c = search needs
+
+part-settle-end : tie.Need-part-settle-end Inv-loop μ-loop
+part-settle-end c = search needs
 
 settle-requires : tie.Need-settle-requires Inv-loop μ-loop
 settle-requires c κs = search needs
@@ -49,7 +64,12 @@ settle-all-spec =
     Inv-loop
     μ-loop
     loop-holds
-    slice-aggregate-settle
+    mul-at
+    add-end
+    mul-settle
+    sub-settle
+    part-settle-start
+    part-settle-end
     settle-requires
     settled-requires
     wrapping-add-u64-requires

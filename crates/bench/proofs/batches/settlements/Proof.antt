@@ -1,4 +1,4 @@
--- `bench::batches::settlements` meets its contract: it settles a month so many times.
+-- `bench::batches::settlements` meets its contract: the book stays well formed. The measure is the rounds left.
 -- Assumes nothing.
 use borrow.Author.Needs.{needs}
 use Prim.Native.Nat.{_-_, _≤_}
@@ -7,10 +7,10 @@ use Rattle.bench.proofs.batches.settlements.Statement.{statement}
 use Rattle.bench.proofs.batches.settlements.Tie as tie
 
 abbrev Inv-loop : tie.InvT-loop
-Inv-loop book₀ month rounds sum₀ i₀ book sum i = (i ≤ rounds) × WellFormed book
+Inv-loop book₀ month figures rounds sum₀ i₀ book sum i = (i ≤ rounds) × WellFormed book
 
 abbrev μ-loop : tie.MeasureT-loop
-μ-loop book₀ month rounds sum₀ i₀ book sum i = rounds - i
+μ-loop book₀ month figures rounds sum₀ i₀ book sum i = rounds - i
 
 loop-holds : tie.Need-loop-holds Inv-loop μ-loop
 loop-holds c = search needs

@@ -13,17 +13,17 @@ use Rattle.file.specs.Settle.{outsideMonths, checkDue}
 use Rattle.layout.specs.Words.{bookOfWords, todayIn}
 use Rattle.book.specs.Batches.{Judges}
 use Rattle.book.proofs.Functions.OnSettlements.{outside-today, due-today}
-use Rattle.book.proofs.Functions.OnBatches.{judges-first, judges-next, judges-all, judge-refused, judge-all}
+use Rattle.book.proofs.Functions.OnBatches.{few-parts, all-inside, judges-first, judges-next, judges-all, judge-refused, judge-all}
 use Rattle.book.proofs.batches.judge.Statement.{statement}
 use Rattle.book.proofs.batches.judge.Tie as tie
 
 abbrev Inv-loop : tie.InvT-loop
-Inv-loop words file parts outside due figures₀ answers₀ i₀ figures answers i =
-    (i ≤ parts) × (parts ≤ 64) × (length figures ≡ 255) × (length answers ≡ 64) × Judges (bookOfWords words) file i answers
+Inv-loop words file parts outside due answers₀ i₀ answers i =
+    (i ≤ parts) × (parts ≤ 64) × (length answers ≡ 64) × Judges (bookOfWords words) file i answers
     × (outside ≡ outsideMonths (monthOf (todayIn words)) (monthIn file)) × (due ≡ checkDue (monthOf (todayIn words)) (monthIn file))
 
 abbrev μ-loop : tie.MeasureT-loop
-μ-loop words file parts outside due figures₀ answers₀ i₀ figures answers i = parts - i
+μ-loop words file parts outside due answers₀ i₀ answers i = parts - i
 
 shared-slice-read-number : tie.Need-shared-slice-read-number Inv-loop μ-loop
 shared-slice-read-number c = search needs
@@ -48,13 +48,10 @@ check-due-requires c κs = search needs
 
 loop-holds : tie.Need-loop-holds Inv-loop μ-loop
 loop-holds c =
-    (search needs, search needs, search needs, search needs, judges-first _ _ _, search (outside-today, needs), search (due-today, needs))
-
-slice-aggregate-part-answer : tie.Need-slice-aggregate-part-answer Inv-loop μ-loop
-slice-aggregate-part-answer c = search needs
+    (search needs, search (few-parts, needs), search needs, judges-first _ _ _, search (outside-today, needs), search (due-today, needs))
 
 part-answer-requires : tie.Need-part-answer-requires Inv-loop μ-loop
-part-answer-requires c κs = search needs
+part-answer-requires c κs = (search needs, search needs, search needs, search (all-inside, needs))
 
 is-settled-requires : tie.Need-is-settled-requires Inv-loop μ-loop
 is-settled-requires c κs = search needs
@@ -83,13 +80,12 @@ loop-less c = search needs
 loop-again : tie.Need-loop-again Inv-loop μ-loop
 loop-again c =
     let settled = c .before in
-    let answered = settled .before .before in
-    let inv = answered .before .before .before .loop .inv in (
+    let answered = settled .before in
+    let inv = answered .before .before .loop .inv in (
       search needs,
       inv .1,
       search needs,
-      search needs,
-      judges-next _ _ _ _ _ _ (inv .4) (search needs) (answered .part-answer .ensures) (settled .is-settled .ensures) (search (not-false, needs)),
+      judges-next _ _ _ _ _ _ (inv .3) (search needs) (answered .part-answer .ensures) (settled .is-settled .ensures) (search (not-false, needs)),
       search needs,
       search needs,
     )
@@ -111,7 +107,6 @@ judge-spec =
     month-requires-2
     check-due-requires
     loop-holds
-    slice-aggregate-part-answer
     part-answer-requires
     is-settled-requires
     refusal-requires

@@ -1,12 +1,12 @@
 -- `book::batches::load_parts` meets its contract: a refused part leaves every word, and where there is none all are settled.
 -- Assumes nothing.
 use borrow.Author.Needs.{needs}
-use Rattle.book.proofs.Functions.OnBatches.{few-parts, judged-parts, load-refused, load-settled}
+use Rattle.book.proofs.Functions.OnBatches.{judged-parts, load-refused, load-settled}
 use Rattle.book.proofs.batches.load_parts.Statement.{statement}
 use Rattle.book.proofs.batches.load_parts.Tie as tie
 
 judge-requires : tie.Need-judge-requires
-judge-requires c κs = (search needs, search (few-parts, needs))
+judge-requires c κs = search needs
 
 enum-known-loaded : tie.Need-enum-known-loaded
 enum-known-loaded c = search needs
@@ -15,7 +15,7 @@ enum-known-loaded-2 : tie.Need-enum-known-loaded-2
 enum-known-loaded-2 c = search needs
 
 put-parts-requires : tie.Need-put-parts-requires
-put-parts-requires c κs = (search needs, search needs, search (few-parts, needs), search (judged-parts, needs))
+put-parts-requires c κs = (search needs, search needs, search (judged-parts, needs))
 
 same-length : tie.Need-same-length
 same-length c = search needs

@@ -8,19 +8,19 @@ use Rattle.laws.specs.Lists.{length-unmap}
 use Rattle.layout.specs.Words.{bookOfWords}
 use Rattle.layout.specs.WellFormed.{WellFormed}
 use Rattle.book.specs.Batches.{madeParts}
-use Rattle.book.proofs.Functions.OnBatches.{made-first, made-all, same-words, part-low, part-given, kept-there, made-next}
+use Rattle.book.proofs.Functions.OnBatches.{few-parts, made-first, made-all, same-words, part-low, part-given, kept-there, made-next}
 use Rattle.book.proofs.batches.put_parts.Statement.{statement}
 use Rattle.book.proofs.batches.put_parts.Tie as tie
 
 abbrev Inv-loop : tie.InvT-loop
 Inv-loop words₀ file parts answers i₀ words i =
-    (i ≤ parts) × (length answers ≡ 64) × WellFormed words × (bookOfWords words ≡ madeParts (bookOfWords words₀) file i)
+    (i ≤ parts) × (parts ≤ 64) × (length answers ≡ 64) × WellFormed words × (bookOfWords words ≡ madeParts (bookOfWords words₀) file i)
 
 abbrev μ-loop : tie.MeasureT-loop
 μ-loop words₀ file parts answers i₀ words i = parts - i
 
 loop-holds : tie.Need-loop-holds Inv-loop μ-loop
-loop-holds c = (search needs, search (length-unmap, needs), search needs, made-first _ _)
+loop-holds c = (search needs, search (few-parts, needs), search (length-unmap, needs), search needs, made-first _ _)
 
 part-at-requires : tie.Need-part-at-requires Inv-loop μ-loop
 part-at-requires c κs = search needs
@@ -54,9 +54,9 @@ loop-again c =
     let loop = part .before .before in
     let start = loop .before .before .before in
     let made =
-    part-given _ _ _ _ _ (start .pre .3) (search needs) _ (part .part-at .ensures) (start .pre .1) _ (loop .loop .inv .3) _ _ _
-    (month .month .ensures) (kept-there (start .args .t4) (loop .loop .i) (start .args .parts) _ (loop .loop .inv .1) (start .pre .2) (search needs)) (put .put-settled .ensures) in
-    (search needs, loop .loop .inv .1, made .formed, made-next _ _ _ _ _ _ (loop .loop .inv .3) made)
+    part-given _ _ _ _ _ (start .pre .2) (search needs) _ (part .part-at .ensures) (start .pre .1) _ (loop .loop .inv .4) _ _ _
+    (month .month .ensures) (kept-there _ (start .args .t4) (loop .loop .i) (start .args .parts) _ (loop .loop .inv .2) (start .pre .1) (search needs)) (put .put-settled .ensures) in
+    (search needs, loop .loop .inv .1, loop .loop .inv .2, made .formed, made-next _ _ _ _ _ _ (loop .loop .inv .4) made)
 
 same-length : tie.Need-same-length Inv-loop μ-loop
 same-length c = search (same-words, needs)
