@@ -115,7 +115,7 @@ def kind(word):
 def file(word):
     """The bytes of a batch."""
     if not HEXADECIMAL.fullmatch(word):
-        raise Fault('not hexadecimal digits, two for each byte')
+        raise Fault('not two hexadecimal digits for each byte')
     return bytes.fromhex(word.decode())
 
 
@@ -362,9 +362,9 @@ class Kept(Filter):
         self.any |= call[0] not in QUESTIONS
 
     def found(self, data):
-        """The same for a journal that is to be kept: a rest is given to be dropped only behind a complete line, and if it is not too long."""
+        """The same for a journal that is to be kept: a rest is given to be dropped only behind a kept call, and if it is not too long."""
         rest, lines = self.replay(data), data.count(b'\n')
-        if rest and (not lines or len(rest) > DROPPED):
+        if rest and (not self.any or len(rest) > DROPPED):
             raise Stop(f'line {lines + 1}: line without newline')
         return rest
 

@@ -614,7 +614,7 @@ def batch_lines(place):
 @case
 def journal_with_a_refused_batch(place):
     """A batch in a journal that is refused or no call stops the ledger with nothing changed."""
-    for line, said in ((b'batch', 'refused 20 0'), (b'batch 0', 'error 2 not hexadecimal digits, two for each byte'),
+    for line, said in ((b'batch', 'refused 20 0'), (b'batch 0', 'error 2 not two hexadecimal digits for each byte'),
                        (batch_line(month_file(11, (0, [1] * 5)))[:-1], 'refused 12 0'), (b'batch 00 00', 'error 2 too many words')):
         place.put(b'admit 0 3\n' + line + b'\nadmit 1 3\n')
         refuses(place, place.path, texts=[f'ledger: {place.path}: line 2: {said}\n'.encode()])
@@ -677,10 +677,11 @@ def torn_journal(place):
 
 @case
 def rest_that_is_not_dropped(place):
-    """A rest with no complete line before it, or of more bytes than are dropped, stops the ledger with nothing changed."""
+    """A rest with no kept call before it, or of more bytes than are dropped, stops the ledger with nothing changed."""
     more = ledger.DROPPED + 1
     for journal, rest in ((b'', b'admit 0 0'), (b'', b'a'), (b'', b'x' * 200000), (b'admit 0 0\n', b'x' * more), (b'admit 0 0\n', b'y' * 65536),
-                          (b'admit 0 0\nadmit 1 0\n', b'z' * 200000), (b'', ledger.MARK + b'admit 0 0')):
+                          (b'admit 0 0\nadmit 1 0\n', b'z' * 200000), (b'', ledger.MARK + b'admit 0 0'), (b'\n', b'admit 0 0'),
+                          (b'# a comment\n', b'admit 0 0'), (b' \r\n\n', b'a'), (b'calls\nreport\n', b'admit 0 0')):
         place.put(journal + rest)
         refuses(place, place.path, texts=[f'ledger: {place.path}: line {journal.count(10) + 1}: '.encode()])
 
@@ -704,6 +705,18 @@ def file_that_is_no_journal(place):
                  b'1;2;3\n' * 9000):
         place.put(data)
         refuses(place, place.path, texts=[f'ledger: {place.path}: line 1: '.encode()])
+
+
+@case
+def month_file_that_is_no_journal(place):
+    """A month's file or its table given by mistake as the journal is left as it is, whatever bytes it begins with."""
+    for month, people in ((10, (0,)), (35, range(12)), (35, (10,)), (2570, (3,)), (9, (10,))):
+        place.put(month_file(month, *((p, [100, 200, 300, 400, 500]) for p in people)))
+        refuses(place, place.path, texts=[f'ledger: {place.path}: line '.encode()])
+    for table in (b'# January\n0,600000,0,250000,2000000,150000', b'\n0,1,2,3,4,5', b'# January\r\n\r\n1,2', b'#\n#'):
+        place.put(table)
+        refuses(place, place.path, texts=[f'ledger: {place.path}: line '.encode()])
+        refuses(place, '--read', place.path, texts=[f'ledger: {place.path}: line '.encode()])
 
 
 @case
@@ -1365,7 +1378,7 @@ def journal_that_is_a_stream(place):
 @case
 def read(place):
     """--read answers questions, and every change as one; nothing is made or changed."""
-    for journal in (b'', due(CALLS)[1], CALLS[:7], ledger.MARK + b'admit 0 0\n', many(3000)):
+    for journal in (b'', due(CALLS)[1], due(CALLS)[1] + CALLS[:3], ledger.MARK + b'admit 0 0\n', many(3000)):
         place.put(journal)
         reads(place, CALLS)
         reads(place, b'report\n' + CALLS + b'fresh 99999\n', '--end', end=True)
@@ -1395,7 +1408,7 @@ def read_a_torn_journal(place):
         before = snapshot(place.folder)
         same('the answers', place.run('--read', place.path, data=b'report\n')[0], due(b'report\n', b'admit 0 0\n')[0])
         same('the files', snapshot(place.folder), before)
-    for journal in (b'admit 0 0\n' + b'x' * (ledger.DROPPED + 1), b'admit 0 0\n' + b'x' * 200000, b'no journal'):
+    for journal in (b'admit 0 0\n' + b'x' * (ledger.DROPPED + 1), b'admit 0 0\n' + b'x' * 200000, b'no journal', b'# a comment\nadm'):
         place.put(journal)
         refuses(place, '--read', place.path, texts=[f'ledger: {place.path}: line {journal.count(10) + 1}: '.encode()])
 

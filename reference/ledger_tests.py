@@ -649,22 +649,22 @@ statement 1                             #= statement 5000000000 0 5000000000 1 5
 statement 2                             #= statement 8 0 8 1 100000000
 statement 63                            #= statement 0 0 0 0 0
 # The line of a batch: one word of hexadecimal digits, or none.
-batch 0                                 #= error not hexadecimal digits, two for each byte
-batch 180                               #= error not hexadecimal digits, two for each byte
-batch 18g0                              #= error not hexadecimal digits, two for each byte
-batch 18G0                              #= error not hexadecimal digits, two for each byte
-batch 0x18                              #= error not hexadecimal digits, two for each byte
-batch -18                               #= error not hexadecimal digits, two for each byte
-batch -1                                #= error not hexadecimal digits, two for each byte
-batch 1/                                #= error not hexadecimal digits, two for each byte | the byte before 0
-batch 1:                                #= error not hexadecimal digits, two for each byte | the byte after 9
-batch 1@                                #= error not hexadecimal digits, two for each byte | the byte before A
-batch `1                                #= error not hexadecimal digits, two for each byte | the byte before a
-batch \xff\xff                          #= error not hexadecimal digits, two for each byte
-batch 2022-01                           #= error not hexadecimal digits, two for each byte
+batch 0                                 #= error not two hexadecimal digits for each byte
+batch 180                               #= error not two hexadecimal digits for each byte
+batch 18g0                              #= error not two hexadecimal digits for each byte
+batch 18G0                              #= error not two hexadecimal digits for each byte
+batch 0x18                              #= error not two hexadecimal digits for each byte
+batch -18                               #= error not two hexadecimal digits for each byte
+batch -1                                #= error not two hexadecimal digits for each byte
+batch 1/                                #= error not two hexadecimal digits for each byte | the byte before 0
+batch 1:                                #= error not two hexadecimal digits for each byte | the byte after 9
+batch 1@                                #= error not two hexadecimal digits for each byte | the byte before A
+batch `1                                #= error not two hexadecimal digits for each byte | the byte before a
+batch \xff\xff                          #= error not two hexadecimal digits for each byte
+batch 2022-01                           #= error not two hexadecimal digits for each byte
 batch 1800 0100                         #= error too many words
 batch 18 x                              #= error too many words
-batch 1 2                               #= error not hexadecimal digits, two for each byte | the first fault from the left
+batch 1 2                               #= error not two hexadecimal digits for each byte | the first fault from the left
 batch \x00                              #= error a control byte
 batch 18\x7f                            #= error a control byte
 Batch 18                                #= error no such call
@@ -757,7 +757,7 @@ batch {0c00 0100 0c000000 2a000000 0605 <5>}  #= refused 12 0
 batch {0b00 0100 0c000000 2a000000 0604 <5>}  #= refused 22 0
 batch {0b00 0100 0c000000 2b000000 0605 <5>}  #= refused 21 0
 batch                                            #= refused 20 0
-batch 0b0                                        #= error not hexadecimal digits, two for each byte
+batch 0b0                                        #= error not two hexadecimal digits for each byte
 batch 0b 00                                      #= error too many words
 calls                                            #= calls 7
 special 3 0126 +4 0                              #= error not a number
@@ -1066,7 +1066,7 @@ def main():
         kinds[key] = kinds.get(key, 0) + 1
     due = [f'refused {n}' for n in range(1, 20)] + [f'refused {n} at a pair' for n in (1, 2, 10, 11, 12, 13, 20, 21, 22)] + [
         'a control byte', 'no such call', 'too few words', 'too many words', 'not a number', 'not a day', 'not a month', 'not a role',
-        'neither cash nor letter', 'line too long', 'not hexadecimal digits, two for each byte',
+        'neither cash nor letter', 'line too long', 'not two hexadecimal digits for each byte',
         'batch', 'done', 'called', 'covered', 'recorded', 'annual', 'opened', 'statement', 'calls', 'special', 'report']
     print(f'filter: {stdin.count(10) + 1} lines, {len(stdin)} bytes; {stdout.count(10)} lines of answers, {len(stdout)} bytes')
     print('answers: ' + ', '.join(f'{key}: {kinds.get(key, 0)}' for key in due))

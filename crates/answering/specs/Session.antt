@@ -19,7 +19,7 @@ unfoldable pub bookOf : List Asked → Book
 bookOf [] = freshBook 0
 bookOf (a ∷ before) = bookAfter (bookOf before) a
 
--- The day of the latest fresh book, and the calls of paper 01 since.
+-- The day of the latest fresh book, and the calls of the papers since.
 pub record Since : Type 0 where
   pub start : ℕ
   pub calls : List Call

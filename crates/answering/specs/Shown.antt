@@ -7,7 +7,7 @@ use Rattle.printing.specs.declared.Answer.{Answer}
 
 -- The answer of the journal for each answer of the book:
 -- "done | refused N | called E ASKED LAST_FREE_DAY | covered E | recorded E | annual AMOUNT MONTHS | opened DAYS
--- | statement FIRM COVER SHORTFALL DAYS_CHARGED MILLS | calls N"; and those of paper 02, Ask 1: "batch N | refused NUMBER INDEX".
+-- | statement FIRM COVER SHORTFALL DAYS_CHARGED MILLS | calls N"; and of a batch `batch N` and `refused NUMBER INDEX`.
 abbrev pub shown : Said.Answer → Answer
 shown (Said.refused n) = Answer.Refused n
 shown Said.done = Answer.Done

@@ -4,7 +4,7 @@ use Prim.Native.Nat.{ℕ, suc, _+_, _*_, _-_, _≤_, _<_, min}
 use native.Mathlib.Omega.{arith}
 use native.Mathlib.Numerals.{add-one}
 use mathlib.Core.Path.{_≡_, refl, sym, ap, ap₂, _∙_}
-use mathlib.Core.Bool.{Bool, true, false, not, _&&_, _||_, or-assoc}
+use mathlib.Core.Bool.{Bool, true, false, not, _&&_, _||_}
 use mathlib.Core.List.{List}
 use borrow.Author.Tests.{lt-ltb, le-ltb, le-leb, lt-leb, eq-eqb, ne-eqb, eqb-true, eqb-false, not-false, leb-true}
 use lib.Dec.{ltb, leb, eqb}
@@ -17,9 +17,9 @@ use Rattle.laws.specs.Places.{getD-same}
 use Rattle.batch.specs.declared.Form.{Form}
 use Rattle.batch.specs.declared.Form.the-variants.{Parts, Refused}
 use Rattle.batch.specs.declared.parts.Part.{Part}
-use Rattle.batch.specs.Batch.{countIn, offsetAt, lengthAt, endAt, beginsAt, participantAt, rowsAt, tooShort}
-use Rattle.batch.specs.Batch.{misplaced, firstMisplaced, notFollowing, isBefore, wrongPart, firstWrong, refusedIf, formOf}
-use Rattle.batch.specs.Parts.{PartIs, wrongLength}
+use Rattle.batch.specs.Batch.{countIn, offsetAt, lengthAt, endAt, beginsAt, participantAt, tooShort}
+use Rattle.batch.specs.Batch.{misplaced, firstMisplaced, notFollowing, isBefore, wrongLength, wrongPart, firstWrong, refusedIf, formOf}
+use Rattle.batch.specs.Parts.{PartIs}
 
 -- ---- cause 20
 
@@ -126,10 +126,8 @@ seen-next file i p seen s e h =
 
 -- Whether a part is wrong: its length, or its participant.
 wrong-of : (file : List ℕ) (i : ℕ) (t u : Bool) → t ≡ wrongLength file i → u ≡ isBefore file i (participantAt file i) → (t || u) ≡ wrongPart file i
-unfolding wrongLength wrongPart
-wrong-of file i t u e f =
-    ap₂ _||_ e f
-    ∙ or-assoc (ltb (lengthAt file i) 2) (not (eqb (lengthAt file i) (2 + 8 * rowsAt file i))) (isBefore file i (participantAt file i))
+unfolding wrongPart
+wrong-of file i t u e f = ap₂ _||_ e f
 
 pub wrong-length : (file : List ℕ) (n i : ℕ) (t : Bool) → n ≡ countIn file → i < n → Passed (wrongPart file) i → t ≡ wrongLength file i → t ≡ true
     → i ≡ firstWrong file

@@ -10,16 +10,13 @@ use mir.Val.{SFits, toZ, ofZ}
 use lib.Dec.{leb, ltb}
 use lib.IntN.{ℤ, pos, natAbs, _+ℤ_}
 use lib.ListN.{length, getD}
-use Rattle.laws.specs.Lists.{table}
 use Rattle.laws.specs.Read.{read}
 use Rattle.laws.specs.Tabulated.{length-table, getD-table}
-use Rattle.manual.specs.declared.Sum.{Sum}
 use Rattle.manual.specs.declared.Sum.the-variants.{Total, Refused}
 use Rattle.manual.specs.Figures.{bound, summed}
 use Rattle.manual.proofs.Sums.{SoFar, wrong-number, out-of-range, sum-fits, sum-again, sum-ends}
-use Rattle.batch.specs.declared.parts.Part.{Part}
 use Rattle.batch.specs.Bytes.{numberAt, signedOf}
-use Rattle.batch.specs.Batch.{offsetAt, participantAt, rowsAt, figuresAt}
+use Rattle.batch.specs.Batch.{offsetAt, participantAt, rowsAt, figuresBehind}
 use Rattle.batch.specs.Parts.{partOf, PartIs}
 
 -- A part, from its offset and its two bytes.
@@ -40,30 +37,21 @@ part-is file i p r o e f g h l =
 
 -- ---- the figures
 
--- So many figures, the first of them at a place.
-abbrev pub figuresFrom : List ℕ → (first rows : ℕ) → List ℤ
-figuresFrom file first rows = table rows (λ k. signedOf (numberAt file (first + 8 * k) 8))
-
--- Those of a part.
-part-figures : (file : List ℕ) (i : ℕ) (part : Part) (first rows : ℕ) → PartIs file i part → first ≡ part .offset + 2 → rows ≡ part .rows
-    → figuresFrom file first rows ≡ figuresAt file i
-unfolding figuresAt
-part-figures file i part first rows is e q =
-    λ j. figuresFrom file ((e ∙ ap (λ (o : ℕ). o + 2) (is .offset)) j) ((q ∙ is .rows) j)
-
-module _ (file : List ℕ) (first rows : ℕ) where
+module _ (file : List ℕ) (offset rows : ℕ) where
   abbrev l : List ℤ
-  l = figuresFrom file first rows
+  l = figuresBehind file offset rows
 
   long : length l ≡ rows
-  long = length-table rows (λ k. signedOf (numberAt file (first + 8 * k) 8))
+  unfolding figuresBehind
+  long = length-table rows (λ k. signedOf (numberAt file (offset + 2 + 8 * k) 8))
 
   -- The figure at k, as the code reads it, and whether it is within its bound.
-  module _ (k w s : ℕ) (r : ℤ) (t : Bool) (h : k < rows) (few : rows ≤ 16) (word : w ≡ numberAt file (first + 8 * k) 8) (figure : r ≡ signedOf w)
+  module _ (k w s : ℕ) (r : ℤ) (t : Bool) (h : k < rows) (few : rows ≤ 16) (word : w ≡ numberAt file (offset + 2 + 8 * k) 8) (figure : r ≡ signedOf w)
       (fits : SFits w64 r) (said : t ≡ leb (natAbs (read r)) bound) (inv : SoFar l s k) where
     figure-is : r ≡ getD l k (pos 0)
+    unfolding figuresBehind
     figure-is =
-        figure ∙ ap signedOf word ∙ sym (getD-table rows (λ k. signedOf (numberAt file (first + 8 * k) 8)) k (pos 0) h)
+        figure ∙ ap signedOf word ∙ sym (getD-table rows (λ k. signedOf (numberAt file (offset + 2 + 8 * k) 8)) k (pos 0) h)
 
     there : SFits w64 (getD l k (pos 0))
     there = subst (SFits w64) figure-is fits
@@ -89,8 +77,3 @@ module _ (file : List ℕ) (first rows : ℕ) where
 
   pub part-wrong : (t : Bool) → t ≡ (ltb rows 5 || ltb 16 rows) → t ≡ true → Refused 10 ≡ summed l
   part-wrong t said h = wrong-number t rows said l (sym long) h
-
--- What is found of the figures is found of the part's.
-pub part-summed : (file : List ℕ) (part : Part) (first rows : ℕ) (r : Sum) → first ≡ part .offset + 2 → rows ≡ part .rows
-    → r ≡ summed (figuresFrom file first rows) → (i : ℕ) → PartIs file i part → r ≡ summed (figuresAt file i)
-part-summed file part first rows r e q h i is = h ∙ ap summed (part-figures file i part first rows is e q)

@@ -44,8 +44,12 @@ participantAt file i = getD file (offsetAt file i) 0
 unfoldable pub rowsAt : List ℕ → ℕ → ℕ
 rowsAt file i = getD file (offsetAt file i + 1) 0
 
+-- .. so many figures, behind the first two bytes of the part at an offset.
+unfoldable pub figuresBehind : List ℕ → (offset rows : ℕ) → List ℤ
+figuresBehind file offset rows = table rows (λ k. signedOf (numberAt file (offset + 2 + 8 * k) 8))
+
 unfoldable pub figuresAt : List ℕ → ℕ → List ℤ
-figuresAt file i = table (rowsAt file i) (λ k. signedOf (numberAt file (offsetAt file i + 2 + 8 * k) 8))
+figuresAt file i = figuresBehind file (offsetAt file i) (rowsAt file i)
 
 -- Cause 20: "file too short for its pairs or n outside 1 to 64".
 unfoldable pub tooShort : List ℕ → Bool
@@ -70,10 +74,11 @@ isBefore file zero p = false
 isBefore file (suc i) p = eqb (participantAt file i) p || isBefore file i p
 
 -- ".. so its length is 2 + 8 × r", r being in the part only where that has two bytes.
+unfoldable pub wrongLength : List ℕ → ℕ → Bool
+wrongLength file i = ltb (lengthAt file i) 2 || not (eqb (lengthAt file i) (2 + 8 * rowsAt file i))
+
 unfoldable pub wrongPart : List ℕ → ℕ → Bool
-wrongPart file i =
-    ltb (lengthAt file i) 2
-    || (not (eqb (lengthAt file i) (2 + 8 * rowsAt file i)) || isBefore file i (participantAt file i))
+wrongPart file i = wrongLength file i || isBefore file i (participantAt file i)
 
 unfoldable pub firstWrong : List ℕ → ℕ
 firstWrong file = least (wrongPart file) (countIn file)

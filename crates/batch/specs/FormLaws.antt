@@ -3,7 +3,7 @@
 use Prim.Native.Nat.{ℕ, zero, suc, _+_, _*_, _<_, _≤_, _-_, min}
 use native.Mathlib.Omega.{arith}
 use mathlib.Core.Path.{_≡_, refl, sym, ap, _∙_}
-use mathlib.Core.Bool.{Bool, true, false, not, _&&_, _||_}
+use mathlib.Core.Bool.{Bool, true, false, not, _&&_}
 use mathlib.Core.List.{List}
 use lib.Dec.{leb, ltb, eqb}
 use borrow.Author.Tests.{leb-true, ltb-true, ltb-false, eqb-true, eqb-false}
@@ -14,9 +14,9 @@ use Rattle.laws.specs.Least.{NoneBelow, none-below}
 use Rattle.batch.specs.declared.Form.{Form}
 use Rattle.batch.specs.declared.Form.the-variants.{Parts, Refused}
 use Rattle.batch.specs.Batch.{countIn, offsetAt, lengthAt, endAt, beginsAt, participantAt, rowsAt, tooShort}
-use Rattle.batch.specs.Batch.{misplaced, firstMisplaced, notFollowing, isBefore, wrongPart, firstWrong, refusedIf, formOf}
+use Rattle.batch.specs.Batch.{misplaced, firstMisplaced, notFollowing, isBefore, wrongLength, wrongPart, firstWrong, refusedIf, formOf}
 
--- Whether a form is a batch, and how many parts it has.
+-- Whether a form is a batch.
 abbrev pub isBatch : Form → Bool
 isBatch (Parts n) = true
 isBatch (Refused n i) = false
@@ -81,30 +81,33 @@ pub participants-differ : (file : List ℕ) → Whole file → (i j : ℕ) → i
     → participantAt file i ≡ participantAt file j → ⊥
 unfolding wrongPart
 participants-differ file w i j h k =
-    let short = ltb (lengthAt file j) 2 in
-    let long = not (eqb (lengthAt file j) (2 + 8 * rowsAt file j)) in
-    let twice = isBefore file j (participantAt file j) in
-    not-before file i j (participantAt file j) h (or-second long twice (or-second short (long || twice) (w .right j k)))
+    not-before file i j (participantAt file j) h (or-second (wrongLength file j) (isBefore file j (participantAt file j)) (w .right j k))
 
 -- ---- a part lies in the file
 
+-- Where part i begins, and its length.
+pub part-begins : (file : List ℕ) → Whole file → (i : ℕ) → i < countIn file → offsetAt file i ≡ beginsAt file i
+unfolding misplaced
+part-begins file w i h = eqb-true (offsetAt file i) (beginsAt file i) (not-not _ (w .follows i h))
+
+pub part-long : (file : List ℕ) → Whole file → (i : ℕ) → i < countIn file → lengthAt file i ≡ 2 + 8 * rowsAt file i
+unfolding wrongPart wrongLength
+part-long file w i h =
+    eqb-true (lengthAt file i) (2 + 8 * rowsAt file i) (not-not _ (or-second (ltb (lengthAt file i) 2) _ (or-first _ _ (w .right i h))))
+
 -- Each part begins where the one before it ended, so that it ends no earlier.
 ends-grow : (file : List ℕ) → Whole file → (i j : ℕ) → i + j < countIn file → endAt file i ≤ endAt file (i + j)
-unfolding misplaced endAt beginsAt
+unfolding endAt beginsAt
 ends-grow file w i zero h = let e : i + 0 ≡ i = omega arith in rw e (omega arith)
 ends-grow file w i (suc j) h =
     let next : i + suc j ≡ suc (i + j) = omega arith in
-    let begins : offsetAt file (suc (i + j)) ≡ endAt file (i + j) =
-    eqb-true (offsetAt file (suc (i + j))) (beginsAt file (suc (i + j))) (not-not _ (w .follows (suc (i + j)) (omega arith))) in
-    rw next (omega (arith, ends-grow file w i j (omega arith), begins))
+    rw next (omega (arith, ends-grow file w i j (omega arith), part-begins file w (suc (i + j)) (omega arith)))
 
 -- A part with its figures ends within the file, so that no byte outside is read.
 pub part-inside : (file : List ℕ) → Whole file → (i : ℕ) → i < countIn file → offsetAt file i + 2 + 8 * rowsAt file i ≤ length file
-unfolding wrongPart endAt
+unfolding endAt
 part-inside file w i h =
     let last = ends-grow file w i (countIn file - 1 - i) (omega arith) in
     let there : i + (countIn file - 1 - i) ≡ countIn file - 1 = omega arith in
     let end : endAt file (i + (countIn file - 1 - i)) ≡ length file = ap (endAt file) there ∙ w .ends in
-    let long =
-    eqb-true (lengthAt file i) (2 + 8 * rowsAt file i) (not-not _ (or-first _ _ (or-second (ltb (lengthAt file i) 2) _ (w .right i h)))) in
-    omega arith
+    omega (arith, part-long file w i h)

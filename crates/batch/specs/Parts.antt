@@ -1,11 +1,9 @@
 -- One part of a file as a record, and what the functions on it leave. Paper 02, Ask 1.
 -- Assumes nothing.
-use Prim.Native.Nat.{ℕ, _+_, _*_, _≤_, _<_}
+use Prim.Native.Nat.{ℕ, _≤_, _<_}
 use mathlib.Core.Path.{_≡_}
-use mathlib.Core.Bool.{Bool, not, _||_}
 use mathlib.Core.List.{List}
-use lib.Dec.{ltb, eqb}
-use Rattle.batch.specs.Batch.{offsetAt, lengthAt, participantAt, rowsAt}
+use Rattle.batch.specs.Batch.{offsetAt, participantAt, rowsAt}
 use Rattle.batch.specs.declared.parts.Part.{Part}
 
 -- "Each part holds a participant (1 byte), a row count r (1 byte)": the part of pair i.
@@ -20,7 +18,3 @@ pub record PartIs (file : List ℕ) (i : ℕ) (part : Part) : Type 0 where
   pub offset : part .offset ≡ offsetAt file i
   pub few : part .rows ≤ 255
   pub low : part .offset < 4294967296
-
--- "a wrong part length": the first of what cause 22 names.
-unfoldable pub wrongLength : List ℕ → ℕ → Bool
-wrongLength file i = ltb (lengthAt file i) 2 || not (eqb (lengthAt file i) (2 + 8 * rowsAt file i))

@@ -1,10 +1,10 @@
-// Numbers in the bytes of a file, least byte first. Where a byte is asked for that is behind the end, it counts as 0.
+// Numbers in the bytes of a file, least byte first. A byte behind the end counts as 0, where a function does not ask that its bytes are there.
 ghost use mathlib.Core.Path.{_≡_};
 ghost use Prim.Native.Nat.{_+_, _<_, _≤_, _^_};
 ghost use lib.ListN.{length, getD};
 ghost use Rattle.batch.specs.Bytes.{numberAt, signedOf};
 
-// The number of those that a signed number of 64 bits can be from 0 on, and the largest of 64 bits.
+// 2^63, from which on 64 bits are a number below 0, and the largest number of 64 bits.
 const HALF: u64 = 9_223_372_036_854_775_808;
 
 const LARGEST: u64 = 18_446_744_073_709_551_615;

@@ -1,7 +1,6 @@
 // Whether a file is a batch: its three causes of refusal, in their order.
 ghost use mathlib.Core.Path.{_≡_};
-ghost use Rattle.batch.specs.Batch.{tooShort, misplaced as Batch·misplaced, firstMisplaced, firstWrong, formOf};
-ghost use Rattle.batch.specs.Parts.{wrongLength};
+ghost use Rattle.batch.specs.Batch.{tooShort, misplaced as Batch·misplaced, firstMisplaced, wrongLength, firstWrong, formOf};
 use crate::Form;
 use crate::pairs::begins_at;
 use crate::pairs::count;

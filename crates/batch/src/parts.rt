@@ -1,9 +1,9 @@
 // One part of a file: its participant, its row count and where it begins; and the sum of its figures.
 ghost use mathlib.Core.Path.{_≡_};
-ghost use Prim.Native.Nat.{ℕ, _+_, _*_, _≤_};
+ghost use Prim.Native.Nat.{_+_, _*_, _≤_};
 ghost use lib.ListN.{length};
 ghost use Rattle.manual.specs.Figures.{summed};
-ghost use Rattle.batch.specs.Batch.{figuresAt};
+ghost use Rattle.batch.specs.Batch.{figuresBehind};
 ghost use Rattle.batch.specs.Parts.{PartIs};
 use crate::bytes::byte_at;
 use crate::bytes::eight_at;
@@ -37,17 +37,17 @@ pub fn part_in(file: &[u8], at: u32) -> Part
 // The sum of the figures of a part that lies in the file, or the first of the causes 10 and 11 that holds.
 pub fn sum_part(file: &[u8], part: Part) -> Sum
     requires { ⌜ part .offset + 2 + 8 * part .rows ≤ length (now file) ⌝ }
-    ensures { λ r. ⌜ ((i : ℕ) → PartIs (now (file .entry)) i part → r ≡ summed (figuresAt (now (file .entry)) i)) ⌝ }
+    ensures { λ r. ⌜ r ≡ summed (figuresBehind (now (file .entry)) (part .offset) (part .rows)) ⌝ }
 {
     let rows = part.rows;
     if wrong_count(rows) {
         return Sum::Refused(10);
     }
-    let first = part.offset + 2;
+    let offset = part.offset;
     let mut total: i64 = 0;
     let mut i = 0;
     while i < rows {
-        let figure = signed(eight_at(file, first + 8 * i));
+        let figure = signed(eight_at(file, offset + 2 + 8 * i));
         if !within(figure) {
             return Sum::Refused(11);
         }

@@ -1,4 +1,4 @@
--- The book's account of paper 01, 'The calls': what each call answers, and the book that it leaves, from the book that it finds.
+-- The book's account of paper 01, 'The calls', and of paper 02: what each call answers, and the book that it leaves, from the book that it finds.
 -- Assumes nothing.
 use Prim.Native.Nat.{ℕ, zero, suc, _+_, _-_, min}
 use mathlib.Core.Bool.{cond, not, _||_}

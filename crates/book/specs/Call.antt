@@ -1,4 +1,4 @@
--- The calls of paper 01, with their arguments, and the answers that the book's enums stand for.
+-- The calls of papers 01 and 02, with their arguments, and the answers that the book's enums stand for.
 -- Assumes nothing.
 use Prim.Native.Nat.{ℕ}
 use mathlib.Core.List.{List}

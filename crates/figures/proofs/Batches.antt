@@ -28,8 +28,8 @@ use Rattle.book.specs.Reading.Holdings.{lastLodged, releasedSince, leftAt, posi
 use Rattle.book.specs.Reading.Months.{totalIn, yearsTotals, annualIn, nextIn}
 use Rattle.laws.specs.Least.{least}
 use Rattle.batch.specs.Bytes.{numberAt, signedOf}
-use Rattle.batch.specs.Batch.{monthIn, countIn, offsetAt, lengthAt, endAt, beginsAt, participantAt, rowsAt, figuresAt, tooShort}
-use Rattle.batch.specs.Batch.{misplaced, firstMisplaced, notFollowing, isBefore, wrongPart, firstWrong, refusedIf, formOf}
+use Rattle.batch.specs.Batch.{monthIn, countIn, offsetAt, lengthAt, endAt, beginsAt, participantAt, rowsAt, figuresBehind, figuresAt, tooShort}
+use Rattle.batch.specs.Batch.{misplaced, firstMisplaced, notFollowing, isBefore, wrongLength, wrongPart, firstWrong, refusedIf, formOf}
 use Rattle.book.specs.Call.{firstRefused, batchSays}
 use Rattle.book.specs.Account.{afterParts, partAnswer}
 use Rattle.book.specs.Reading.Decisions.{partDecision, withParts}
@@ -46,8 +46,8 @@ unfolding decide larger sumOf leap lengthIn lengthOf firstDay holding monthOf da
     applied step run baseIn firmFrom openOn calledIn callsIn firmIn openIn before openingShortfall daysSince countShort sumCharges chargedIn
     accruedIn settlementAnswer ownCauses ownAnswer ownStatement callsBelow decision withCall eventsOf mine todayOf withDays admittedIn
     roleIn lastLodged releasedSince leftAt positionIn lodgedOn releasedOn coverIn totalIn yearsTotals annualIn nextIn least numberAt
-    signedOf monthIn countIn offsetAt lengthAt endAt beginsAt participantAt rowsAt figuresAt tooShort misplaced firstMisplaced notFollowing
-    isBefore wrongPart firstWrong refusedIf formOf firstRefused batchSays afterParts partAnswer partDecision withParts newestFirst decides
+    signedOf monthIn countIn offsetAt lengthAt endAt beginsAt participantAt rowsAt figuresBehind figuresAt tooShort misplaced firstMisplaced notFollowing
+    isBefore wrongLength wrongPart firstWrong refusedIf formOf firstRefused batchSays afterParts partAnswer partDecision withParts newestFirst decides
     answers happened happenedTo
 batches =
     record {
@@ -61,6 +61,7 @@ batches =
       participant-64 = refl;
       participant-255 = refl;
       participant-63 = refl;
+      second-participant-64 = refl;
       participant-63-admitted = refl;
       month-p-1 = refl;
       month-259 = refl;
@@ -76,10 +77,16 @@ batches =
       figure-above = refl;
       figure-least = refl;
       figure-below = refl;
+      second-figure-above = refl;
       fifth-call = refl;
       fifth-covered = refl;
+      fourth-call = refl;
+      fourth-made = refl;
+      settle-1-before-12 = refl;
       settle-2-before-12 = refl;
       settle-12-before-10 = refl;
+      settle-10-before-11 = refl;
+      settle-11-before-13 = refl;
       form-20-before-1 = refl;
       form-21-before-1 = refl;
       form-22-before-1 = refl;

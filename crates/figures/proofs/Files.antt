@@ -4,14 +4,14 @@ use mathlib.Core.Path.{refl}
 use Rattle.laws.specs.Causes.{decide}
 use Rattle.laws.specs.Least.{least}
 use Rattle.batch.specs.Bytes.{numberAt, signedOf}
-use Rattle.batch.specs.Batch.{monthIn, countIn, offsetAt, lengthAt, endAt, beginsAt, participantAt, rowsAt, figuresAt, tooShort}
-use Rattle.batch.specs.Batch.{misplaced, firstMisplaced, notFollowing, isBefore, wrongPart, firstWrong, refusedIf, formOf}
+use Rattle.batch.specs.Batch.{monthIn, countIn, offsetAt, lengthAt, endAt, beginsAt, participantAt, rowsAt, figuresBehind, figuresAt, tooShort}
+use Rattle.batch.specs.Batch.{misplaced, firstMisplaced, notFollowing, isBefore, wrongLength, wrongPart, firstWrong, refusedIf, formOf}
 use Rattle.book.specs.Call.{firstRefused, batchSays}
 use Rattle.figures.specs.Files.{Files}
 
 pub files : Files
-unfolding decide least numberAt signedOf monthIn countIn offsetAt lengthAt endAt beginsAt participantAt rowsAt figuresAt tooShort misplaced
-    firstMisplaced notFollowing isBefore wrongPart firstWrong refusedIf formOf firstRefused batchSays
+unfolding decide least numberAt signedOf monthIn countIn offsetAt lengthAt endAt beginsAt participantAt rowsAt figuresBehind figuresAt tooShort misplaced
+    firstMisplaced notFollowing isBefore wrongLength wrongPart firstWrong refusedIf formOf firstRefused batchSays
 files =
     record {
       two-bytes = refl;
@@ -82,6 +82,7 @@ files =
       length-11 = refl;
       length-of-2 = refl;
       length-of-255 = refl;
+      second-length-1 = refl;
       second-length-3 = refl;
       twice = refl;
       twice-other-rows = refl;

@@ -28,10 +28,12 @@ loadsTwo e f = loads 0 (part 0 (five e) ∷ part 1 (five f) ∷ [])
 abbrev pub producers : List Call
 producers = admits 3 ∷ on 1 (admit 3) ∷ []
 
--- Participant 1 with four open calls.
+-- Participant 1 with three and with four open calls.
+abbrev pub secondWithThree : List Call
+secondWithThree = producers ++ on 1 (settle 0 (five 100)) ∷ on 1 (settle 0 (five 200)) ∷ on 1 (settle 0 (five 300)) ∷ []
+
 abbrev pub secondWithFour : List Call
-secondWithFour =
-    producers ++ on 1 (settle 0 (five 100)) ∷ on 1 (settle 0 (five 200)) ∷ on 1 (settle 0 (five 300)) ∷ on 1 (settle 0 (five 400)) ∷ []
+secondWithFour = secondWithThree ++ on 1 (settle 0 (five 400)) ∷ []
 
 -- Figures with the total 243.
 abbrev pub of243 : List ℤ
@@ -53,6 +55,7 @@ pub record Batches : Type 0 where
   pub participant-64 : decides 60 [] (loads 0 (part 64 (five 1) ∷ [])) ≡ refusedPair 1 0
   pub participant-255 : decides 60 [] (loads 0 (part 255 (five 1) ∷ [])) ≡ refusedPair 1 0
   pub participant-63 : decides 60 [] (loads 0 (part 63 (five 1) ∷ [])) ≡ refusedPair 2 0
+  pub second-participant-64 : decides 60 (admits 3 ∷ []) (loads 0 (part 0 (five 1) ∷ part 64 (five 1) ∷ [])) ≡ refusedPair 1 1
   pub participant-63-admitted : decides 60 (on 63 (admit 3) ∷ []) (loads 0 (part 63 (five 1) ∷ [])) ≡ batched 1
   -- "month outside P − 14 to P − 2": every part's month is the file's, so that the first is refused
   pub month-p-1 : decides 60 producers (loads 1 (part 0 (five 1) ∷ part 1 (five 1) ∷ [])) ≡ refusedPair 12 0
@@ -73,12 +76,20 @@ pub record Batches : Type 0 where
   pub figure-above : decides 60 (admits 3 ∷ []) (loadsOne (replicate 4 (pos 0) ++ pos 1000000000001 ∷ [])) ≡ refusedPair 11 0
   pub figure-least : decides 60 (admits 3 ∷ []) (loadsOne (replicate 4 (pos 0) ++ negsuc 999999999999 ∷ [])) ≡ batched 1
   pub figure-below : decides 60 (admits 3 ∷ []) (loadsOne (replicate 4 (pos 0) ++ negsuc 1000000000000 ∷ [])) ≡ refusedPair 11 0
-  -- "the call would be a fifth open one": of the second part; one that makes no call is not refused
+  pub second-figure-above :
+      decides 60 producers (loads 0 (part 0 (five 1) ∷ part 1 (replicate 4 (pos 0) ++ pos 1000000000001 ∷ []) ∷ [])) ≡ refusedPair 11 1
+  -- "the call would be a fifth open one": of the second part; one that makes no call is not refused, nor a fourth call
   pub fifth-call : decides 60 secondWithFour (loadsTwo 100 500) ≡ refusedPair 13 1
   pub fifth-covered : decides 60 secondWithFour (loadsTwo 100 400) ≡ batched 2
+  pub fourth-call : decides 60 secondWithThree (loadsTwo 100 500) ≡ batched 2
+  pub fourth-made : decides 60 (secondWithThree ++ loadsTwo 100 500 ∷ []) callsMade ≡ counted 5
   -- settle's order: "1, 2, 12, 10, 11, 13"
+  pub settle-1-before-12 : decides 60 [] (loads 1 (part 64 (five 1) ∷ [])) ≡ refusedPair 1 0
   pub settle-2-before-12 : decides 60 [] (loads 1 (part 0 (five 1) ∷ [])) ≡ refusedPair 2 0
   pub settle-12-before-10 : decides 60 (admits 3 ∷ []) (loads 1 (part 0 [] ∷ [])) ≡ refusedPair 12 0
+  pub settle-10-before-11 : decides 60 (admits 3 ∷ []) (loadsOne (replicate 4 (pos 1000000000001))) ≡ refusedPair 10 0
+  pub settle-11-before-13 :
+      decides 60 secondWithFour (loads 0 (part 1 (replicate 4 (pos 1000) ++ pos 1000000000001 ∷ []) ∷ [])) ≡ refusedPair 11 0
   -- ---- "all three come before any settlement": participant 64 at pair 0
   pub form-20-before-1 : decides 60 [] (batch []) ≡ refusedPair 20 0
   pub form-21-before-1 : decides 60 [] (batch (file 0 (part 64 (five 1) ∷ []) ++ 0 ∷ [])) ≡ refusedPair 21 0

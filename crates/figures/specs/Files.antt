@@ -171,6 +171,8 @@ pub record Files : Type 0 where
   pub length-of-2 : formOf (0 ∷ 0 ∷ 1 ∷ 0 ∷ 12 ∷ 0 ∷ 0 ∷ 0 ∷ 10 ∷ 0 ∷ 0 ∷ 0 ∷ 7 ∷ 2 ∷ replicate 8 0) ≡ Refused 22 0
   pub length-of-255 : formOf (0 ∷ 0 ∷ 1 ∷ 0 ∷ 12 ∷ 0 ∷ 0 ∷ 0 ∷ 250 ∷ 7 ∷ 0 ∷ 0 ∷ 7 ∷ 255 ∷ replicate 2040 0) ≡ Parts 1
   -- the second part's length
+  pub second-length-1 :
+      formOf (0 ∷ 0 ∷ 2 ∷ 0 ∷ 20 ∷ 0 ∷ 0 ∷ 0 ∷ 2 ∷ 0 ∷ 0 ∷ 0 ∷ 22 ∷ 0 ∷ 0 ∷ 0 ∷ 1 ∷ 0 ∷ 0 ∷ 0 ∷ 7 ∷ 0 ∷ 8 ∷ []) ≡ Refused 22 1
   pub second-length-3 :
       formOf (0 ∷ 0 ∷ 2 ∷ 0 ∷ 20 ∷ 0 ∷ 0 ∷ 0 ∷ 2 ∷ 0 ∷ 0 ∷ 0 ∷ 22 ∷ 0 ∷ 0 ∷ 0 ∷ 3 ∷ 0 ∷ 0 ∷ 0 ∷ 7 ∷ 0 ∷ 8 ∷ 0 ∷ 0 ∷ []) ≡ Refused 22 1
   -- a participant twice: "the later pair's" index

@@ -1,4 +1,4 @@
--- What paper 01 has a call answer: the number of a cause of refusal, or the values named for that call. And which answer each case of the
+-- What papers 01 and 02 have a call answer: the number of a cause of refusal, or the values named for that call. And which answer each case of the
 -- code's enums stands for.
 -- Assumes nothing.
 use Prim.Native.Nat.{ℕ}
@@ -15,7 +15,7 @@ use Rattle.file.specs.declared.AnnualRun.{AnnualRun}
 use Rattle.file.specs.declared.AnnualRun.the-variants as Runs
 use Rattle.file.specs.declared.Statement.{Statement}
 
--- The answers of paper 01, 'The calls' and 'Causes of refusal'.
+-- The answers of paper 01, 'The calls' and 'Causes of refusal', and of paper 02.
 pub data Answer : Type 0 where
   -- "the number" of the cause
   refused : ℕ → Answer

@@ -27,7 +27,7 @@ pub fn put_reason(out: &mut [u8], at: usize, why: Reason) -> usize
         Reason::NotMonth => put_text(out, at, b"not a month"),
         Reason::NotRole => put_text(out, at, b"not a role"),
         Reason::NotCashOrLetter => put_text(out, at, b"neither cash nor letter"),
-        Reason::NotHex => put_text(out, at, b"not hexadecimal digits, two for each byte"),
+        Reason::NotHex => put_text(out, at, b"not two hexadecimal digits for each byte"),
         Reason::TooLong => put_text(out, at, b"line too long"),
         Reason::FreshLater => put_text(out, at, b"fresh is not the first call"),
         Reason::NoNewline => put_text(out, at, b"line without newline, not taken"),

@@ -30,7 +30,7 @@ callCount calls out = min (length calls / 6) (length out / 6)
 
 -- Demand 3, of the first n calls from a fresh book on day s: what was written, `before` being there until then, and the book b at the end.
 pub record Replayed (s n : ℕ) (calls : List ℕ) (figures : List ℤ) (files : List ℕ) (before after : List ℤ) (b : Book) : Type 0 where
-  -- the numbers of each answer are those that paper 01 decides, call by call; what is past them is as it was
+  -- the numbers of each answer are those that the papers decide, call by call; what is past them is as it was
   pub written : after ≡ decided s calls figures files n ++ drop (6 * n) before
   -- the book is that of the readings of the history, field by field
   pub kept : b ≡ bookIn s (eventsOf s (callsUpTo calls figures files n))

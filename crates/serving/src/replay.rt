@@ -24,11 +24,11 @@ pub struct Replayed {
     pub bytes: u64,
 }
 
-// Whether what stands behind the last newline may be a rest of a kept line: complete lines stand before it, and it is not too long.
+// Whether what stands behind the last newline may be a rest of a kept line: a kept call stands before it, and it is not too long.
 fn is_rest(place: Place, rest: &[u8]) -> bool
     ensures { λ r. ⌜ r ≡ isRest place (length (now (rest .entry))) ⌝ }
 {
-    (0 < place.line) & !place.long & (rest.len() < MOST)
+    (0 < place.kept) & !place.long & (rest.len() < MOST)
 }
 
 // What stands behind the last newline is said: it is dropped, or passed over where the journal is only read. Answers whether it may be.

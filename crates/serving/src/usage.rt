@@ -22,7 +22,8 @@ Answers calls from standard input, one a line. With JOURNAL the book is kept in 
   --bail   stop behind the first refusal or error
   --end    a last line `end LINES ACCEPTED` when all lines were answered and kept
   --batch  keep the lines of a part of the input by one forced write
-  --load   enter FILE, a month's settlement file, as one batch: with JOURNAL in place of standard input, else behind it
+  --load   enter FILE, a month's settlement file, as one batch: with JOURNAL in place of standard input,
+           otherwise after its last line
   --read   replay JOURNAL and answer questions only; nothing is written
 ",
     );

@@ -21,7 +21,7 @@ use Rattle.manual.specs.Figures.{summed}
 use Rattle.batch.specs.declared.Form.{Form}
 use Rattle.batch.specs.declared.Form.the-variants.{Parts, Refused}
 use Rattle.batch.specs.declared.parts.Part.{Part}
-use Rattle.batch.specs.Batch.{monthIn, countIn, offsetAt, participantAt, rowsAt, figuresAt, formOf}
+use Rattle.batch.specs.Batch.{monthIn, countIn, offsetAt, participantAt, rowsAt, figuresBehind, figuresAt, formOf}
 use Rattle.batch.specs.FormLaws.{isBatch, Whole, whole, part-inside}
 use Rattle.batch.specs.Parts.{PartIs}
 use Rattle.file.specs.declared.File.{File}
@@ -180,14 +180,14 @@ part-above b file k part is h =
 -- What its settlement answers, by the sum of its figures.
 pub part-judged : (file : List ℕ) (k : ℕ) (part : Part) (l : List ℕ) (outside due : Bool) (sum : Sum) (x : Answer)
     → PartIs file k part → part .participant ≤ 63 → outside ≡ outsideMonths (monthOf (todayIn l)) (monthIn file)
-    → due ≡ checkDue (monthOf (todayIn l)) (monthIn file) → ((i : ℕ) → PartIs file i part → sum ≡ summed (figuresAt file i))
+    → due ≡ checkDue (monthOf (todayIn l)) (monthIn file) → sum ≡ summed (figuresBehind file (part .offset) (part .rows))
     → AnswersSettlement l (part .participant) outside due sum x → x ≡ judged (bookOfWords l) file k
-unfolding answer bookOfWords
+unfolding answer bookOfWords figuresAt
 part-judged file k part l outside due sum x is low o d s answers =
     let p = participantAt file k in
     let h : p ≤ 63 = omega (arith, is .participant) in
     known-answer (bookOfWords l) p (partAct file k) x (le-ltb 63 p h)
-    (answers (monthIn file) (figuresAt file k) o d (s k is)
+    (answers (monthIn file) (figuresAt file k) o d (s ∙ (λ i. summed (figuresBehind file (is .offset i) (is .rows i))))
     ∙ ap (λ (q : ℕ). fileAnswer (fileInWords l q) (todayIn l) (partAct file k)) (is .participant)
     ∙ ap (λ (f : File). fileAnswer f (todayIn l) (partAct file k)) (sym (file-there l p h)))
 

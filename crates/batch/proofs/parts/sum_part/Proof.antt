@@ -9,37 +9,37 @@ use borrow.Author.Tests.{not-true, not-false}
 use lib.IntN.{+ℤ-idl}
 use lib.ListN.{length}
 use Rattle.manual.proofs.Sums.{SoFar, at-least-five, at-most-sixteen}
-use Rattle.batch.proofs.PartLaws.{figuresFrom, part-out, part-fits, part-again, part-ends, part-wrong, part-summed}
+use Rattle.batch.specs.Batch.{figuresBehind}
+use Rattle.batch.proofs.PartLaws.{part-out, part-fits, part-again, part-ends, part-wrong}
 use Rattle.batch.proofs.parts.sum_part.Statement.{statement}
 use Rattle.batch.proofs.parts.sum_part.Tie as tie
 
 abbrev Inv-loop : tie.InvT-loop
-Inv-loop file rows first total₀ i₀ total i =
-    (5 ≤ rows) × (rows ≤ 16) × (first + 8 * rows ≤ length file) × SoFar (figuresFrom file first rows) total i
+Inv-loop file rows offset total₀ i₀ total i =
+    (5 ≤ rows) × (rows ≤ 16) × (offset + 2 + 8 * rows ≤ length file) × SoFar (figuresBehind file offset rows) total i
 
 abbrev μ-loop : tie.MeasureT-loop
-μ-loop file rows first total₀ i₀ total i = rows - i
+μ-loop file rows offset total₀ i₀ total i = rows - i
 
 wrong-count-requires : tie.Need-wrong-count-requires Inv-loop μ-loop
 wrong-count-requires c κs = search needs
 
 returns : tie.Need-returns Inv-loop μ-loop
 returns c =
-    let start = c .before .before .before in
-    part-summed _ _ _ _ _ refl refl
-    (part-wrong (start .args .file .now) (start .args .part .offset + 2) (start .args .part .rows) _ (c .before .wrong-count .ensures) (c .if1 .taken))
-
-add-first : tie.Need-add-first Inv-loop μ-loop
-add-first c = search needs
+    let part = c .before .before .before .args .part in
+    part-wrong _ (part .offset) (part .rows) _ (c .before .wrong-count .ensures) (c .if1 .taken)
 
 loop-holds : tie.Need-loop-holds Inv-loop μ-loop
 loop-holds c = (search (at-least-five, needs), search (at-most-sixteen, needs), search needs, (omega arith, refl, omega arith, +ℤ-idl _))
 
+add-eight-at : tie.Need-add-eight-at Inv-loop μ-loop
+add-eight-at c = search needs
+
 mul-eight-at : tie.Need-mul-eight-at Inv-loop μ-loop
 mul-eight-at c = search needs
 
-add-eight-at : tie.Need-add-eight-at Inv-loop μ-loop
-add-eight-at c = search needs
+add-eight-at-2 : tie.Need-add-eight-at-2 Inv-loop μ-loop
+add-eight-at-2 c = search needs
 
 eight-at-requires : tie.Need-eight-at-requires Inv-loop μ-loop
 eight-at-requires c κs = search needs
@@ -54,9 +54,8 @@ returns-2 : tie.Need-returns-2 Inv-loop μ-loop
 returns-2 c =
     let reading = c .before .before in
     let loop = reading .before .before .before .loop in
-    part-summed _ _ _ _ _ refl refl
-    (part-out _ _ _ _ _ (loop .total) _ _ (search needs) (loop .inv .1) (reading .before .eight-at .ensures) (reading .signed .ensures)
-    (record { sfits = reading .signed .ok }) (c .before .within .ensures) (loop .inv .3) (loop .inv .0) (search (not-true, needs)))
+    part-out _ _ _ _ _ (loop .total) _ _ (search needs) (loop .inv .1) (reading .before .eight-at .ensures) (reading .signed .ensures)
+    (record { sfits = reading .signed .ok }) (c .before .within .ensures) (loop .inv .3) (loop .inv .0) (search (not-true, needs))
 
 add-total : tie.Need-add-total Inv-loop μ-loop
 add-total c =
@@ -85,7 +84,7 @@ loop-again c =
 returns-3 : tie.Need-returns-3 Inv-loop μ-loop
 returns-3 c =
     let loop = c .before .loop in
-    part-summed _ _ _ _ _ refl refl (part-ends _ _ _ (loop .total) _ (search needs) (loop .inv .0) (loop .inv .1) (loop .inv .3))
+    part-ends _ _ _ (loop .total) _ (search needs) (loop .inv .0) (loop .inv .1) (loop .inv .3)
 
 pub sum-part-spec : {M : Type 1} → statement M
 sum-part-spec =
@@ -95,10 +94,10 @@ sum-part-spec =
     μ-loop
     wrong-count-requires
     returns
-    add-first
     loop-holds
-    mul-eight-at
     add-eight-at
+    mul-eight-at
+    add-eight-at-2
     eight-at-requires
     signed-requires
     within-requires
