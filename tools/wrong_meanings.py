@@ -6,7 +6,7 @@ CIVIL = 'calendar/specs/Civil.antt'
 CALLS, FIELDS, TOTALS, ANSWER = 'file/specs/Calls.antt', 'file/specs/Fields.antt', 'file/specs/Totals.antt', 'file/specs/Answer.antt'
 ADMIT, LODGE, RELEASE, ANNUAL = 'file/specs/Admit.antt', 'file/specs/Lodge.antt', 'file/specs/Release.antt', 'file/specs/Annual.antt'
 CAUSES, INTEGERS, LARGEST = 'laws/specs/Causes.antt', 'laws/specs/Integers.antt', 'laws/specs/Largest.antt'
-SIGNED, EVERY = 'laws/specs/Signed.antt', 'laws/specs/Every.antt'
+SIGNED, EVERY, LISTS = 'laws/specs/Signed.antt', 'laws/specs/Every.antt', 'laws/specs/Lists.antt'
 AMOUNT, CHARGE, CHECK = 'manual/specs/Annual.antt', 'manual/specs/Charge.antt', 'manual/specs/Check.antt'
 FIGURES, MINIMUM = 'manual/specs/Figures.antt', 'manual/specs/Minimum.antt'
 LENGTHS, GUARANTEE, RANGES, RATIO = (f'special/specs/{name}.antt' for name in ('Causes', 'Guarantee', 'Ranges', 'Ratio'))
@@ -524,6 +524,9 @@ SHARED = [
      'Files.figures-of-second'),
     ('the last figure left out', [(BATCH, 'table rows', 'table (rows - 1)')], 'Files.figures-of-first'),
     ('a figure behind the last', [(BATCH, 'table rows', 'table (rows + 1)')], 'Files.figures-of-first'),
+    ('a table of one value', [(LISTS, 'f zero ∷ table n (λ k. f (suc k))', 'f zero ∷ table n f')], 'Files.figures-of-second'),
+    ('a table of one value less', [(LISTS, 'table (suc n) f = f zero ∷ table n (λ k. f (suc k))', 'table (suc n) f = table n (λ k. f (suc k))')],
+     'Files.figures-of-first'),
     ("the first part's figures for all", [(BATCH, 'figuresBehind file (offsetAt file i)', 'figuresBehind file (offsetAt file 0)')],
      'Files.figures-of-second'),
     ("as many figures as the first part has", [(BATCH, '(offsetAt file i) (rowsAt file i)', '(offsetAt file i) (rowsAt file 0)')],
