@@ -124,7 +124,8 @@ fn put_open_call(words: &mut [u64], at: usize, n: u64, amount: u64, last: Day)
 // Writes what a settlement that called leaves: the month's total, the call, and one more in the count of calls made.
 fn put_called(words: &mut [u64], participant: u64, month: Month, amount: u64, last: Day)
     requires { ⌜ WellFormed (now words) × (participant ≤ 63) ⌝ }
-    ensures { λ r. ⌜ ((asked : ℕ) → PutsSettlement (now (words .entry)) participant (month .0) (called amount asked (last .0)) (now (words .exit))) ⌝ }
+    ensures { λ r. ⌜ ((asked : ℕ) → PutsSettlement (now (words .entry)) participant (month .0) (called amount asked (last .0))
+        (now (words .exit))) ⌝ }
 {
     let at = 2 + 96 * participant as usize;
     let n = words[at + 4];
