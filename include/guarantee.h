@@ -79,7 +79,7 @@ typedef struct GuaranteeSettled {
     uint64_t refusal;
     uint64_t kind;
     int64_t total;                    /* the month's total: the sum of the figures */
-    uint64_t asked;                   /* where called: what is asked beyond the cover */
+    uint64_t asked;                   /* where called: what is asked beyond what is deposited */
     uint64_t last_free_day;           /* where called: the last day to lodge it without a charge */
 } GuaranteeSettled;
 
@@ -147,7 +147,8 @@ uint64_t guarantee_admit(uint64_t *words, size_t length, uint64_t participant, u
 uint64_t guarantee_lodge_cash(uint64_t *words, size_t length, uint64_t participant, uint64_t position, uint64_t amount);
 
 /* Lodges a bank's letter at an empty position of a participant. It counts from its first to its last day, both included, and leaves its
- * position when the day after its last is opened. Returns the refusal (1, 2, 5, 6, 8, 9). Writes only if accepted. */
+ * position when the day after its last is opened. In a check it is deposited only if it is still in force on the eleventh day after that
+ * (guarantee_settle). Returns the refusal (1, 2, 5, 6, 8, 9). Writes only if accepted. */
 uint64_t guarantee_lodge_letter(uint64_t *words, size_t length, uint64_t participant, uint64_t position, uint64_t amount,
                                 uint32_t first_day, uint32_t last_day);
 
@@ -158,8 +159,9 @@ uint64_t guarantee_release(uint64_t *words, size_t length, uint64_t participant,
 /* ---- the settlement engineer */
 
 /* Settles a month of a participant by 5 to 16 figures, the manual's accounts in their order, each within plus or minus 10^12. Their sum is the
- * month's total and replaces an earlier one. The month two before today's is checked against the cover, except in September, and may call
- * for more. The order of refusals is 1, 2, 12, 10, 11, 13. Writes only if accepted. */
+ * month's total and replaces an earlier one. The month two before today's is checked against what is deposited, except in September, and may
+ * call for more. Deposited are cash, and letters that have begun and are still in force on the eleventh day after today. The order of refusals is
+ * 1, 2, 12, 10, 11, 13. Writes only if accepted. */
 GuaranteeSettled guarantee_settle(uint64_t *words, size_t length, uint64_t participant, uint32_t month, const int64_t *figures,
                                   size_t count);
 

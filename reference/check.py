@@ -1,4 +1,4 @@
-"""Paper 01's 'Figures to reproduce' that concern the book, and paper 02's batch, by the reference: python3 reference/check.py
+"""Paper 01's 'Figures to reproduce' that concern the book, and paper 02's batch and D, by the reference: python3 reference/check.py
 
 Each figure is reached by a history from a fresh book, so that cover, firm amount and charges are the reading's own. The batches are bytes worked
 out by hand, on both sides of each bound. Exits 1 on a difference.
@@ -249,6 +249,32 @@ def batch_parts():
     batch('12, and 22 of pair 1', '0e00' + TWO[4:] + '0005' + FIVE + '0104' + SEVEN, (22, 1))
 
 
+def deposits():
+    """D of a check on 1 March 2021, day 425, by letters that lapse around day t + 11, 436, or begin tomorrow; and at the calendar's end."""
+    for what, letters, cash, e, expected in (
+            ('a letter of three days', [(425, 427)], 0, 100, called(100, 100, 435)),
+            ('three days left', [(366, 428)], 0, 50, called(50, 50, 435)),
+            ('until t + 11', [(425, 436)], 40, 167, covered(167)),
+            ('until t + 11, 20%', [(425, 436)], 40, 168, called(168, 28, 435)),
+            ('until t + 10', [(425, 435)], 40, 167, called(167, 127, 435)),
+            ('from today', [(425, 29219)], 0, 119, covered(119)),
+            ('from tomorrow', [(426, 29219)], 0, 119, called(119, 119, 435)),
+            ('one until tomorrow, one from tomorrow', [(425, 426), (426, 29219)], 0, 100, called(100, 100, 435))):
+        h = History(425)
+        h.admit(0, 3)
+        for place, (first, last) in enumerate(letters):
+            h.lodge(0, place, 'letter', 100, first, last)
+        if cash:
+            h.lodge(0, 7, 'cash', cash)
+        same(f'D, {what}', settle(h, 0, e), expected)
+    for day, what, expected in ((29208, 'letter', covered(100)), (29209, 'letter', called(100, 100, 29219)), (29209, 'cash', covered(100)),
+                                (29219, 'cash', covered(100))):
+        h = History(day)
+        h.admit(0, 3)
+        h.lodge(0, 0, what, 100, 29000, LAST_DAY)
+        same(f'D, {what} on day {day}', settle(h, 0, 100), expected)
+
+
 def batch_settlements():
     """The settlements in pair order: the first refusal is answered with its pair's index, and the book is as before."""
     batch('1 of pair 1', TWO + '0005' + FIVE + '4005' + SEVEN, (1, 1))
@@ -284,11 +310,12 @@ def batch_settlements():
 
 
 def main():
-    for part in (calendar, examples, checks, charges, two_calls, batch_too_short, batch_not_following, batch_parts, batch_settlements):
+    for part in (calendar, examples, checks, charges, two_calls, deposits, batch_too_short, batch_not_following, batch_parts,
+                 batch_settlements):
         part()
     for line in differences:
         print(line)
-    print(f'paper 01, figures of the book, and batches: {done} compared, {len(differences)} different')
+    print(f'paper 01, figures of the book, D and batches: {done} compared, {len(differences)} different')
     return 1 if differences else 0
 
 

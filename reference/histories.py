@@ -127,6 +127,7 @@ release: cash in part
 release: a letter whole
 release: a letter on its last day
 release: a letter that has not begun
+release: accepted, and D is below the floor
 release: a letter that has not begun, cover too small (16)
 release: a letter in part (15)
 release: more than held (15)
@@ -172,6 +173,19 @@ check: only the tolerance keeps from calling
 check: only the firm amount keeps from calling
 check: only an open call keeps from calling
 check: a letter that has not begun would have covered it
+check: a letter until t + 11 counts, and one day less would call
+check: a letter until t + 10 doesn't count, and one day more would cover
+check: a letter until t + 2 beside E, called
+check: called, and the cover today is above E
+check: called, and less than what is asked was missing in the cover today
+check: called, and the covers of today and of t + 11 are both enough
+check: covered, and D is below the cover today
+check: a released letter was deposited, called
+check: a released letter was not deposited, covered
+check: on 29,208 a letter until 29,219 counts
+check: from 29,209 on a letter until 29,219 doesn't count
+check: from 29,209 on cash covers
+check: fifth open call refused (13), and the cover today is above E
 check: fourth open call made
 check: fifth open call refused (13)
 check: four open, covered
@@ -217,6 +231,7 @@ batch: accepted, several calls are made
 batch: accepted, a fourth open call
 batch: accepted, called and covered
 batch: accepted, covered
+batch: accepted, a call is made, and the cover today is above its total
 batch: accepted, recorded only
 batch: accepted, September, would have called
 batch: accepted, a total replaced
@@ -574,6 +589,7 @@ class Recorder:
             return ok
         self.met(f'release: leaves the limit exactly, set by {by}', left == floor and alone)
         self.met('release: limit 0', floor == 0)
+        self.met('release: accepted, and D is below the floor', who.deposited(t) < floor)
         self.met('release: the sum of the open calls would have refused it', sum(calls) > left)
         if held[0] == 'cash':
             self.met('release: cash whole' if amount == held[1] else 'release: cash in part')
@@ -587,8 +603,10 @@ class Recorder:
         t, who, k, e, month_now = self.t, self.book.people.get(p), len(figures), sum(figures), month(self.t)
         if not who:
             return self.call(4, p, m, k, *figures)
-        d, firm, calls, old = who.cover(t), who.firm(t), who.open_calls(t), who.total(m)
-        ahead = sum(held[1] for held in (who.position(place, t) for place in range(8)) if held and held[0] == 'letter' and held[2] > t)
+        d, firm, calls, old = who.deposited(t), who.firm(t), who.open_calls(t), who.total(m)
+        cover, later = who.cover(t), who.cover(t + 11)
+        letters = [held[1:] for held in (who.position(place, t) for place in range(8)) if held and held[0] == 'letter']
+        ahead = sum(amount for amount, first, _ in letters if first > t)
         ok = self.call(4, p, m, k, *figures)
         if ok[0] == 0:
             self.met('settle: M = P - 15 (12)', ok[1] == 12 and m == month_now - 15)
@@ -602,6 +620,7 @@ class Recorder:
             self.met('settle: a figure beyond 2^62 (11)', ok[1] == 11 and max(abs(x) for x in figures) > 2 ** 62)
             self.met('settle: figures out of range whose sum is in it (11)', ok[1] == 11 and abs(e) <= MOST)
             self.met('check: fifth open call refused (13)', ok[1] == 13)
+            self.met('check: fifth open call refused (13), and the cover today is above E', ok[1] == 13 and cover > e)
             if ok[1] == 13:
                 self.fifths.append((p, m, e))
             return ok
@@ -639,6 +658,7 @@ class Recorder:
         self.met('check: only the firm amount keeps from calling', rules == (True, False, True))
         self.met('check: only an open call keeps from calling', rules == (True, True, False))
         self.met('check: a letter that has not begun would have covered it', made and d + ahead >= e)
+        self.met_deposits(who, made, e, d, cover, later, letters)
         self.met('check: fourth open call made', made and len(calls) == 3)
         self.met('check: four open, covered', not made and len(calls) == 4)
         again = [day for day, kind, args in who.acts[:-1] if kind == 'settle' and args[2]]
@@ -646,6 +666,39 @@ class Recorder:
         self.met('check: last free day above 29,219', made and t + 10 > LAST_DAY)
         self.met('check: last free day 29,219', made and t + 10 == LAST_DAY)
         return ok
+
+    def met_deposits(self, who, made, e, d, cover, later, letters):
+        """What a check met of letters about to lapse: D beside the covers of today and of day t + 11."""
+        t = self.t
+        until = {n: sum(amount for amount, first, last in letters if first <= t and last == t + n) for n in (2, 10, 11)}
+        others = max([who.firm(t)] + who.open_calls(t)[:-1 if made else None])
+
+        def would_call(amount):
+            return e > amount and 5 * e >= 6 * amount and e > others
+        self.met('check: a letter until t + 11 counts, and one day less would call', not made and until[11] and would_call(d - until[11]))
+        self.met("check: a letter until t + 10 doesn't count, and one day more would cover", made and not would_call(d + until[10]))
+        self.met('check: a letter until t + 2 beside E, called', made and until[2] >= e)
+        self.met('check: called, and the cover today is above E', made and cover > e)
+        self.met('check: called, and less than what is asked was missing in the cover today', made and d < cover < e)
+        self.met('check: called, and the covers of today and of t + 11 are both enough', made and min(cover, later) >= e)
+        self.met('check: covered, and D is below the cover today', not made and e > d and d < cover)
+        released = self.released_letters(who)
+        self.met('check: a released letter was deposited, called', made and not would_call(d + sum(released[True])))
+        self.met('check: a released letter was not deposited, covered', not made and d > 0 and would_call(d - sum(released[False])))
+        last = sum(amount for amount, first, last in letters if first <= t and last == LAST_DAY)
+        self.met('check: on 29,208 a letter until 29,219 counts', t == 29208 and not made and last > 0 and would_call(d - last))
+        self.met("check: from 29,209 on a letter until 29,219 doesn't count", t >= 29209 and made and not would_call(d + last))
+        self.met('check: from 29,209 on cash covers', t >= 29209 and not made and 0 < e <= d)
+
+    def released_letters(self, who):
+        """The amounts of letters that were released while they were in force today, by whether they would have been deposited."""
+        t, dates, found = self.t, {}, {True: [], False: []}
+        for _, kind, args in who.acts:
+            if kind == 'lodge':
+                dates[args[0]] = args[3:] if args[1] == 'letter' else None
+            elif kind == 'release' and dates[args[0]] and dates[args[0]][0] <= t <= dates[args[0]][1]:
+                found[t + 11 <= dates[args[0]][1]].append(args[1])
+        return found
 
     def batch(self, data):
         t, people = self.t, self.book.people
@@ -689,7 +742,10 @@ class Recorder:
         self.met('batch: accepted, covered', checked and not all(calls))
         self.met('batch: accepted, recorded only', not checked)
         self.met('batch: accepted, September, would have called', is_september(here) and m == here - 2 and any(
-            e > who.cover(t) and 5 * e >= 6 * who.cover(t) and e > max([who.firm(t)] + who.open_calls(t)) for e, (_, _, who) in zip(totals, parts)))
+            e > who.deposited(t) and 5 * e >= 6 * who.deposited(t) and e > max([who.firm(t)] + who.open_calls(t))
+            for e, (_, _, who) in zip(totals, parts)))
+        self.met('batch: accepted, a call is made, and the cover today is above its total', any(
+            made and who.cover(t) > e for made, e, (_, _, who) in zip(calls, totals, parts)))
         self.met('batch: accepted, a total replaced', any(replaced))
         self.met('batch: accepted, a total below 0', min(totals) < 0)
         self.met('batch: accepted, a figure of 10^12 or -10^12', any(abs(x) == MOST for _, figures, _ in parts for x in figures))
@@ -746,7 +802,7 @@ class Recorder:
         if length >= 2 and length != 2 + 8 * part[1]:
             self.met('batch: a length ' + ('below' if length < 2 + 8 * part[1] else 'above') + ' 2 + 8 r (22)')
         elif length >= 2:
-            first = [other[0] for other in parts].index(part[0])
+            first = [other[:1] for other in parts].index(part[:1])
             self.met('batch: a participant twice, ' + ('neighbours' if first == at - 1 else 'apart') + ' (22)')
             self.met('batch: a participant above 63 twice (22)', part[0] > 63)
         if n > 1:
@@ -1019,13 +1075,14 @@ class Maker(Recorder):
     def total(self, p, who):
         """A total aimed at the check's corners."""
         t = self.t
-        d, firm, calls, coming = who.cover(t), who.firm(t), who.open_calls(t), who.next_amount(t)
+        d, cover, firm, calls, coming = who.deposited(t), who.cover(t), who.firm(t), who.open_calls(t), who.next_amount(t)
         edge = -(-6 * d // 5)
         top = max(calls + [firm])
         some = [edge] * 3 + [edge - 1] * 3 + [d, d, d + 1, d - 1, edge + 1, firm, firm, firm + 1, firm + 1, firm - 1, top, top + 1, top + 1, 0, 0,
                 1, -1, -5, 2 * d, top + self.amount(p), top + self.amount(p), self.amount(p), self.amount(p), -self.amount(p)]
         some += [d + 10 ** 8, d + 10 ** 8 + self.among(-1, 1)] if self.scale[p % 64] >= 10 ** 6 else []
         some += calls + calls[:-1] + [amount + 1 for amount in calls]
+        some += [] if cover == d else [cover, cover, cover - 1, cover + 1, -(-6 * cover // 5)]
         some += [] if coming is None else [coming, coming + 1]
         if self.likely(0.01):
             some = [16 * MOST, -16 * MOST, MOST, 3 * MOST + 1, -MOST]
@@ -1174,14 +1231,39 @@ class Maker(Recorder):
             if self.likely(0.3):
                 self.pay(p, self.among(0, 0, -1, 1))
 
+    def scene_lapse(self):
+        """Letters that lapse around day t + 11, or begin tomorrow, beside a total that they cover; some are released before it."""
+        p, who = self.who()
+        if self.theme == 'end' and self.t < 29209 and self.likely(0.6) and 29209 - self.t < self.days:
+            self.go(self.among(*[day for day in (29207, 29208, 29208, 29209) if day > self.t]))
+        t, due, lodged = self.t, who.release_floor(self.t), []
+        amount = due + self.amount(p)
+        ends = [(t, t + n) for n in (10, 10, 11, 11, 2, self.rng.randint(0, 12))] + [(t, LAST_DAY)] * (4 if t > LAST_DAY - 15 else 0)
+        for first, last in self.rng.sample(ends, self.among(1, 1, 2)) + [(t + 1, t + 99)] * self.likely(0.25):
+            place = self.place(who, False)
+            if place is not None and max(first, t) <= min(last, LAST_DAY):
+                self.lodge(p, place, min(amount, MOST), max(first - self.among(0, 0, 1, 30), 0) if first <= t else first, min(last, LAST_DAY))
+                lodged.append(place)
+        if lodged and self.likely(0.3):
+            self.release(p, lodged[0], min(amount, MOST))
+        totals = [amount, amount, amount - 1, amount + 1, who.deposited(t), who.deposited(t) + 1, self.total(p, who)]
+        for e in self.rng.sample(totals, self.among(1, 2, 2, 3)):
+            self.settle(p, self.check_month(), self.figures_of(e))
+        if self.likely(0.3):
+            self.enter(File(self.check_month(), [(p, [max(min(amount, MOST), 0) + self.among(0, 1), 0, 0, 0, 0])]).bytes(), [])
+        if self.likely(0.2) and self.place(who, True) is not None:
+            self.release_at(p, self.place(who, True))
+        if self.likely(0.4):
+            self.scene_late(p)
+
     def scene_even(self):
         """Paid up and evenly divisible, then checked at 20% and below it."""
         p, who = self.who()
         self.pay(p)
-        place, d = self.place(who, False), who.cover(self.t)
+        place, d = self.place(who, False), who.deposited(self.t)
         if d % 5 and place is not None:
             self.lodge(p, place, 5 - d % 5)
-            d = who.cover(self.t)
+            d = who.deposited(self.t)
         order = [6 * d // 5 - 1, 6 * d // 5]
         for e in order if self.likely(0.8) else order[::-1]:
             self.settle(p, self.check_month(), self.figures_of(e))
@@ -1196,7 +1278,7 @@ class Maker(Recorder):
             return self.scene_late(p)
         for _ in range(self.among(3, 5, 5, 6)):
             t = self.t
-            top = max(who.open_calls(t) + [who.firm(t), -(-6 * who.cover(t) // 5) - 1])
+            top = max(who.open_calls(t) + [who.firm(t), -(-6 * who.deposited(t) // 5) - 1])
             full = len(who.open_calls(t)) >= 4
             e = top + (1 if self.likely(0.5) else self.amount(p))
             if full and self.likely(0.25):
@@ -1222,7 +1304,7 @@ class Maker(Recorder):
         ahead = sorted({last for _, last in who.calls() if last >= self.t})
         if not ahead:
             who_total = who.release_floor(self.t) + self.amount(p)
-            self.settle(p, self.check_month(), self.figures_of(max(who_total, -(-6 * who.cover(self.t) // 5))))
+            self.settle(p, self.check_month(), self.figures_of(max(who_total, -(-6 * who.deposited(self.t) // 5))))
             ahead = sorted({last for _, last in who.calls() if last >= self.t})
             if not ahead:
                 return None
@@ -1664,17 +1746,17 @@ class Maker(Recorder):
             self.statement(self.anyone(0.03))
 
     SCENES = ('admit', 'pay', 'lodge', 'letter', 'release', 'limit', 'check', 'even', 'rise', 'late', 'months', 'wrong_settle', 'turn', 'annual',
-              'summer', 'october', 'advance', 'wrong', 'ask', 'batch')
+              'summer', 'october', 'advance', 'wrong', 'ask', 'batch', 'lapse')
     WEIGHTS = {
-        'mixed': (2, 5, 4, 3, 5, 4, 7, 4, 3, 5, 4, 2, 2, 3, 1, 2, 9, 6, 6, 8),
-        'annual': (2, 4, 3, 2, 4, 4, 4, 2, 1, 3, 3, 1, 1, 12, 4, 5, 6, 3, 4, 8),
-        'autumn': (3, 4, 3, 3, 4, 4, 5, 3, 2, 4, 3, 1, 3, 3, 1, 9, 9, 3, 5, 6),
-        'checks': (2, 5, 2, 1, 3, 2, 10, 7, 7, 7, 4, 3, 3, 1, 2, 1, 6, 3, 4, 8),
-        'guarantees': (2, 5, 8, 8, 9, 9, 2, 1, 1, 3, 1, 1, 1, 2, 1, 2, 7, 4, 5, 5),
-        'refusals': (2, 3, 3, 2, 4, 2, 3, 1, 3, 2, 5, 6, 1, 2, 1, 1, 6, 18, 5, 10),
-        'crowd': (26, 4, 3, 1, 3, 3, 5, 2, 2, 2, 3, 1, 1, 4, 1, 2, 6, 4, 6, 9),
-        'end': (4, 5, 5, 3, 5, 4, 7, 4, 5, 3, 3, 2, 1, 2, 1, 1, 6, 4, 5, 7),
-        'begin': (3, 5, 4, 3, 5, 3, 5, 3, 2, 4, 5, 2, 5, 4, 2, 3, 9, 4, 5, 7),
+        'mixed': (2, 5, 4, 3, 5, 4, 7, 4, 3, 5, 4, 2, 2, 3, 1, 2, 9, 6, 6, 8, 4),
+        'annual': (2, 4, 3, 2, 4, 4, 4, 2, 1, 3, 3, 1, 1, 12, 4, 5, 6, 3, 4, 8, 2),
+        'autumn': (3, 4, 3, 3, 4, 4, 5, 3, 2, 4, 3, 1, 3, 3, 1, 9, 9, 3, 5, 6, 2),
+        'checks': (2, 5, 2, 1, 3, 2, 10, 7, 7, 7, 4, 3, 3, 1, 2, 1, 6, 3, 4, 8, 7),
+        'guarantees': (2, 5, 8, 8, 9, 9, 2, 1, 1, 3, 1, 1, 1, 2, 1, 2, 7, 4, 5, 5, 5),
+        'refusals': (2, 3, 3, 2, 4, 2, 3, 1, 3, 2, 5, 6, 1, 2, 1, 1, 6, 18, 5, 10, 2),
+        'crowd': (26, 4, 3, 1, 3, 3, 5, 2, 2, 2, 3, 1, 1, 4, 1, 2, 6, 4, 6, 9, 3),
+        'end': (4, 5, 5, 3, 5, 4, 7, 4, 5, 3, 3, 2, 1, 2, 1, 1, 6, 4, 5, 7, 7),
+        'begin': (3, 5, 4, 3, 5, 3, 5, 3, 2, 4, 5, 2, 5, 4, 2, 3, 9, 4, 5, 7, 3),
     }
 
     def make(self):

@@ -495,7 +495,7 @@ advance 2099-12-31 0                    #= opened 0
 fresh 2099-12-31                        #= done
 admit 0 self-supplied                   #= done
 lodge 0 0 letter 5 2020-01-01 2099-12-31  #= done
-settle 0 2099-10 3000000 0 0 0 0        #= called 3000000 2999995 29229 | a last free day beyond the calendar
+settle 0 2099-10 3000000 0 0 0 0        #= called 3000000 3000000 29229 | a last free day beyond the calendar; there no letter lasts
 settle 0 957 3000000 0 0 0 0            #= covered 3000000
 settle 0 2099-11 1 1 1 1 1              #= refused 12
 settle 0 2099-13 1 1 1 1 1              #= error not a month
@@ -931,7 +931,7 @@ def random_lines():
     return lines
 
 
-EXAMPLES = ('year', 'manual', 'month')
+EXAMPLES = ('year', 'manual', 'month', 'letters')
 
 
 def example(name):

@@ -1,10 +1,10 @@
 """Paper 01's reading of the history, in Python's standard library: the reference that the book's answers are compared with.
 
-Written from the section 'The reading of the history' and the table of causes alone, and for a batch from paper 02's ask 1. A participant's
-figures are read from its accepted calls, each with its arguments and the day it was made on, and from the days opened. Nothing is summed up in
-between: cover, firm amount, open calls, month totals and the next amount are worked out afresh from the calls whenever they are asked for. What
-is kept is the history itself and what the reading once gave and no later call can change: beside a settlement whether it called, beside an
-annual run its amount, beside an opened day its shortfall. An accepted batch is in the history as its settlements.
+Written from the section 'The reading of the history' and the table of causes alone, for a batch from paper 02's ask 1 and for D from its ask 2. A
+participant's figures are read from its accepted calls, each with its arguments and the day it was made on, and from the days opened. Nothing is
+summed up in between: cover, D, firm amount, open calls, month totals and the next amount are worked out afresh from the calls whenever they are
+asked for. What is kept is the history itself and what the reading once gave and no later call can change: beside a settlement whether it called,
+beside an annual run its amount, beside an opened day its shortfall. An accepted batch is in the history as its settlements.
 """
 import datetime
 
@@ -14,6 +14,8 @@ MOST = 10 ** 12
 MINIMUM = {0: 2000000, 1: 2000000, 2: 1000000, 3: 0, 4: 0, 5: 0}
 DAY_MINIMUM = 100000000  # mills
 FREE_DAYS = 10
+DEPOSITED_DAYS = 11  # what counts in a check is still in force so many days after it
+ALWAYS = float('inf')  # cash has no last day
 MOST_PARTS = 64
 
 
@@ -109,7 +111,7 @@ class Participant:
         for _, kind, args in acts:
             if kind == 'lodge':
                 place, what, amount, first, last = args
-                dates[place] = (0, LAST_DAY) if what == 'cash' else (first, last)
+                dates[place] = (0, ALWAYS) if what == 'cash' else (first, last)
                 found.append((amount, *dates[place]))
             elif kind == 'release':
                 place, amount = args
@@ -118,6 +120,11 @@ class Participant:
 
     def cover(self, day, acts=None):
         return cover_on(day, self.amounts(self.acts if acts is None else acts))
+
+    def deposited(self, today):
+        """D of a check: the amount in force today that will still be in force on day t + 11, whether the calendar has that day or not."""
+        later = today + DEPOSITED_DAYS
+        return sum(amount for amount, first, last in self.amounts(self.acts) if first <= today <= last and first <= later <= last)
 
     def position(self, place, today):
         """What is held, (what, amount, first, last): what was last lodged less what was released since. None if that is nothing, or a letter
@@ -186,7 +193,7 @@ class Participant:
         return m + 2 == p and not is_september(p)
 
     def would_call(self, today, m, figures):
-        e, d = sum(figures), self.cover(today)
+        e, d = sum(figures), self.deposited(today)
         return (self.check_due(today, m) and e > d and 5 * e >= 6 * d and e > self.firm(today)
                 and all(e > amount for amount in self.open_calls(today)))
 
@@ -292,7 +299,7 @@ class History:
         calls = who.would_call(t, m, figures)
         if calls and len(who.open_calls(t)) >= 4:
             return self.refused(13)
-        e, d = sum(figures), who.cover(t)
+        e, d = sum(figures), who.deposited(t)
         who.acts.append((t, 'settle', (m, list(figures), calls)))
         if calls:
             return (2, e, e - d, t + FREE_DAYS, 0, 0)

@@ -6,9 +6,9 @@ def settled(month, total):
     return f'on 0 (settle {month} (pos {total} ∷ pos 0 ∷ pos 0 ∷ pos 0 ∷ pos 0 ∷ []))'
 
 
-def letter(amount, first, last):
-    """A letter lodged at place 0 of participant 0."""
-    return f'on 0 (lodge 0 (Letter {amount} (record {{ 0 = {first} }}) (record {{ 0 = {last} }})))'
+def letter(amount, first, last, place=0):
+    """A letter lodged at a place of participant 0."""
+    return f'on 0 (lodge {place} (Letter {amount} (record {{ 0 = {first} }}) (record {{ 0 = {last} }})))'
 
 
 def loaded(month, *parts):
@@ -93,11 +93,36 @@ MUTANTS = [
      60, ['on 0 (admit 0)', settled(0, 3000000), settled(0, 4000000), settled(0, 5000000)],
      [0, 13], [2, 5000000, 5000000, 70]),
     ('a letter counted a day too long',
-     [(POSITION, 'countsOn d (s .position) + coverOn d slots',
-       'Prim.Native.Nat.max (countsOn d (s .position)) (countsOn (d - 1) (s .position)) + coverOn d slots'),
+     [(POSITION, 'countsThrough d e (s .position) + coverThrough d e slots',
+       'Prim.Native.Nat.max (countsThrough d e (s .position)) (countsThrough (d - 1) (e - 1) (s .position)) + coverThrough d e slots'),
       (OPENING, 'slotOf (emptiedOn d (s .position))', 'slotOf (emptiedOn (d - 1) (s .position))')],
      0, ['on 0 (admit 3)', letter(100, 0, 0), 'advance 1 1', 'statement 0'],
      [7, 0, 100, 0, 0, 0], [7, 0, 0, 0, 0, 0]),
+    ('a check against the cover today',
+     [(SETTLE, 'coverThrough t (t + 11) (f .slots)', 'coverThrough t t (f .slots)')],
+     60, ['on 0 (admit 3)', letter(100, 60, 62), settled(0, 100)],
+     [3, 100], [2, 100, 100, 70]),
+    ('a letter deposited that lapses on the last free day',
+     [(SETTLE, 'coverThrough t (t + 11) (f .slots)', 'coverThrough t (t + 10) (f .slots)')],
+     60, ['on 0 (admit 3)', letter(100, 60, 70), settled(0, 100)],
+     [3, 100], [2, 100, 100, 70]),
+    ('no letter deposited until day t + 11',
+     [(SETTLE, 'coverThrough t (t + 11) (f .slots)', 'coverThrough t (t + 12) (f .slots)')],
+     60, ['on 0 (admit 3)', letter(100, 60, 71), settled(0, 100)],
+     [2, 100, 100, 70], [3, 100]),
+    ('a letter deposited that begins later',
+     [(SETTLE, 'coverThrough t (t + 11) (f .slots)', 'coverThrough (t + 11) (t + 11) (f .slots)')],
+     60, ['on 0 (admit 3)', letter(100, 61, 99), settled(0, 100)],
+     [3, 100], [2, 100, 100, 70]),
+    ('a check against the smaller of the covers of today and of day t + 11',
+     [(SETTLE, 'coverThrough t (t + 11) (f .slots)',
+       'Prim.Native.Nat.min (coverThrough t t (f .slots)) (coverThrough (t + 11) (t + 11) (f .slots))')],
+     60, ['on 0 (admit 3)', letter(100, 60, 70), letter(100, 61, 99, 1), settled(0, 100)],
+     [3, 100], [2, 100, 100, 70]),
+    ('day t + 11 cut at the end of the calendar',
+     [(SETTLE, 'coverThrough t (t + 11) (f .slots)', 'coverThrough t (Prim.Native.Nat.min 29219 (t + 11)) (f .slots)')],
+     29209, ['on 0 (admit 3)', letter(100, 29208, 29219), settled(957, 100)],
+     [3, 100], [2, 100, 100, 29219]),
     ('a new call that puts off an older one',
      [(SETTLE, '(openCalls f ++ (callOf',
        '(mathlib.Core.List.map (λ (c : OpenCall). callOf (c .amount) (t + 10)) (openCalls f) ++ (callOf')],

@@ -55,6 +55,15 @@ def participants(last):
             (DECISIONS, '(ltb 63 p) ∷ cause 2', f'(ltb {last} p) ∷ cause 2')]
 
 
+# What a check counts as deposited, as the account and the reading write it.
+DEPOSITED, STAYS = 'coverThrough t (t + 11) (f .slots)', 'inForce t p && inForce (t + 11) p'
+
+
+def deposits(account, reading):
+    """What is deposited, in both accounts."""
+    return [(SETTLE, DEPOSITED, account), (HOLDINGS, STAYS, reading)]
+
+
 def places(path, after, last):
     """The last position of a lodging or a release, by the cause that follows, in both accounts."""
     return [(path, 'ltb 7 k', f'ltb {last} k'), (DECISIONS, f'(ltb 7 k)\n    ∷ cause {after}', f'(ltb {last} k)\n    ∷ cause {after}')]
@@ -157,14 +166,20 @@ SHARED = [
     ('cash of amount 0', [(POSITION, 'amountOf (Cash a) = a', 'amountOf (Cash a) = 0')], 'Positions.amount-cash'),
     ('a letter of amount 0', [(POSITION, 'amountOf (Letter a first last) = a', 'amountOf (Letter a first last) = 0')], 'Positions.amount-letter'),
     ('a letter without its first day',
-     [(POSITION, 'leb (first .0) d && leb d (last .0)', 'ltb (first .0) d && leb d (last .0)')], 'Positions.on-its-first'),
+     [(POSITION, 'leb (first .0) d && leb e (last .0)', 'ltb (first .0) d && leb e (last .0)')], 'Positions.on-its-first'),
     ('a letter without its last day',
-     [(POSITION, 'leb (first .0) d && leb d (last .0)', 'leb (first .0) d && ltb d (last .0)')], 'Positions.on-its-last'),
-    ('a letter in force before its first day', [(POSITION, 'leb (first .0) d && leb d (last .0)', 'leb d (last .0)')], 'Positions.before-its-first'),
-    ('a letter in force after its last day', [(POSITION, 'leb (first .0) d && leb d (last .0)', 'leb (first .0) d')], 'Positions.after-its-last'),
-    ('cash that is never in force', [(POSITION, 'inForce d (Cash a) = true', 'inForce d (Cash a) = false')], 'Positions.counts-cash'),
+     [(POSITION, 'leb (first .0) d && leb e (last .0)', 'leb (first .0) d && ltb e (last .0)')], 'Positions.on-its-last'),
+    ('a letter in force before its first day', [(POSITION, 'leb (first .0) d && leb e (last .0)', 'leb e (last .0)')], 'Positions.before-its-first'),
+    ('a letter in force after its last day', [(POSITION, 'leb (first .0) d && leb e (last .0)', 'leb (first .0) d')], 'Positions.after-its-last'),
+    ('cash that is never in force', [(POSITION, 'inForceThrough d e (Cash a) = true', 'inForceThrough d e (Cash a) = false')], 'Positions.through-cash'),
     ('a letter that counts on every day',
-     [(POSITION, 'countsOn d p = cond (inForce d p) (amountOf p) 0', 'countsOn d p = amountOf p')], 'Positions.counts-no-letter'),
+     [(POSITION, 'countsThrough d e p = cond (inForceThrough d e p) (amountOf p) 0', 'countsThrough d e p = amountOf p'),
+      (HOLDINGS, 'cond (counts h) (amountOf h) 0', 'amountOf h')], 'Decisions.unbegun-short'),
+    ('an empty position in force', [(POSITION, 'inForceThrough d e Empty = false', 'inForceThrough d e Empty = true')], 'Positions.through-none'),
+    ('in force on the second of two days alone', [(POSITION, 'leb (first .0) d && leb e (last .0)', 'leb (first .0) e && leb e (last .0)')],
+     'Positions.through-from-before'),
+    ('in force on the first of two days alone', [(POSITION, 'leb (first .0) d && leb e (last .0)', 'leb (first .0) d && leb d (last .0)')],
+     'Positions.through-to-after'),
     ('an empty position taken for filled', [(POSITION, 'filled Empty = false', 'filled Empty = true')], 'Positions.filled-empty'),
     ('cash taken for empty', [(POSITION, 'filled (Cash a) = true', 'filled (Cash a) = false')], 'Positions.filled-cash'),
     ('a letter taken for empty',
@@ -410,8 +425,37 @@ SHARED = [
      'Decisions.letter-no-longer'),
     ('a kept call of the amount asked',
      [(SETTLE, 'callOf (natAbs (sumOf figures))', 'callOf (Prim.Native.Nat._-_ (natAbs (sumOf figures)) (deposited f t))'),
-      (READ_CALLS, 'callOf (natAbs (sumOf figures))', 'callOf (Prim.Native.Nat._-_ (natAbs (sumOf figures)) (coverIn d own))')],
+      (READ_CALLS, 'callOf (natAbs (sumOf figures))', 'callOf (Prim.Native.Nat._-_ (natAbs (sumOf figures)) (depositedIn d own))')],
      'Decisions.taken-once'),
+    # ---- letters about to lapse
+    ('a check against the cover today', deposits('coverThrough t t (f .slots)', 'inForce t p'), 'Deposits.three-days-left'),
+    ('a letter deposited that lapses on the last free day',
+     deposits('coverThrough t (t + 10) (f .slots)', 'inForce t p && inForce (t + 10) p'), 'Deposits.last-t-10'),
+    ('no letter deposited until day t + 11',
+     deposits('coverThrough t (t + 12) (f .slots)', 'inForce t p && inForce (t + 12) p'), 'Deposits.last-t-11'),
+    ('a letter deposited that begins later',
+     deposits('coverThrough (t + 11) (t + 11) (f .slots)', 'inForce (t + 11) p'), 'Deposits.from-tomorrow'),
+    ('no letter deposited that begins today',
+     deposits('coverThrough (Prim.Native.Nat._-_ t 1) (t + 11) (f .slots)', 'inForce (t - 1) p && inForce (t + 11) p'), 'Deposits.last-t-11'),
+    ('day t + 11 cut at the end of the calendar',
+     deposits('coverThrough t (Prim.Native.Nat.min 29219 (t + 11)) (f .slots)', 'inForce t p && inForce (Prim.Native.Nat.min 29219 (t + 11)) p'),
+     'Deposits.day-29209'),
+    ('a check against the smaller of the covers of today and of day t + 11',
+     [(SETTLE, DEPOSITED, 'Prim.Native.Nat.min (coverThrough t t (f .slots)) (coverThrough (t + 11) (t + 11) (f .slots))'),
+      (HOLDINGS, 'lodgedWhere (staysInForce t) own - releasedWhere (staysInForce t) own', 'Prim.Native.Nat.min (coverIn t own) (coverIn (t + 11) own)')],
+     'Deposits.not-the-smaller'),
+    ('a release that must leave enough deposited',
+     [(RELEASE, 'coverOn t (slotsLeft f k a)', 'Rattle.file.specs.Position.coverThrough t (Prim.Native.Nat._+_ t 11) (slotsLeft f k a)'),
+      (DECISIONS, 'coverLeft t k a own = coverIn t', 'coverLeft t k a own = depositedIn t')],
+     'Deposits.release-rule'),
+    ('a statement of what is deposited',
+     [(FIELDS, 'coverOf f d = coverOn d (f .slots)', 'coverOf f d = Rattle.file.specs.Position.coverThrough d (Prim.Native.Nat._+_ d 11) (f .slots)'),
+      (DECISIONS, '(coverIn t own) (firmIn t own - coverIn t own)', '(depositedIn t own) (firmIn t own - depositedIn t own)')],
+     'Deposits.cover-today'),
+    ('an opening charged by what is deposited',
+     [(OPENING, 'coverOn d (slotsOpened f d)', 'Rattle.file.specs.Position.coverThrough d (Prim.Native.Nat._+_ d 11) (slotsOpened f d)'),
+      (CHARGES, 'coverIn d (before d own)', 'Rattle.book.specs.Reading.Holdings.depositedIn d (before d own)')],
+     'Deposits.not-charged'),
     ('a total recorded without its sign',
      [(TOTALS, 'month = record { 0 = m }; total = e', 'month = record { 0 = m }; total = pos (lib.IntN.natAbs e)'),
       (MONTHS, '(total (sumOf figures))', '(total (lib.IntN.pos (lib.IntN.natAbs (sumOf figures))))')],
@@ -445,7 +489,7 @@ SHARED = [
       (DECISIONS, 'ownCauses t own (release k a)', 'ownCauses t own (release a k)'),
       (DECISIONS, '(act t (release k a) ∷ own)', '(act t (release a k) ∷ own)'),
       (HOLDINGS, 'releasedSince k (act d (release j a)', 'releasedSince k (act d (release a j)'),
-      (HOLDINGS, 'releasedOn d (act e (release k a)', 'releasedOn d (act e (release a k)')],
+      (HOLDINGS, 'releasedWhere counts (act e (release k a)', 'releasedWhere counts (act e (release a k)')],
      'Decisions.released-whole'),
     ('an annual run that answers months before amount',
      [(ANNUAL, '(annual (annualAmountOf f t) (length (annualTotals f t)))', '(annual (length (annualTotals f t)) (annualAmountOf f t))'),

@@ -136,7 +136,7 @@ static void winter(void)
     advance(day(2021, 1, 12), 31, "opened 8");
     statement(0, "statement 2000000 2000000 0 0 0"); /* the last free day is over: the call is firm */
 
-    /* January: November is settled, two months back, and checked against the cover. The five figures: accounts Λ-A, Λ-B, Λ-Γ, Λ-Δ and Λ-ΣΤ. */
+    /* January: November is settled, two months back, and checked against what is deposited. The five figures: accounts Λ-A, Λ-B, Λ-Γ, Λ-Δ and Λ-ΣΤ. */
     advance(day(2021, 1, 20), 31, "opened 8");
     settle(0, month(2020, 11), 310000, -42000, 128000, 1390000, 64000, "covered 1850000");
     settle(1, month(2020, 11), 700000, 0, 0, 180000, 20000, "covered 900000");
@@ -144,11 +144,11 @@ static void winter(void)
     settle(0, month(2020, 10), 1700000, 0, 0, 0, 0, "recorded 1700000"); /* older than two months: no check, kept for the annual run */
     settle(0, month(2020, 12), 2300000, 0, 0, 0, 0, "refused 12"); /* December is not due before February */
 
-    /* February: December. A total at least 20% above the cover calls for the difference. */
+    /* February: December. A total at least 20% above what is deposited calls for the difference. */
     advance(day(2021, 2, 15), 31, "opened 26");
-    settle(0, month(2020, 12), 400000, 0, 150000, 1650000, 100000, "covered 2300000"); /* 15% above the cover of 2,000,000: tolerated */
+    settle(0, month(2020, 12), 400000, 0, 150000, 1650000, 100000, "covered 2300000"); /* 15% above the 2,000,000 in cash: tolerated */
     settle(1, month(2020, 12), 950000, 0, 0, 270000, 30000, "called 1250000 250000 421"); /* 25% above; free until 25 February */
-    settle(2, month(2020, 12), 90000, 0, 5000, 20000, 5000, "called 120000 120000 421"); /* no cover at all */
+    settle(2, month(2020, 12), 90000, 0, 5000, 20000, 5000, "called 120000 120000 421"); /* nothing is deposited */
     advance(day(2021, 2, 20), 31, "opened 5");
     cash(1, 1, 250000, "done"); /* the trader pays in time, the producer doesn't */
     advance(day(2021, 2, 25), 31, "opened 5");
@@ -166,7 +166,7 @@ static void spring(void)
 {
     /* March: January. A letter counts from its first day on. */
     advance(day(2021, 3, 15), 31, "opened 14");
-    settle(0, month(2021, 1), 600000, 0, 250000, 2000000, 150000, "called 3000000 1000000 449"); /* half above the cover; free until 25 March */
+    settle(0, month(2021, 1), 600000, 0, 250000, 2000000, 150000, "called 3000000 1000000 449"); /* half above; free until 25 March */
     settle(1, month(2021, 1), 800000, 0, 0, 200000, 40000, "covered 1040000");
     settle(2, month(2021, 1), 30000, -15000, 5000, 15000, 5000, "covered 40000");
     settle(2, month(2020, 12), 60000, 0, 5000, 12000, 3000, "recorded 80000"); /* December corrected: the total is replaced, the call stays */

@@ -126,6 +126,14 @@ impl Position {
             held => held.amount(),
         }
     }
+
+    /// What is deposited in a check on a day: all cash, and a letter that has begun and is still in force eleven days on.
+    fn deposited_on(self, day: u32) -> u64 {
+        match self {
+            Position::Letter { first, last, .. } if day < first || last < day + 11 => 0,
+            held => held.amount(),
+        }
+    }
 }
 
 /// Whether an amount is outside 1 to 10^12 cents, cause 8.
@@ -191,6 +199,14 @@ impl File {
         self.positions.iter().map(|held| held.counts_on(day)).sum()
     }
 
+    /// What is deposited in a check on a day (paper 02, Ask 2).
+    fn deposited(&self, day: u32) -> u64 {
+        self.positions
+            .iter()
+            .map(|held| held.deposited_on(day))
+            .sum()
+    }
+
     /// What a release must leave: the largest of the firm amount, the open calls and the next amount.
     fn floor(&self) -> u64 {
         let known = self.firm.max(self.next.unwrap_or(0));
@@ -246,11 +262,11 @@ impl File {
         Ok(())
     }
 
-    /// Whether a total that is checked calls for more than the cover.
-    fn calls_for(&self, total: i64, cover: u64) -> bool {
+    /// Whether a total that is checked calls for more than is deposited.
+    fn calls_for(&self, total: i64, deposited: u64) -> bool {
         let exceeds = |amount: u64| (amount as i64) < total;
-        exceeds(cover)
-            && 6 * cover as i64 <= 5 * total
+        exceeds(deposited)
+            && 6 * deposited as i64 <= 5 * total
             && exceeds(self.firm)
             && self.open_calls().iter().all(|call| exceeds(call.amount))
     }
@@ -272,10 +288,10 @@ impl File {
         Ok(settled)
     }
 
-    /// The check of a total against the cover today, which may call, or cause 13.
+    /// The check of a total against what is deposited today, which may call, or cause 13.
     fn check(&mut self, total: i64, today: u32) -> Result<Settled, Refusal> {
-        let cover = self.cover(today);
-        if !self.calls_for(total, cover) {
+        let deposited = self.deposited(today);
+        if !self.calls_for(total, deposited) {
             return Ok(Settled::Covered(total));
         }
         if self.count as usize == OPEN_CALLS {
@@ -285,7 +301,7 @@ impl File {
         let last = self.call(amount, today);
         Ok(Settled::Called {
             amount,
-            asked: amount - cover,
+            asked: amount - deposited,
             last,
         })
     }

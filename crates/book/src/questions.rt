@@ -68,7 +68,7 @@ pub fn statement(words: &[u64], participant: u64) -> Stated
         return Stated::Refused(2);
     }
     let today = Day(number(words[1]));
-    let covered = cover_at(words, at, today);
+    let covered = cover_at(words, at, today, today);
     let firm = words[at + 3];
     let shortfall = less_cover(firm, covered);
     Stated::Is(Statement {

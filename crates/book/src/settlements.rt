@@ -24,6 +24,7 @@ ghost use lib.ListN.{length, set};
 ghost use Rattle.file.specs.Answer.{accepted, called, settledSays};
 ghost use Rattle.file.specs.Calls.{callOf};
 ghost use Rattle.file.specs.DueCheck.{checkAnswer};
+ghost use Rattle.file.specs.Settle.{deposited};
 ghost use Rattle.file.specs.Totals.{totalOf};
 ghost use Rattle.layout.specs.Parts.{totalWords, openCallWords, TotalBack, CallBack, written};
 ghost use Rattle.layout.specs.Words.{fileInWords, todayIn};
@@ -44,6 +45,16 @@ pub fn is_settled(answer: Settled) -> bool
     }
 }
 
+// D of a check today: what a participant's positions give from today through day t + 11.
+fn deposited_today(words: &[u64], participant: u64) -> u64
+    requires { ⌜ WellFormed (now words) × (participant ≤ 63) ⌝ }
+    ensures { λ r. ⌜ r ≡ deposited (fileInWords (now (words .entry)) participant) (todayIn (now (words .entry))) ⌝ }
+{
+    let at = 2 + 96 * participant as usize;
+    let today = number(words[1]);
+    cover_at(words, at, Day(today), Day(today + 11))
+}
+
 // What a check that is due answers to a total: 13 where the call would be a fifth open one, or what the check says.
 fn check_answer(words: &[u64], participant: u64, total: i64) -> Settled
     requires { ⌜ WellFormed (now words) × (participant ≤ 63) ⌝ }
@@ -51,14 +62,14 @@ fn check_answer(words: &[u64], participant: u64, total: i64) -> Settled
 {
     let at = 2 + 96 * participant as usize;
     let today = Day(number(words[1]));
-    let covered = cover_at(words, at, today);
+    let deposited = deposited_today(words, participant);
     let opens = [
         words[at + 41],
         words[at + 43],
         words[at + 45],
         words[at + 47],
     ];
-    match check(total, covered, words[at + 3], &opens) {
+    match check(total, deposited, words[at + 3], &opens) {
         Check::Covered => Settled::Covered(total),
         Check::Call { amount, asked } => {
             if 4 <= words[at + 4] {

@@ -8,7 +8,7 @@ mod numbers; // numbers.rt: answers as numbers
 mod questions; // questions.rt: the questions, and the special guarantee
 
 // What a settlement answers: its kind is 1 called, 2 covered, 3 recorded; the month's total in cents; where it is called, the cents asked
-// beyond the cover, and the last free day.
+// beyond what is deposited, and the last free day.
 #[repr(C)]
 pub struct GuaranteeSettled {
     pub refusal: u64,

@@ -14,7 +14,7 @@ use Rattle.file.specs.Annual.{annualTotals, annualAmountOf, annualAnswer, annua
 use Rattle.file.specs.Calls.{largest, inPlaces, keep}
 use Rattle.file.specs.Fields.{openCalls, coverOf, shortfallOf}
 use Rattle.file.specs.Opening.{slotsOpened, callsOpened, firmRaised, takesEffect, firmOpened, nextOpened, shortfallOpened, openedFile}
-use Rattle.file.specs.Position.{countsOn, coverOn, emptiedOn}
+use Rattle.file.specs.Position.{countsThrough, coverThrough, coverOn, emptiedOn, outsideAmounts}
 use Rattle.file.specs.Settle.{outsideMonths, checkDue, deposited, settlementCalls, settledAnswer, settleAnswer, callsSettled, settledFile}
 use Rattle.file.specs.Statement.{fileStatement}
 use Rattle.file.specs.Totals.{totalHere, totalAt, withTotal, totalsFrom}
@@ -24,7 +24,7 @@ use Rattle.book.specs.Reading.Calls.{baseIn, firmFrom, openOn, calledIn, callsI
 use Rattle.book.specs.Reading.Charges.{before, openingShortfall, daysSince, countShort, sumCharges, chargedIn, accruedIn}
 use Rattle.book.specs.Reading.Decisions.{settlementAnswer, ownCauses, ownAnswer, ownStatement, callsBelow, decision, withCall, eventsOf}
 use Rattle.book.specs.Reading.Events.{mine, todayOf, withDays, admittedIn, roleIn}
-use Rattle.book.specs.Reading.Holdings.{lastLodged, releasedSince, leftAt, positionIn, lodgedOn, releasedOn, coverIn}
+use Rattle.book.specs.Reading.Holdings.{lastLodged, releasedSince, leftAt, positionIn, lodgedWhere, releasedWhere, coverIn, depositedIn}
 use Rattle.book.specs.Reading.Months.{totalIn, yearsTotals, annualIn, nextIn}
 use Rattle.laws.specs.Least.{least}
 use Rattle.batch.specs.Bytes.{numberAt, signedOf}
@@ -40,12 +40,12 @@ pub batches : Batches
 unfolding decide larger sumOf leap lengthIn lengthOf firstDay holding monthOf dayOfMonth isSeptember inAnnualDays isFirstOctober
     largestTotal annualAmount dayCharge exceedsTolerance exceedsEach callIsMade checked wrongCount allWithin outOfRange minimumOf
     callsOfAdmission admittedFile annualTotals annualAmountOf annualAnswer annualFile largest inPlaces keep openCalls coverOf shortfallOf
-    slotsOpened callsOpened firmRaised takesEffect firmOpened nextOpened shortfallOpened openedFile countsOn coverOn emptiedOn outsideMonths
+    slotsOpened callsOpened firmRaised takesEffect firmOpened nextOpened shortfallOpened openedFile countsThrough coverThrough coverOn emptiedOn outsideAmounts outsideMonths
     checkDue deposited settlementCalls settledAnswer settleAnswer callsSettled settledFile fileStatement totalHere totalAt withTotal
     totalsFrom freshBook fileAt withFile ifNumbered ifAdmitted fileAnswer fileAfter callsAdded openedIfAdmitted openDay openDays answer
     applied step run baseIn firmFrom openOn calledIn callsIn firmIn openIn before openingShortfall daysSince countShort sumCharges chargedIn
     accruedIn settlementAnswer ownCauses ownAnswer ownStatement callsBelow decision withCall eventsOf mine todayOf withDays admittedIn
-    roleIn lastLodged releasedSince leftAt positionIn lodgedOn releasedOn coverIn totalIn yearsTotals annualIn nextIn least numberAt
+    roleIn lastLodged releasedSince leftAt positionIn lodgedWhere releasedWhere coverIn depositedIn totalIn yearsTotals annualIn nextIn least numberAt
     signedOf monthIn countIn offsetAt lengthAt endAt beginsAt participantAt rowsAt figuresBehind figuresAt tooShort misplaced firstMisplaced notFollowing
     isBefore wrongLength wrongPart firstWrong refusedIf formOf firstRefused batchSays afterParts partAnswer partDecision withParts newestFirst decides
     answers happened happenedTo
@@ -95,6 +95,8 @@ batches =
       one-made = refl;
       none-made = refl;
       refused-made = refl;
+      deposited-made = refl;
+      not-deposited-made = refl;
       last-free-day = refl;
       firm = refl;
       second-firm = refl;

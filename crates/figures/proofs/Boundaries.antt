@@ -6,6 +6,7 @@ use Rattle.figures.proofs.Positions.{positions}
 use Rattle.figures.proofs.Settlements.{settlements}
 use Rattle.figures.proofs.Guarantees.{guarantees}
 use Rattle.figures.proofs.Decisions.{decisions}
+use Rattle.figures.proofs.Deposits.{deposits}
 use Rattle.figures.proofs.Files.{files}
 use Rattle.figures.proofs.Batches.{batches}
 
@@ -17,6 +18,7 @@ boundaries =
       settlements = settlements;
       guarantees = guarantees;
       decisions = decisions;
+      deposits = deposits;
       files = files;
       batches = batches;
     }

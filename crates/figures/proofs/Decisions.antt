@@ -12,7 +12,7 @@ use Rattle.manual.specs.Check.{exceedsTolerance, exceedsEach, callIsMade, check
 use Rattle.manual.specs.Figures.{wrongCount, allWithin, outOfRange}
 use Rattle.manual.specs.Minimum.{minimumOf}
 use Rattle.file.specs.Calls.{largest, keep}
-use Rattle.file.specs.Position.{countsOn, emptiedOn, outsideAmounts}
+use Rattle.file.specs.Position.{emptiedOn, outsideAmounts}
 use Rattle.file.specs.Settle.{outsideMonths, checkDue}
 use Rattle.file.specs.Totals.{totalsFrom}
 use Rattle.book.specs.Account.{freshBook, freshAnswer, freshBookBeside}
@@ -20,7 +20,7 @@ use Rattle.book.specs.Reading.Calls.{baseIn, firmFrom, openOn, calledIn, callsI
 use Rattle.book.specs.Reading.Charges.{before, openingShortfall, daysSince, countShort, sumCharges, chargedIn, accruedIn}
 use Rattle.book.specs.Reading.Decisions.{settlementAnswer, ownCauses, ownAnswer, ownStatement, callsBelow, decision, withCall, eventsOf}
 use Rattle.book.specs.Reading.Events.{mine, todayOf, withDays, admittedIn, roleIn}
-use Rattle.book.specs.Reading.Holdings.{lastLodged, releasedSince, leftAt, positionIn, lodgedOn, releasedOn, coverIn}
+use Rattle.book.specs.Reading.Holdings.{lastLodged, releasedSince, leftAt, positionIn, lodgedWhere, releasedWhere, coverIn, depositedIn}
 use Rattle.book.specs.Reading.Months.{totalIn, yearsTotals, annualIn, nextIn}
 use Rattle.figures.specs.History.{newestFirst, decides, answers}
 use Rattle.book.specs.Life.{answersOf, decisionsOf}
@@ -42,10 +42,10 @@ both s calls c h = ap newest (life s (c ∷ newestFirst calls []) h .answers)
 pub decisions : Decisions
 unfolding decide larger sumOf leap lengthIn lengthOf firstDay holding monthOf dayOfMonth isSeptember inAnnualDays isFirstOctober
     largestTotal annualAmount dayCharge exceedsTolerance exceedsEach callIsMade checked wrongCount allWithin outOfRange minimumOf largest
-    keep countsOn emptiedOn outsideAmounts outsideMonths checkDue totalsFrom freshBook freshAnswer freshBookBeside baseIn firmFrom openOn
+    keep emptiedOn outsideAmounts outsideMonths checkDue totalsFrom freshBook freshAnswer freshBookBeside baseIn firmFrom openOn
     calledIn callsIn firmIn openIn before openingShortfall daysSince countShort sumCharges chargedIn accruedIn settlementAnswer ownCauses
     ownAnswer ownStatement callsBelow decision withCall eventsOf mine todayOf withDays admittedIn roleIn lastLodged releasedSince leftAt
-    positionIn lodgedOn releasedOn coverIn totalIn yearsTotals annualIn nextIn newestFirst decides
+    positionIn lodgedWhere releasedWhere coverIn depositedIn totalIn yearsTotals annualIn nextIn newestFirst decides
 decisions =
     record {
       both = both;
@@ -147,7 +147,6 @@ decisions =
       settle-p-3 = refl;
       settle-credit = refl;
       settle-credit-recorded = refl;
-      settle-cover = refl;
       settle-at-cover = refl;
       settle-within = refl;
       settle-at-20 = refl;

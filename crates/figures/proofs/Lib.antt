@@ -4,6 +4,7 @@ pub mod Positions
 pub mod Settlements
 pub mod Guarantees
 pub mod Decisions
+pub mod Deposits
 pub mod Files
 pub mod Batches
 pub mod Boundaries

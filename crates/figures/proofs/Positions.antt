@@ -1,11 +1,11 @@
 -- Positions, amounts and days at their bounds: each fact is computed from the definitions.
 -- Assumes nothing.
 use mathlib.Core.Path.{refl}
-use Rattle.file.specs.Position.{countsOn, emptiedOn, outsideAmounts}
+use Rattle.file.specs.Position.{countsThrough, emptiedOn, outsideAmounts}
 use Rattle.figures.specs.Positions.{Positions}
 
 pub positions : Positions
-unfolding countsOn emptiedOn outsideAmounts
+unfolding countsThrough emptiedOn outsideAmounts
 positions =
     record {
       amount-empty = refl;
@@ -18,6 +18,11 @@ positions =
       on-its-first = refl;
       on-its-last = refl;
       after-its-last = refl;
+      through-its-days = refl;
+      through-from-before = refl;
+      through-to-after = refl;
+      through-none = refl;
+      through-cash = refl;
       counts-cash = refl;
       counts-empty = refl;
       counts-letter = refl;

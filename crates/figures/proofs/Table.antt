@@ -21,7 +21,7 @@ use Rattle.file.specs.Calls.{largest, inPlaces, keep}
 use Rattle.file.specs.Fields.{openCalls, coverOf, shortfallOf}
 use Rattle.file.specs.Lodge.{lodgeAnswer, lodgedFile}
 use Rattle.file.specs.Opening.{slotsOpened, callsOpened, firmRaised, takesEffect, firmOpened, nextOpened, shortfallOpened, openedFile}
-use Rattle.file.specs.Position.{countsOn, coverOn, emptiedOn, outsideAmounts}
+use Rattle.file.specs.Position.{countsThrough, coverThrough, coverOn, emptiedOn, outsideAmounts}
 use Rattle.file.specs.Release.{releaseFloor, slotsLeft, releaseAnswer, releasedFile}
 use Rattle.file.specs.Settle.{outsideMonths, checkDue, deposited, settlementCalls, settledAnswer, settleAnswer, callsSettled, settledFile}
 use Rattle.file.specs.Statement.{fileStatement}
@@ -32,7 +32,7 @@ use Rattle.book.specs.Reading.Calls.{baseIn, firmFrom, openOn, calledIn, callsI
 use Rattle.book.specs.Reading.Charges.{before, openingShortfall, daysSince, countShort, sumCharges, chargedIn, accruedIn}
 use Rattle.book.specs.Reading.Decisions.{settlementAnswer, ownCauses, ownAnswer, ownStatement, callsBelow, decision, withCall, eventsOf}
 use Rattle.book.specs.Reading.Events.{mine, todayOf, withDays, admittedIn, roleIn}
-use Rattle.book.specs.Reading.Holdings.{lastLodged, releasedSince, leftAt, positionIn, lodgedOn, releasedOn, coverIn}
+use Rattle.book.specs.Reading.Holdings.{lastLodged, releasedSince, leftAt, positionIn, lodgedWhere, releasedWhere, coverIn, depositedIn}
 use Rattle.book.specs.Reading.Months.{totalIn, yearsTotals, annualIn, nextIn}
 use Rattle.figures.specs.History.{newestFirst, accruedBy, accruedOf, shortfalls}
 use Rattle.figures.specs.Figures.{Figures}
@@ -42,13 +42,13 @@ unfolding decide every larger sumOf insert falling threeLargest meanOfThree floo
     dayOfMonth isSeptember inAnnualDays isFirstOctober largestTotal annualAmount dayCharge exceedsTolerance exceedsEach callIsMade checked
     wrongCount allWithin outOfRange minimumOf wrongLengths outsideRanges tooFew causes atLeast amount specialGuarantee usable ratio
     callsOfAdmission admittedFile annualTotals annualAmountOf annualAnswer annualFile largest inPlaces keep openCalls coverOf shortfallOf
-    lodgeAnswer lodgedFile slotsOpened callsOpened firmRaised takesEffect firmOpened nextOpened shortfallOpened openedFile countsOn coverOn
+    lodgeAnswer lodgedFile slotsOpened callsOpened firmRaised takesEffect firmOpened nextOpened shortfallOpened openedFile countsThrough coverThrough coverOn
     emptiedOn outsideAmounts releaseFloor slotsLeft releaseAnswer releasedFile outsideMonths checkDue deposited settlementCalls
     settledAnswer settleAnswer callsSettled settledFile fileStatement totalHere totalAt withTotal totalsFrom freshBook fileAt withFile
     ifNumbered ifAdmitted fileAnswer fileAfter callsAdded openedIfAdmitted openDay openDays answer applied step run baseIn firmFrom openOn
     calledIn callsIn firmIn openIn before openingShortfall daysSince countShort sumCharges chargedIn accruedIn settlementAnswer ownCauses
     ownAnswer ownStatement callsBelow decision withCall eventsOf mine todayOf withDays admittedIn roleIn lastLodged releasedSince leftAt
-    positionIn lodgedOn releasedOn coverIn totalIn yearsTotals annualIn nextIn newestFirst accruedBy accruedOf shortfalls
+    positionIn lodgedWhere releasedWhere coverIn depositedIn totalIn yearsTotals annualIn nextIn newestFirst accruedBy accruedOf shortfalls
 figures =
     record {
       example-1-largest = refl;

@@ -9,7 +9,7 @@ use Rattle.file.specs.Answer.{annual, stated, counted, batched, refusedPair}
 use Rattle.book.specs.Call.{admit, settle, Call, on, statement, callsMade, batch}
 use Rattle.book.specs.Account.{run}
 use Rattle.book.specs.Reading.Events.{did, dayOpened, act}
-use Rattle.figures.specs.History.{decides, answers, happened, happenedTo, admits, five, runsAnnual, toDay}
+use Rattle.figures.specs.History.{decides, answers, happened, happenedTo, admits, letter, five, runsAnnual, toDay}
 use Rattle.figures.specs.Written.{part, file}
 use Rattle.figures.specs.Files.{oneOf100, twoParts}
 
@@ -102,6 +102,9 @@ pub record Batches : Type 0 where
   pub one-made : decides 60 (producers ++ loadsTwo 0 200 ∷ []) callsMade ≡ counted 1
   pub none-made : decides 60 (producers ++ loadsTwo 0 0 ∷ []) callsMade ≡ counted 0
   pub refused-made : decides 60 (admits 3 ∷ loadsTwo 100 200 ∷ []) callsMade ≡ counted 0
+  -- .. paper 02, Ask 2: a letter in force on day 71 is deposited, and one until day 70 is not
+  pub deposited-made : decides 60 (admits 3 ∷ letter 0 100 60 71 ∷ batch oneOf100 ∷ []) callsMade ≡ counted 0
+  pub not-deposited-made : decides 60 (admits 3 ∷ letter 0 100 60 70 ∷ batch oneOf100 ∷ []) callsMade ≡ counted 1
   -- the call's last free day is day 70
   pub last-free-day : decides 60 (admits 3 ∷ batch oneOf100 ∷ toDay 70 ∷ []) (statement 0) ≡ stated 0 0 0 0 0
   pub firm : decides 60 (admits 3 ∷ batch oneOf100 ∷ toDay 71 ∷ []) (statement 0) ≡ stated 100 0 100 1 100000000

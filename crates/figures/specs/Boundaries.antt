@@ -7,6 +7,7 @@ use Rattle.figures.specs.Positions.{Positions}
 use Rattle.figures.specs.Settlements.{Settlements}
 use Rattle.figures.specs.Guarantees.{Guarantees}
 use Rattle.figures.specs.Decisions.{Decisions}
+use Rattle.figures.specs.Deposits.{Deposits}
 use Rattle.figures.specs.Files.{Files}
 use Rattle.figures.specs.Batches.{Batches}
 
@@ -16,5 +17,6 @@ pub record Boundaries : Type 0 where
   pub settlements : Settlements
   pub guarantees : Guarantees
   pub decisions : Decisions
+  pub deposits : Deposits
   pub files : Files
   pub batches : Batches

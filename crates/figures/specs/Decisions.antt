@@ -167,9 +167,7 @@ pub record Decisions : Type 0 where
   -- a credit is covered, or recorded only
   pub settle-credit : decides 60 (admits 3 ∷ []) (on 0 (settle 0 credit)) ≡ covered (negsuc 4)
   pub settle-credit-recorded : decides 244 (admits 3 ∷ []) (on 0 (settle 4 credit)) ≡ recorded (negsuc 4)
-  -- "D, the cover today": cash and a letter in force, not one that begins tomorrow
-  pub settle-cover : decides 60 (admits 3 ∷ cash 0 40 ∷ letter 1 60 60 60 ∷ letter 2 500 61 99 ∷ []) (settles 0 120) ≡ called 120 20 70
-  -- ".. E > D, 5 × E ≥ 6 × D"
+  -- "A call is made when E > D, 5 × E ≥ 6 × D"; what D is: `Deposits`
   pub settle-at-cover : decides 60 (admits 3 ∷ cash 0 100 ∷ []) (settles 0 100) ≡ covered (pos 100)
   pub settle-within : decides 60 (admits 3 ∷ cash 0 100 ∷ []) (settles 0 119) ≡ covered (pos 119)
   pub settle-at-20 : decides 60 (admits 3 ∷ cash 0 100 ∷ []) (settles 0 120) ≡ called 120 20 70

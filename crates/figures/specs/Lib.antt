@@ -5,6 +5,7 @@ pub mod Positions
 pub mod Settlements
 pub mod Guarantees
 pub mod Decisions
+pub mod Deposits
 pub mod Written
 pub mod Files
 pub mod Batches

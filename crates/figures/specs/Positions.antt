@@ -5,7 +5,7 @@ use mathlib.Core.Path.{_≡_}
 use mathlib.Core.Bool.{true, false}
 use Rattle.file.specs.declared.Position.{Position}
 use Rattle.file.specs.declared.Position.the-variants.{Empty, Cash, Letter}
-use Rattle.file.specs.Position.{amountOf, inForce, countsOn, filled, lapsedBy, emptiedOn, notReleasable, outsideAmounts, againstDays}
+use Rattle.file.specs.Position.{amountOf, inForceThrough, inForce, countsThrough, filled, lapsedBy, emptiedOn, notReleasable, outsideAmounts, againstDays}
 
 -- A letter of an amount, with its first and its last day.
 abbrev pub letterWith : ℕ → ℕ → ℕ → Position
@@ -24,11 +24,17 @@ pub record Positions : Type 0 where
   pub on-its-first : inForce 10 (letterWith 5 10 20) ≡ true
   pub on-its-last : inForce 20 (letterWith 5 10 20) ≡ true
   pub after-its-last : inForce 21 (letterWith 5 10 20) ≡ false
+  -- .. or all from one day to another
+  pub through-its-days : inForceThrough 10 20 (letterWith 5 10 20) ≡ true
+  pub through-from-before : inForceThrough 9 20 (letterWith 5 10 20) ≡ false
+  pub through-to-after : inForceThrough 10 21 (letterWith 5 10 20) ≡ false
+  pub through-none : inForceThrough 10 20 Empty ≡ false
+  pub through-cash : inForceThrough 29219 29230 (Cash 5) ≡ true
   -- "all cash plus every letter whose days include it"
-  pub counts-cash : countsOn 0 (Cash 5) ≡ 5
-  pub counts-empty : countsOn 0 Empty ≡ 0
-  pub counts-letter : countsOn 20 (letterWith 5 10 20) ≡ 5
-  pub counts-no-letter : countsOn 21 (letterWith 5 10 20) ≡ 0
+  pub counts-cash : countsThrough 0 0 (Cash 5) ≡ 5
+  pub counts-empty : countsThrough 0 0 Empty ≡ 0
+  pub counts-letter : countsThrough 20 20 (letterWith 5 10 20) ≡ 5
+  pub counts-no-letter : countsThrough 21 21 (letterWith 5 10 20) ≡ 0
   -- 'Advance': "letters with last day before d are emptied"
   pub lapsed-not : lapsedBy 20 (letterWith 5 10 20) ≡ false
   pub lapsed : lapsedBy 21 (letterWith 5 10 20) ≡ true

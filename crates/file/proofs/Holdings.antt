@@ -9,34 +9,35 @@ use Rattle.laws.specs.Cases.{split}
 use Rattle.calendar.specs.declared.Day.{Day}
 use Rattle.file.specs.declared.Position.{Position}
 use Rattle.file.specs.declared.Position.the-variants.{Empty, Cash, Letter}
-use Rattle.file.specs.Position.{countsOn, lessReleased, notReleasable, outsideAmounts, againstDays}
+use Rattle.file.specs.Position.{countsThrough, lessReleased, notReleasable, outsideAmounts, againstDays}
 
 -- a is below b where b is not at most a.
 ltb-not-leb : (a b : ℕ) → ltb a b ≡ not (leb b a)
 ltb-not-leb a b = split (leb b a) (λ e. rw (e, le-ltb a b (leb-true b a e))) (λ e. rw (e, lt-ltb a b (leb-false b a e)))
 
--- What each kind of position counts for.
-pub counts-empty : {p : Position} (d : ℕ) → p ≡ Empty → 0 ≡ countsOn d p
-unfolding countsOn
-counts-empty d e = rw e
+-- What each kind of position counts for from day d to day e.
+pub counts-empty : {p : Position} (d e : ℕ) → p ≡ Empty → 0 ≡ countsThrough d e p
+unfolding countsThrough
+counts-empty d e q = rw q
 
-pub counts-cash : {p : Position} {a : ℕ} (d : ℕ) → p ≡ Cash a → a ≡ countsOn d p
-unfolding countsOn
-counts-cash d e = rw e
+pub counts-cash : {p : Position} {a : ℕ} (d e : ℕ) → p ≡ Cash a → a ≡ countsThrough d e p
+unfolding countsThrough
+counts-cash d e q = rw q
+
+module _ {p : Position} {a : ℕ} {first last : Day} (d e : ℕ) (q : p ≡ Letter a first last) where
+  pub counts-in-force : first .0 ≤ d → e ≤ last .0 → a ≡ countsThrough d e p
+  unfolding countsThrough
+  counts-in-force h g = rw (q, le-leb (first .0) d h, le-leb e (last .0) g)
+
+  pub counts-lapsing : first .0 ≤ d → last .0 < e → 0 ≡ countsThrough d e p
+  unfolding countsThrough
+  counts-lapsing h g = rw (q, le-leb (first .0) d h, lt-leb e (last .0) g)
+
+  pub counts-not-begun : d < first .0 → 0 ≡ countsThrough d e p
+  unfolding countsThrough
+  counts-not-begun h = rw (q, lt-leb (first .0) d h)
 
 module _ {p : Position} {a : ℕ} {first last : Day} (d : ℕ) (e : p ≡ Letter a first last) where
-  pub counts-in-force : first .0 ≤ d → d ≤ last .0 → a ≡ countsOn d p
-  unfolding countsOn
-  counts-in-force h g = rw (e, le-leb (first .0) d h, le-leb d (last .0) g)
-
-  pub counts-lapsed : first .0 ≤ d → last .0 < d → 0 ≡ countsOn d p
-  unfolding countsOn
-  counts-lapsed h g = rw (e, le-leb (first .0) d h, lt-leb d (last .0) g)
-
-  pub counts-not-begun : d < first .0 → 0 ≡ countsOn d p
-  unfolding countsOn
-  counts-not-begun h = rw (e, lt-leb (first .0) d h)
-
   -- Cause 9 by its three tests.
   pub days-reversed : last .0 < first .0 → true ≡ againstDays d p
   days-reversed h = rw (e, lt-leb (first .0) (last .0) h)

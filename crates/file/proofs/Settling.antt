@@ -21,7 +21,6 @@ use Rattle.file.specs.declared.File.{File}
 use Rattle.file.specs.Answer.{Answer, refused, called, covered, recorded, decide}
 use Rattle.file.specs.Calls.{amountsOf}
 use Rattle.file.specs.CallLaws.{amounts-places}
-use Rattle.file.specs.Position.{coverOn}
 use Rattle.file.specs.Fields.{openCalls, openAmounts, coverOf}
 use Rattle.file.specs.Settle.{outsideMonths, checkDue, deposited, settlementCalls, checkSays, settledAnswer, settleAnswer}
 use Rattle.file.specs.DueCheck.{isFifth, checkAnswer}
@@ -123,11 +122,10 @@ call-made : (made : Bool) (x y a b : ℕ) → Call a b ≡ cond made (Call x y) 
 call-made true x y a b q = refl
 call-made false x y a b q = cc
 
--- What the check found, by the cover and the amounts in the four places that the code gave it: the zeros behind the open calls change nothing.
-module _ (f : File) (t : ℕ) (s : Sound t f) (e : ℤ) (d : ℕ) (opens : List ℕ) (r : Check) (d-is : d ≡ coverOn t (f .slots))
+-- What the check found, by D and the amounts in the four places that the code gave it: the zeros behind the open calls change nothing.
+module _ (f : File) (t : ℕ) (s : Sound t f) (e : ℤ) (d : ℕ) (opens : List ℕ) (r : Check) (d-is : d ≡ deposited f t)
     (opens-is : opens ≡ amountsOf (f .calls)) (r-is : r ≡ checked e d (f .firm) opens) where
   found : r ≡ checked e (deposited f t) (f .firm) (openAmounts f)
-  unfolding deposited coverOf
   found =
       let zeros = ap amountsOf (s .places) ∙ amounts-places (openCalls f) in
       r-is ∙ rw (d-is, opens-is, zeros) (checked-zeros e _ (f .firm) (openAmounts f) (4 - length (openCalls f)))

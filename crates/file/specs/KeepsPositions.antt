@@ -21,7 +21,7 @@ use Rattle.file.specs.declared.Position.the-variants.{Empty, Cash, Lette
 use Rattle.file.specs.declared.Slot.{Slot}
 use Rattle.file.specs.Answer.{done, accepted}
 use Rattle.file.specs.DecideLaws.{none-holds}
-use Rattle.file.specs.Position.{amountOf, againstDays, countsOn, coverOn, inForce}
+use Rattle.file.specs.Position.{amountOf, againstDays, inForceThrough, countsThrough, coverThrough, coverOn}
 use Rattle.file.specs.Position.{lessReleased, notReleasable, outsideAmounts, positionAt, slotOf}
 use Rattle.file.specs.Calls.{callOf, inPlaces}
 use Rattle.file.specs.CallLaws.{inPlaces-take, inPlaces-all}
@@ -41,20 +41,20 @@ amount-bound (Cash a) h = h .1
 amount-bound (Letter a first last) h = h .1
 
 -- A position counts for at most 10^12 cents.
-pub counts-bound : (d : ℕ) (p : Position) → SoundPosition p → countsOn d p ≤ 1000000000000
-unfolding countsOn
-counts-bound d p h = split (inForce d p) (λ e. rw e (amount-bound p h)) (λ e. rw e (omega arith))
+pub counts-bound : (d e : ℕ) (p : Position) → SoundPosition p → countsThrough d e p ≤ 1000000000000
+unfolding countsThrough
+counts-bound d e p h = split (inForceThrough d e p) (λ q. rw q (amount-bound p h)) (λ q. rw q (omega arith))
 
 -- The cover of n sound positions is at most n * 10^12 cents.
-pub cover-bound : (d : ℕ) (l : List Slot) → All (λ (s : Slot). SoundPosition (s .position)) l → coverOn d l ≤ length l * 1000000000000
-unfolding coverOn
-cover-bound d [] a = omega arith
-cover-bound d (s ∷ l) a = omega (arith, cover-bound d l (a .1), counts-bound d (s .position) (a .0))
+pub cover-bound : (d e : ℕ) (l : List Slot) → All (λ (s : Slot). SoundPosition (s .position)) l → coverThrough d e l ≤ length l * 1000000000000
+unfolding coverThrough
+cover-bound d e [] a = omega arith
+cover-bound d e (s ∷ l) a = omega (arith, cover-bound d e l (a .1), counts-bound d e (s .position) (a .0))
 
 -- The cover of a sound file with its eight positions is at most 8 * 10^12 cents.
 pub sound-cover : (t d : ℕ) (f : File) → Sound t f → length (f .slots) ≡ 8 → coverOf f d ≤ 8000000000000
-unfolding coverOf
-sound-cover t d f s e = omega (arith, cover-bound d (f .slots) (s .slots))
+unfolding coverOf coverOn
+sound-cover t d f s e = omega (arith, cover-bound d d (f .slots) (s .slots))
 
 -- ---- amounts and days that are not refused
 

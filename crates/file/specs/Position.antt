@@ -1,4 +1,4 @@
--- Positions, and the cover that they give on a day (paper 01, 'One participant's file').
+-- Positions, and the cover that they give on a day, or from one day to another (paper 01, 'One participant's file').
 -- Assumes nothing.
 use Prim.Native.Nat.{ℕ, _+_, _-_}
 use mathlib.Core.Bool.{Bool, true, false, cond, not, _&&_}
@@ -15,20 +15,28 @@ amountOf Empty = 0
 amountOf (Cash a) = a
 amountOf (Letter a first last) = a
 
--- Whether a position is cash, or a letter "whose days include" d, "first day and last day, both included".
-abbrev pub inForce : ℕ → Position → Bool
-inForce d Empty = false
-inForce d (Cash a) = true
-inForce d (Letter a first last) = leb (first .0) d && leb d (last .0)
+-- Whether a position is cash, or a letter whose days, "first day and last day, both included", include all from day d to a day e not before it.
+abbrev pub inForceThrough : ℕ → ℕ → Position → Bool
+inForceThrough d e Empty = false
+inForceThrough d e (Cash a) = true
+inForceThrough d e (Letter a first last) = leb (first .0) d && leb e (last .0)
 
--- What a position counts for on day d.
-unfoldable pub countsOn : ℕ → Position → ℕ
-countsOn d p = cond (inForce d p) (amountOf p) 0
+-- Whether it is cash, or a letter "whose days include" d.
+abbrev pub inForce : ℕ → Position → Bool
+inForce d p = inForceThrough d d p
+
+-- What a position counts for from day d to day e.
+unfoldable pub countsThrough : ℕ → ℕ → Position → ℕ
+countsThrough d e p = cond (inForceThrough d e p) (amountOf p) 0
+
+-- The cover that lasts from day d to a day e not before it: all cash plus every letter whose days include both.
+unfoldable pub coverThrough : ℕ → ℕ → List Slot → ℕ
+coverThrough d e [] = 0
+coverThrough d e (s ∷ slots) = countsThrough d e (s .position) + coverThrough d e slots
 
 -- "Cover on a day: all cash plus every letter whose days include it."
 unfoldable pub coverOn : ℕ → List Slot → ℕ
-coverOn d [] = 0
-coverOn d (s ∷ slots) = countsOn d (s .position) + coverOn d slots
+coverOn d slots = coverThrough d d slots
 
 -- Whether something is held at a position.
 abbrev pub filled : Position → Bool

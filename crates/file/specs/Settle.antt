@@ -15,8 +15,9 @@ use Rattle.file.specs.declared.File.{File}
 use Rattle.file.specs.declared.OpenCall.{OpenCall}
 use Rattle.file.specs.Answer.{Answer, refused, called, covered, recorded, decide, accepted}
 use Rattle.file.specs.Calls.{callOf}
+use Rattle.file.specs.Position.{coverThrough}
 use Rattle.file.specs.Totals.{withTotal}
-use Rattle.file.specs.Fields.{openCalls, openAmounts, coverOf, withTotals}
+use Rattle.file.specs.Fields.{openCalls, openAmounts, withTotals}
 
 -- Cause 12: "month outside P − 14 to P − 2".
 unfoldable pub outsideMonths : ℕ → ℕ → Bool
@@ -26,9 +27,10 @@ outsideMonths p m = not (leb p (m + 14) && leb (m + 2) p)
 unfoldable pub checkDue : ℕ → ℕ → Bool
 checkDue p m = eqb (m + 2) p && not (isSeptember p)
 
--- "D, the cover today".
+-- D. Paper 02, Ask 2: "the amount in force today that will still be in force on day t + 11", so all cash, and the letters that have begun by t and last
+-- to day t + 11 or longer. That day may lie past the calendar, where no letter lasts.
 unfoldable pub deposited : File → ℕ → ℕ
-deposited f t = coverOf f t
+deposited f t = coverThrough t (t + 11) (f .slots)
 
 -- Whether month m's figures call on day t: a check is due, and the manual's check calls.
 unfoldable pub settlementCalls : File → ℕ → ℕ → List ℤ → Bool

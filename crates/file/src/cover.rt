@@ -1,23 +1,23 @@
-// The cover that positions give on a day (paper 01, 'One participant's file').
+// The cover that positions give on a day, or from one day through another (paper 01, 'One participant's file').
 use crate::Position;
 use crate::Slot;
 use calendar::Day;
 ghost use mathlib.Core.Path.{_≡_};
 ghost use Prim.Native.Nat.{_-_};
 ghost use Rattle.laws.specs.Lists.{All};
-ghost use Rattle.file.specs.Position.{countsOn, coverOn};
+ghost use Rattle.file.specs.Position.{countsThrough, coverOn};
 ghost use Rattle.file.specs.Sound.{SoundPosition};
 
-// What a position counts for on a day: all cash, and a letter whose days include it.
-pub fn counts(position: Position, day: Day) -> u64
-    ensures { λ r. ⌜ r ≡ countsOn (day .0) position ⌝ }
+// What a position counts for from one day through another that isn't before it: all cash, and a letter whose days include both.
+pub fn counts(position: Position, from: Day, through: Day) -> u64
+    ensures { λ r. ⌜ r ≡ countsThrough (from .0) (through .0) position ⌝ }
 {
     match position {
         Position::Empty => 0,
         Position::Cash(amount) => amount,
         Position::Letter(amount, first, last) => {
-            if first.0 <= day.0 {
-                if day.0 <= last.0 { amount } else { 0 }
+            if first.0 <= from.0 {
+                if through.0 <= last.0 { amount } else { 0 }
             } else {
                 0
             }
@@ -35,7 +35,7 @@ pub fn cover(slots: [Slot; 8], day: Day) -> u64
     while i < 8 {
         let slot = slots[i];
         let position = slot.position;
-        sum += counts(position, day);
+        sum += counts(position, day, day);
         i += 1;
     }
     sum

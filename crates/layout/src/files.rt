@@ -22,7 +22,7 @@ ghost use mathlib.Core.List.{[], _∷_};
 ghost use lib.ListN.{length};
 ghost use Rattle.laws.specs.Lists.{All};
 ghost use Rattle.file.specs.declared.Slot.{Slot};
-ghost use Rattle.file.specs.Position.{coverOn};
+ghost use Rattle.file.specs.Position.{coverThrough};
 ghost use Rattle.file.specs.Sound.{SoundPosition};
 ghost use Rattle.layout.specs.Parts.{slotWords, openCallWords, totalWords, written, SlotBack, CallBack, TotalBack};
 ghost use Rattle.layout.specs.Files.{slotIn, callIn, monthTotalIn, slotsOfWords, callsOfWords};
@@ -213,17 +213,17 @@ pub fn put_next(words: &mut [u64], at: usize, amount: u64)
     words[at + 6] = amount;
 }
 
-// What the positions of the file behind a place give on a day.
-pub fn cover_at(words: &[u64], at: usize, day: Day) -> u64
+// What the positions of the file behind a place give from one day through another that isn't before it.
+pub fn cover_at(words: &[u64], at: usize, from: Day, through: Day) -> u64
     requires { ⌜ (at + 97 ≤ length (now words)) × All (λ (s : Slot). SoundPosition (s .position)) (slotsOfWords (wordsAt (now words) at)) ⌝ }
-    ensures { λ r. ⌜ r ≡ coverOn (day .0) (slotsOfWords (wordsAt (now (words .entry)) at)) ⌝ }
+    ensures { λ r. ⌜ r ≡ coverThrough (from .0) (through .0) (slotsOfWords (wordsAt (now (words .entry)) at)) ⌝ }
 {
     let mut sum = 0;
     let mut k = 0;
     while k < 8 {
         let slot = slot_at(words, at + (9 + 4 * k));
         let position = slot.position;
-        sum += counts(position, day);
+        sum += counts(position, from, through);
         k += 1;
     }
     sum

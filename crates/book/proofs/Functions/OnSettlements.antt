@@ -20,8 +20,8 @@ use Rattle.file.specs.declared.Slot.{Slot}
 use Rattle.file.specs.Answer.{Answer, refused, called, covered, recorded}
 use Rattle.file.specs.Calls.{amountsOf}
 use Rattle.file.specs.DueCheck.{checkAnswer}
-use Rattle.file.specs.Position.{coverOn}
-use Rattle.file.specs.Settle.{outsideMonths, checkDue, settleAnswer}
+use Rattle.file.specs.Position.{coverThrough}
+use Rattle.file.specs.Settle.{outsideMonths, checkDue, deposited, settleAnswer}
 use Rattle.file.specs.Sound.{SoundPosition}
 use Rattle.file.proofs.Settling as settling
 use Rattle.layout.specs.Parts.{flagOf, openCallOfWords}
@@ -95,9 +95,12 @@ settlement-given l m p mo figures outside due sum x o d s answers puts = puts fi
 
 -- ---- a check that is due
 
--- The last free day fits its type.
+-- The last free day and the day after it fit the type of days.
 pub day-room : (l : List ℕ) (t : ℕ) → WellFormed l → t ≡ todayIn l → t + 10 < 4294967296
 day-room l t w e = omega (arith, day-within l t w e)
+
+pub day-after-room : (l : List ℕ) (t : ℕ) → WellFormed l → t ≡ todayIn l → t + 11 < 4294967296
+day-after-room l t w e = omega (arith, day-within l t w e)
 
 module _ (l : List ℕ) (p : ℕ) (w : WellFormed l) (low : p ≤ 63) where
   pub slots-sound : All (λ (s : Slot). SoundPosition (s .position)) (slotsOfWords (wordsAt l (place p)))
@@ -112,12 +115,14 @@ module _ (l : List ℕ) (p : ℕ) (w : WellFormed l) (low : p ≤ 63) where
   unfolding fileOfWords callsOfWords openCallOfWords
   opens-are = refl
 
-  module _ (day : ℕ) (day-is : day ≡ todayIn l) (e z : ℤ) (z-is : z ≡ e) (d : ℕ) (d-is : d ≡ coverOn day (slotsOfWords (wordsAt l (place p))))
-      (r : Check) (r-is : r ≡ checked z d (getD l (place p + 3) 0) opens) where
-    cover-is : d ≡ coverOn (todayIn l) (fileInWords l p .slots)
-    unfolding fileOfWords
-    cover-is = d-is ∙ ap (λ (n : ℕ). coverOn n (slotsOfWords (wordsAt l (place p)))) day-is
+  -- D
+  pub deposit-is : (day r : ℕ) → day ≡ todayIn l → r ≡ coverThrough day (day + 11) (slotsOfWords (wordsAt l (place p)))
+      → r ≡ deposited (fileInWords l p) (todayIn l)
+  unfolding fileOfWords deposited
+  deposit-is day r day-is e = e ∙ ap (λ (n : ℕ). coverThrough n (n + 11) (slotsOfWords (wordsAt l (place p)))) day-is
 
+  module _ (day : ℕ) (day-is : day ≡ todayIn l) (e z : ℤ) (z-is : z ≡ e) (d : ℕ) (d-is : d ≡ deposited (fileInWords l p) (todayIn l)) (r : Check)
+      (r-is : r ≡ checked z d (getD l (place p + 3) 0) opens) where
     check-is : r ≡ checked e d (fileInWords l p .firm) opens
     unfolding fileOfWords
     check-is = r-is ∙ ap (λ (x : ℤ). checked x d (getD l (place p + 3) 0) opens) z-is
@@ -126,18 +131,18 @@ module _ (l : List ℕ) (p : ℕ) (w : WellFormed l) (low : p ≤ 63) where
     check-covered h =
         ap covered z-is
         ∙ settling.check-covered (fileInWords l p) (todayIn l) (file-sound l p w low (fileInWords l p) (todayIn l) refl refl) e d opens r
-        cover-is opens-are check-is h
+        d-is opens-are check-is h
 
     module _ (amount asked : ℕ) (h : r ≡ Call amount asked) where
       pub check-fifth : 4 ≤ getD l (place p + 4) 0 → refused 13 ≡ checkAnswer (fileInWords l p) (todayIn l) e
       unfolding fileOfWords
       check-fifth n =
           settling.check-fifth (fileInWords l p) (todayIn l) (file-sound l p w low (fileInWords l p) (todayIn l) refl refl) e d opens r
-          cover-is opens-are check-is amount asked h n
+          d-is opens-are check-is amount asked h n
 
       pub check-called : getD l (place p + 4) 0 < 4 → called amount asked (day + 10) ≡ checkAnswer (fileInWords l p) (todayIn l) e
       unfolding fileOfWords
       check-called n =
           ap (λ (k : ℕ). called amount asked (k + 10)) day-is
           ∙ settling.check-called (fileInWords l p) (todayIn l) (file-sound l p w low (fileInWords l p) (todayIn l) refl refl) e d opens r
-          cover-is opens-are check-is amount asked h n
+          d-is opens-are check-is amount asked h n

@@ -21,7 +21,7 @@ use Rattle.file.specs.Answer.{accepted, annualSays, statementSays}
 use Rattle.file.specs.Admit.{noFile, admittedFile}
 use Rattle.file.specs.Annual.{annualAmountOf, annualAnswer, annualFile}
 use Rattle.file.specs.Fields.{coverOf, shortfallOf, withNext, setTo}
-use Rattle.file.specs.Position.{coverOn}
+use Rattle.file.specs.Position.{coverThrough, coverOn}
 use Rattle.file.specs.Sound.{Sound, SoundPosition}
 use Rattle.file.specs.Statement.{fileStatement}
 use Rattle.layout.specs.Parts.{flagOf, written}
@@ -271,7 +271,7 @@ module _ (l : List ℕ) (p : ℕ) (w : WellFormed l) (low : p ≤ 63) where
     pub given-unknown : a ≡ false → Given (bookOfWords l) (statement p) (refused 2) (bookOfWords l)
     given-unknown h = unknown-statement (bookOfWords l) p low (sym flag-is ∙ h)
 
-    pub given-statement : a ≡ true → (t c n : ℕ) → t ≡ todayIn l → c ≡ coverOn t (slotsOfWords (wordsAt l (place p))) → n ≡ getD l (place p + 3) 0 - c
+    pub given-statement : a ≡ true → (t c n : ℕ) → t ≡ todayIn l → c ≡ coverThrough t t (slotsOfWords (wordsAt l (place p))) → n ≡ getD l (place p + 3) 0 - c
         → Given (bookOfWords l) (statement p)
         (statementSays (record {
           firm = getD l (place p + 3) 0;
@@ -281,10 +281,10 @@ module _ (l : List ℕ) (p : ℕ) (w : WellFormed l) (low : p ≤ 63) where
           accrued = getD l (place p + 8) 0;
         }))
         (bookOfWords l)
-    unfolding bookOfWords fileOfWords fileStatement coverOf shortfallOf
+    unfolding bookOfWords fileOfWords fileStatement coverOf coverOn shortfallOf
     given-statement h t c n q ec en =
         let slots = slotsOfWords (wordsAt l (place p)) in
-        let covered : c ≡ coverOn (todayIn l) slots = ec ∙ ap (λ (d : ℕ). coverOn d slots) q in
+        let covered : c ≡ coverThrough (todayIn l) (todayIn l) slots = ec ∙ ap (λ (d : ℕ). coverThrough d d slots) q in
         let st : Statement =
         record {
           firm = getD l (place p + 3) 0;

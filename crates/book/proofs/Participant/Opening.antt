@@ -23,7 +23,7 @@ use Rattle.file.specs.Opening.{slotsOpened, callsOpened, firmRaised, takesEffec
 use Rattle.book.specs.Account.{openedIfAdmitted}
 use Rattle.book.specs.Call.{admit, lodge, release, settle, annualRun}
 use Rattle.book.specs.Reading.Events.{Own, dayOpened, act, admittedIn, roleIn}
-use Rattle.book.specs.Reading.Holdings.{lastLodged, releasedSince, leftAt, positionIn, lodgedOn, releasedOn, coverIn}
+use Rattle.book.specs.Reading.Holdings.{lastLodged, releasedSince, leftAt, positionIn, lodgedWhere, releasedWhere, coverIn}
 use Rattle.book.specs.Reading.Months.{nextIn}
 use Rattle.book.specs.Reading.Calls.{firmIn, openIn}
 use Rattle.book.specs.Reading.Charges.{chargedIn, accruedIn}
@@ -96,7 +96,7 @@ firm-opened s own lw =
 pub cover-opened : (s : ℕ) (own : List Own) → Lawful s own → nextDay s own ≤ 29219
     → coverOn (nextDay s own) (slotsOpened (fileIn (todayIn s own) own) (nextDay s own))
     ≡ coverIn (nextDay s own) own
-unfolding todayIn coverIn lodgedOn releasedOn
+unfolding todayIn coverIn lodgedWhere releasedWhere
 cover-opened s own lw h =
     let t = todayIn s own in
     ap (coverOn (suc t)) (slots-opened t own) ∙ cover-is s (suc t) (dayOpened (suc t) ∷ own) (refl, h, lw) (omega arith)

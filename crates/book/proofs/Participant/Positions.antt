@@ -9,48 +9,48 @@ use borrow.Author.Tests.{ltb-true, ltb-false, leb-true, leb-false, eqb-true, le-
 use Rattle.laws.specs.Cases.{split, and-left, and-right}
 use Rattle.file.specs.declared.Position.{Position}
 use Rattle.file.specs.declared.Position.the-variants.{Empty, Cash, Letter}
-use Rattle.file.specs.Position.{amountOf, inForce, countsOn, filled, lapsedBy, emptiedOn, lessReleased, notReleasable, outsideAmounts, againstDays}
+use Rattle.file.specs.Position.{amountOf, inForceThrough, countsThrough, filled, lapsedBy, emptiedOn, lessReleased, notReleasable, outsideAmounts, againstDays}
 use Rattle.book.specs.Reading.Holdings.{less}
 
--- A letter that lapsed by t is in force on no day from t on.
-lapsed-counts-nothing : (t d : ℕ) (p : Position) → t ≤ d → lapsedBy t p ≡ true → countsOn d p ≡ 0
-unfolding countsOn
-lapsed-counts-nothing t d Empty h e = refl
-lapsed-counts-nothing t d (Cash a) h e = absurd (false≢true e)
-lapsed-counts-nothing t d (Letter a first last) h e =
-    let late : leb d (last .0) ≡ false = lt-leb d (last .0) (omega (arith, ltb-true (last .0) t e)) in
+-- A letter that lapsed by t counts through no day from t on.
+lapsed-counts-nothing : (t d e : ℕ) (p : Position) → t ≤ e → lapsedBy t p ≡ true → countsThrough d e p ≡ 0
+unfolding countsThrough
+lapsed-counts-nothing t d e Empty h q = refl
+lapsed-counts-nothing t d e (Cash a) h q = absurd (false≢true q)
+lapsed-counts-nothing t d e (Letter a first last) h q =
+    let late : leb e (last .0) ≡ false = lt-leb e (last .0) (omega (arith, ltb-true (last .0) t q)) in
     split (leb (first .0) d) (λ f. simp (f, late)) (λ f. simp f)
 
--- Emptying what lapsed by t changes what counts on no day from t on.
-pub emptied-counts : (t d : ℕ) (p : Position) → t ≤ d → countsOn d (emptiedOn t p) ≡ countsOn d p
-unfolding emptiedOn countsOn
-emptied-counts t d p h =
-    split (lapsedBy t p) (λ e. rw e (sym (lapsed-counts-nothing t d p h e))) (λ e. rw e)
+-- Emptying what lapsed by t changes what counts through no day from t on.
+pub emptied-counts : (t d e : ℕ) (p : Position) → t ≤ e → countsThrough d e (emptiedOn t p) ≡ countsThrough d e p
+unfolding emptiedOn countsThrough
+emptied-counts t d e p h =
+    split (lapsedBy t p) (λ q. rw q (sym (lapsed-counts-nothing t d e p h q))) (λ q. rw q)
 
 -- A position that holds nothing today counts for nothing from today on.
-unfilled-counts-nothing : (d : ℕ) (p : Position) → filled p ≡ false → countsOn d p ≡ 0
-unfolding countsOn
-unfilled-counts-nothing d Empty e = refl
-unfilled-counts-nothing d (Cash a) e = absurd (true≢false e)
-unfilled-counts-nothing d (Letter a first last) e = absurd (true≢false e)
+unfilled-counts-nothing : (d e : ℕ) (p : Position) → filled p ≡ false → countsThrough d e p ≡ 0
+unfolding countsThrough
+unfilled-counts-nothing d e Empty q = refl
+unfilled-counts-nothing d e (Cash a) q = absurd (true≢false q)
+unfilled-counts-nothing d e (Letter a first last) q = absurd (true≢false q)
 
-pub unfilled-today : (t d : ℕ) (p : Position) → t ≤ d → filled (emptiedOn t p) ≡ false → countsOn d p ≡ 0
-unfilled-today t d p h e = sym (emptied-counts t d p h) ∙ unfilled-counts-nothing d (emptiedOn t p) e
+pub unfilled-today : (t d e : ℕ) (p : Position) → t ≤ e → filled (emptiedOn t p) ≡ false → countsThrough d e p ≡ 0
+unfilled-today t d e p h q = sym (emptied-counts t d e p h) ∙ unfilled-counts-nothing d e (emptiedOn t p) q
 
 -- A lodging, nothing of it released, counts for itself.
-pub less-nothing-counts : (d : ℕ) (p : Position) → countsOn d (less 0 p) ≡ countsOn d p
-unfolding countsOn
-less-nothing-counts d Empty = refl
-less-nothing-counts d (Cash a) =
+pub less-nothing-counts : (d e : ℕ) (p : Position) → countsThrough d e (less 0 p) ≡ countsThrough d e p
+unfolding countsThrough
+less-nothing-counts d e Empty = refl
+less-nothing-counts d e (Cash a) =
     split (leb a 0)
-    (λ e. rw e (omega (arith, leb-true a 0 e)))
-    (λ e. rw e (omega arith))
-less-nothing-counts d (Letter a first last) =
+    (λ q. rw q (omega (arith, leb-true a 0 q)))
+    (λ q. rw q (omega arith))
+less-nothing-counts d e (Letter a first last) =
     split (leb a 0)
-    (λ e.
-    let z : a ≡ 0 = omega (arith, leb-true a 0 e) in
-    rw (e, z) (split (leb (first .0) d && leb d (last .0)) (λ f. simp f) (λ f. simp f)))
-    (λ e. let z : a - 0 ≡ a = omega arith in rw (e, z))
+    (λ q.
+    let z : a ≡ 0 = omega (arith, leb-true a 0 q) in
+    rw (q, z) (split (leb (first .0) d && leb e (last .0)) (λ f. simp f) (λ f. simp f)))
+    (λ q. let z : a - 0 ≡ a = omega arith in rw (q, z))
 
 -- A position that holds something today is as it was left.
 pub filled-today : (t : ℕ) (p : Position) → filled (emptiedOn t p) ≡ true → emptiedOn t p ≡ p
@@ -58,37 +58,37 @@ unfolding emptiedOn
 filled-today t p f = split (lapsedBy t p) (λ e. absurd (false≢true (rw e at f))) (λ e. rw e)
 
 -- A release that the rule allows takes its amount exactly where what was last lodged is in force.
-release-takes-left : (d r a : ℕ) (p : Position) → filled (less r p) ≡ true → notReleasable a (less r p) ≡ false
-    → countsOn d (less (a + r) p) + cond (inForce d p) a 0 ≡ countsOn d (less r p)
-unfolding countsOn
-release-takes-left d r a Empty f n = absurd (false≢true f)
-release-takes-left d r a (Cash b) f n =
+release-takes-left : (d e r a : ℕ) (p : Position) → filled (less r p) ≡ true → notReleasable a (less r p) ≡ false
+    → countsThrough d e (less (a + r) p) + cond (inForceThrough d e p) a 0 ≡ countsThrough d e (less r p)
+unfolding countsThrough
+release-takes-left d e r a Empty f n = absurd (false≢true f)
+release-takes-left d e r a (Cash b) f n =
     split (leb b r)
-    (λ e. absurd (false≢true (rw e at f)))
-    (λ e.
-    let most : a ≤ b - r = ltb-false (b - r) a (rw e at n) in
-    let more : r < b = leb-false b r e in
+    (λ q. absurd (false≢true (rw q at f)))
+    (λ q.
+    let most : a ≤ b - r = ltb-false (b - r) a (rw q at n) in
+    let more : r < b = leb-false b r q in
     split (leb b (a + r))
-    (λ g. let all : b ≤ a + r = leb-true b (a + r) g in rw (e, g) (omega arith))
-    (λ g. rw (e, g) (omega arith)))
-release-takes-left d r a (Letter b first last) f n =
+    (λ g. let all : b ≤ a + r = leb-true b (a + r) g in rw (q, g) (omega arith))
+    (λ g. rw (q, g) (omega arith)))
+release-takes-left d e r a (Letter b first last) f n =
     split (leb b r)
-    (λ e. absurd (false≢true (rw e at f)))
-    (λ e.
-    let whole : a ≡ b - r = eqb-true a (b - r) (not-false (eqb a (b - r)) (rw e at n)) in
-    let more : r < b = leb-false b r e in
+    (λ q. absurd (false≢true (rw q at f)))
+    (λ q.
+    let whole : a ≡ b - r = eqb-true a (b - r) (not-false (eqb a (b - r)) (rw q at n)) in
+    let more : r < b = leb-false b r q in
     let all : leb b (a + r) ≡ true = le-leb b (a + r) (omega arith) in
-    rw (e, all)
-    (split (leb (first .0) d && leb d (last .0))
+    rw (q, all)
+    (split (leb (first .0) d && leb e (last .0))
     (λ g. rw g (omega arith))
     (λ g. rw g)))
 
-pub release-takes : (t d r a : ℕ) (p : Position) → filled (emptiedOn t (less r p)) ≡ true
+pub release-takes : (t d e r a : ℕ) (p : Position) → filled (emptiedOn t (less r p)) ≡ true
     → notReleasable a (emptiedOn t (less r p)) ≡ false
-    → countsOn d (less (a + r) p) + cond (inForce d p) a 0 ≡ countsOn d (less r p)
-release-takes t d r a p f n =
+    → countsThrough d e (less (a + r) p) + cond (inForceThrough d e p) a 0 ≡ countsThrough d e (less r p)
+release-takes t d e r a p f n =
     let same : emptiedOn t (less r p) ≡ less r p = filled-today t (less r p) f in
-    release-takes-left d r a p (rw same at f) (rw same at n)
+    release-takes-left d e r a p (rw same at f) (rw same at n)
 
 -- An amount that cause 8 allows is at least 1.
 pub amount-above : (a : ℕ) → outsideAmounts a ≡ false → 1 ≤ a

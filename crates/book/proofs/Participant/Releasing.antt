@@ -20,7 +20,7 @@ use Rattle.file.specs.Release.{releaseFloor, slotsLeft, releaseAnswer, released
 use Rattle.book.specs.Account.{ifAdmitted, fileAnswer, fileAfter}
 use Rattle.book.specs.Call.{release}
 use Rattle.book.specs.Reading.Events.{Own, act, admittedIn, roleIn}
-use Rattle.book.specs.Reading.Holdings.{lastLodged, releasedSince, leftAt, positionIn, lodgedOn, releasedOn, coverIn}
+use Rattle.book.specs.Reading.Holdings.{lastLodged, releasedSince, leftAt, positionIn, lodgedWhere, releasedWhere, coverIn}
 use Rattle.book.specs.Reading.Months.{nextIn}
 use Rattle.book.specs.Reading.Calls.{baseIn, callsIn, firmIn, openIn}
 use Rattle.book.specs.Reading.Decisions.{cause, coverLeft, mustStay, ownCauses, ownAnswer}
@@ -30,7 +30,7 @@ use Rattle.book.proofs.Participant.Decide.{decide-none, decide-first, d
 use Rattle.book.proofs.Participant.Positions.{less-released}
 use Rattle.book.proofs.Participant.Slots.{slotsIn, position-at, with-slots-of}
 use Rattle.book.proofs.Participant.OpenCalls.{open-calls}
-use Rattle.book.proofs.Participant.Cover.{leftOn, left-released, left-released-other, release-leaves, left-and-released, cover-of-positions}
+use Rattle.book.proofs.Participant.Cover.{leftThrough, left-released, left-released-other, release-leaves, left-and-released, cover-of-positions}
 use Rattle.book.proofs.Participant.Charges.{charged-act, accrued-act}
 
 -- What must stay covered, by the file and by the reading.
@@ -68,15 +68,15 @@ released-slots t k a own place full allowed =
 pub cover-after-release : (s k a : ℕ) (own : List Own) → Lawful s own → ltb 7 k ≡ false
     → filled (positionIn (todayIn s own) k own) ≡ true → notReleasable a (positionIn (todayIn s own) k own) ≡ false
     → coverOn (todayIn s own) (slotsLeft (fileIn (todayIn s own) own) k a) ≡ coverLeft (todayIn s own) k a own
-unfolding coverIn lodgedOn releasedOn
+unfolding coverOn coverIn lodgedWhere releasedWhere
 cover-after-release s k a own lw place full allowed =
     let t = todayIn s own in
     let new = act t (release k a) ∷ own in
-    let taken : leftOn t new + cond (inForce t (lastLodged k own)) a 0 ≡ leftOn t own =
-    release-leaves t t t k a own place full allowed in
-    let lodged : leftOn t own + releasedOn t own ≡ lodgedOn t own = left-and-released s t own lw (le-refl t) in
-    let left : leftOn t new ≡ coverIn t new = omega arith in
-    ap (coverOn t) (released-slots t k a own place full allowed) ∙ cover-of-positions t t new (le-refl t) ∙ left
+    let taken : leftThrough t t new + cond (inForce t (lastLodged k own)) a 0 ≡ leftThrough t t own =
+    release-leaves t t t t k a own place full allowed in
+    let lodged : leftThrough t t own + releasedWhere (inForce t) own ≡ lodgedWhere (inForce t) own = left-and-released s t t own lw (le-refl t) in
+    let left : leftThrough t t new ≡ coverIn t new = omega arith in
+    ap (coverOn t) (released-slots t k a own place full allowed) ∙ cover-of-positions t t t new (le-refl t) ∙ left
 
 -- The causes of a release after cause 5, over what stands at its place and whether too little cover would be left.
 abbrev causesAt : ℕ → Position → Bool → List Cause

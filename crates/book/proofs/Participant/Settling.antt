@@ -25,14 +25,14 @@ use Rattle.file.specs.Settle.{outsideMonths, checkDue, deposited, settlementCal
 use Rattle.book.specs.Account.{ifAdmitted, fileAnswer, fileAfter, callsAdded}
 use Rattle.book.specs.Call.{settle}
 use Rattle.book.specs.Reading.Events.{Own, act, admittedIn, roleIn}
-use Rattle.book.specs.Reading.Holdings.{lastLodged, releasedSince, leftAt, positionIn, coverIn}
+use Rattle.book.specs.Reading.Holdings.{lastLodged, releasedSince, leftAt, positionIn, depositedIn}
 use Rattle.book.specs.Reading.Months.{nextIn}
 use Rattle.book.specs.Reading.Calls.{callsIn, calledIn, firmIn, openIn}
 use Rattle.book.specs.Reading.Decisions.{cause, settlementAnswer, ownCauses, ownAnswer}
 use Rattle.book.specs.Kept.{ringIn, fileIn}
 use Rattle.book.proofs.Participant.Lawful.{todayIn, NoneHolds, Lawful}
 use Rattle.book.proofs.Participant.OpenCalls.{open-calls, open-behind}
-use Rattle.book.proofs.Participant.Statements.{cover-of-file}
+use Rattle.book.proofs.Participant.Cover.{deposit-is}
 use Rattle.book.proofs.Participant.Charges.{firm-settled, charged-act, accrued-act}
 
 -- One call more, or none.
@@ -48,9 +48,9 @@ no-refusal false x last c = refl
 
 module _ (s : ℕ) (own : List Own) (m : ℕ) (figures : List ℤ) (lw : Lawful s own) where
   -- D, and whether it calls, are the reading's.
-  deposit : deposited (fileIn (todayIn s own) own) (todayIn s own) ≡ coverIn (todayIn s own) own
-  unfolding deposited
-  deposit = cover-of-file s own lw
+  deposit : deposited (fileIn (todayIn s own) own) (todayIn s own) ≡ depositedIn (todayIn s own) own
+  unfolding deposited fileIn
+  deposit = deposit-is s own lw
 
   calls-same : settlementCalls (fileIn (todayIn s own) own) (todayIn s own) m figures
       ≡ calledIn (todayIn s own) m figures own (callsIn own)
@@ -104,7 +104,7 @@ module _ (s : ℕ) (own : List Own) (m : ℕ) (figures : List ℤ) (lw : Lawful 
     taken =
         rw (file-answer, none .1 .0, none .1 .1 .0, none .1 .1 .1 .0, none .1 .1 .1 .1 .0)
         (no-refusal (checkDue (monthOf (todayIn s own)) m) (sumOf figures) (todayIn s own + 10)
-        (checked (sumOf figures) (coverIn (todayIn s own) own) (firmIn (todayIn s own) own) (amountsOf (openIn (todayIn s own) own))))
+        (checked (sumOf figures) (depositedIn (todayIn s own) own) (firmIn (todayIn s own) own) (amountsOf (openIn (todayIn s own) own))))
 
     -- (2) The file that it leaves.
     settled : withTotals (fileIn (todayIn s own) own)

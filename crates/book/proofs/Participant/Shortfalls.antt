@@ -14,7 +14,7 @@ use Rattle.file.specs.declared.Position.{Position}
 use Rattle.file.specs.Calls.{largest, keep}
 use Rattle.book.specs.Call.{Act, admit, lodge, release, settle, annualRun}
 use Rattle.book.specs.Reading.Events.{Own, act, admittedIn}
-use Rattle.book.specs.Reading.Holdings.{lodgedOn, releasedOn, coverIn}
+use Rattle.book.specs.Reading.Holdings.{lodgedWhere, releasedWhere, coverIn}
 use Rattle.book.specs.Reading.Calls.{Base, baseIn, firmFrom, callsIn, firmIn}
 use Rattle.book.specs.Reading.Decisions.{coverLeft, mustStay, ownCauses}
 use Rattle.book.proofs.Participant.Lawful.{todayIn, NoneHolds, Lawful}
@@ -27,7 +27,7 @@ shortfallIn t own = firmIn t own - coverIn t own
 
 -- A lodging leaves the firm amount as it was and only adds to the cover.
 lodging-raises-none : (t k : ℕ) (h : Position) (own : List Own) → shortfallIn t (act t (lodge k h) ∷ own) ≤ shortfallIn t own
-unfolding firmIn baseIn callsIn coverIn lodgedOn releasedOn
+unfolding firmIn baseIn callsIn coverIn lodgedWhere releasedWhere
 lodging-raises-none t k h own = omega arith
 
 -- What must stay after a release is at least the firm amount.
@@ -46,13 +46,13 @@ release-leaves-none t k a own enough =
 -- A settlement changes neither: its call, if any, has its last free day ten days on.
 settlement-raises-none : (t m : ℕ) (figures : List ℤ) (own : List Own)
     → shortfallIn t (act t (settle m figures) ∷ own) ≡ shortfallIn t own
-unfolding coverIn lodgedOn releasedOn
+unfolding coverIn lodgedWhere releasedWhere
 settlement-raises-none t m figures own =
     ap (λ (firm : ℕ). firm - coverIn t own) (firm-settled t t m figures own (omega arith))
 
 -- Nor does an annual run.
 annual-raises-none : (t : ℕ) (own : List Own) → shortfallIn t (act t annualRun ∷ own) ≤ shortfallIn t own
-unfolding firmIn baseIn callsIn coverIn lodgedOn releasedOn
+unfolding firmIn baseIn callsIn coverIn lodgedWhere releasedWhere
 annual-raises-none t own = omega arith
 
 -- A call that opened no day left no admitted participant's shortfall higher.

@@ -14,7 +14,7 @@ use Rattle.file.specs.Calls.{largest, amountsOf, callOf, keep}
 use Rattle.file.specs.Settle.{checkDue}
 use Rattle.book.specs.Call.{admit, lodge, release, settle, annualRun}
 use Rattle.book.specs.Reading.Events.{Own, dayOpened, act}
-use Rattle.book.specs.Reading.Holdings.{coverIn}
+use Rattle.book.specs.Reading.Holdings.{depositedIn}
 use Rattle.book.specs.Reading.Months.{nextIn}
 
 -- R and the base.
@@ -46,12 +46,12 @@ firmFrom d base made = largest (base .amount) (amountsOf (keep (countsFrom (base
 unfoldable pub openOn : ℕ → List OpenCall → List OpenCall
 openOn t made = keep (λ (c : OpenCall). leb t (c .last .0)) made
 
--- Whether a settlement called: "E is checked against D, the cover today. A call is made when .." Its firm amount and open calls are read
--- from the calls made before it.
+-- Whether a settlement called: "E is checked against D .. A call is made when .." Paper 02, Ask 2: "The reading of the history takes the new D for
+-- whether a settlement called". Its firm amount and open calls are read from the calls made before it.
 unfoldable pub calledIn : ℕ → ℕ → List ℤ → List Own → List OpenCall → Bool
 calledIn d m figures own made =
     checkDue (monthOf d) m
-    && callIsMade (sumOf figures) (coverIn d own) (firmFrom d (baseIn d own) made) (amountsOf (openOn d made))
+    && callIsMade (sumOf figures) (depositedIn d own) (firmFrom d (baseIn d own) made) (amountsOf (openOn d made))
 
 -- Every call made, the oldest first: an admission's minimum, and the settlements that called.
 unfoldable pub callsIn : List Own → List OpenCall

@@ -18,7 +18,7 @@ use Rattle.batch.specs.Batch.{countIn, participantAt, formOf}
 use Rattle.book.specs.Call.{Act, admit, lodge, release, settle, annualRun, Call, on, advance, statement, callsMade, batch}
 use Rattle.book.specs.Call.{partAct, batchSays}
 use Rattle.book.specs.Reading.Events.{Event, Own, did, act, mine, todayOf, withDays, admittedIn}
-use Rattle.book.specs.Reading.Holdings.{positionIn, coverIn}
+use Rattle.book.specs.Reading.Holdings.{positionIn, coverIn, depositedIn}
 use Rattle.book.specs.Reading.Months.{nextIn, annualIn, yearsTotals}
 use Rattle.book.specs.Reading.Calls.{callsIn, calledIn, firmIn, openIn}
 use Rattle.book.specs.Reading.Charges.{chargedIn, accruedIn}
@@ -40,7 +40,7 @@ unfoldable pub settlementAnswer : ℕ → ℕ → List ℤ → List Own → Answ
 settlementAnswer t m figures own =
     cond (checkDue (monthOf t) m)
     (checkSays (sumOf figures) (t + 10)
-    (checked (sumOf figures) (coverIn t own) (firmIn t own) (amountsOf (openIn t own))))
+    (checked (sumOf figures) (depositedIn t own) (firmIn t own) (amountsOf (openIn t own))))
     (recorded (sumOf figures))
 
 -- The causes of a call today on a participant with this history of its own, in paper 01's order, after cause 1.

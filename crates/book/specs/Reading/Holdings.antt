@@ -1,12 +1,12 @@
--- Positions and cover, read from a participant's lodgings and releases.
+-- Positions, cover and D, read from a participant's lodgings and releases.
 -- Assumes nothing.
 use Prim.Native.Nat.{ℕ, _+_, _-_}
-use mathlib.Core.Bool.{cond}
+use mathlib.Core.Bool.{Bool, cond, _&&_}
 use mathlib.Core.List.{List, [], _∷_}
 use lib.Dec.{leb, eqb}
 use Rattle.file.specs.declared.Position.{Position}
 use Rattle.file.specs.declared.Position.the-variants.{Empty, Cash, Letter}
-use Rattle.file.specs.Position.{inForce, countsOn, emptiedOn}
+use Rattle.file.specs.Position.{amountOf, inForce, emptiedOn}
 use Rattle.book.specs.Call.{admit, lodge, release, settle, annualRun}
 use Rattle.book.specs.Reading.Events.{Own, dayOpened, act}
 
@@ -45,26 +45,34 @@ leftAt k own = less (releasedSince k own) (lastLodged k own)
 unfoldable pub positionIn : ℕ → ℕ → List Own → Position
 positionIn t k own = emptiedOn t (leftAt k own)
 
--- What the lodgings count for on day d.
-unfoldable pub lodgedOn : ℕ → List Own → ℕ
-lodgedOn d [] = 0
-lodgedOn d (dayOpened e ∷ own) = lodgedOn d own
-lodgedOn d (act e (admit role) ∷ own) = lodgedOn d own
-lodgedOn d (act e (lodge k h) ∷ own) = countsOn d h + lodgedOn d own
-lodgedOn d (act e (release k a) ∷ own) = lodgedOn d own
-lodgedOn d (act e (settle m figures) ∷ own) = lodgedOn d own
-lodgedOn d (act e annualRun ∷ own) = lodgedOn d own
+-- "sums accepted lodgings less accepted releases, by the dates": what the lodgings amount to that count, by a test of what they are and of their dates.
+unfoldable pub lodgedWhere : (Position → Bool) → List Own → ℕ
+lodgedWhere counts [] = 0
+lodgedWhere counts (dayOpened e ∷ own) = lodgedWhere counts own
+lodgedWhere counts (act e (admit role) ∷ own) = lodgedWhere counts own
+lodgedWhere counts (act e (lodge k h) ∷ own) = cond (counts h) (amountOf h) 0 + lodgedWhere counts own
+lodgedWhere counts (act e (release k a) ∷ own) = lodgedWhere counts own
+lodgedWhere counts (act e (settle m figures) ∷ own) = lodgedWhere counts own
+lodgedWhere counts (act e annualRun ∷ own) = lodgedWhere counts own
 
 -- What the releases take from it, "a release of a letter taking that letter's dates".
-unfoldable pub releasedOn : ℕ → List Own → ℕ
-releasedOn d [] = 0
-releasedOn d (dayOpened e ∷ own) = releasedOn d own
-releasedOn d (act e (admit role) ∷ own) = releasedOn d own
-releasedOn d (act e (lodge k h) ∷ own) = releasedOn d own
-releasedOn d (act e (release k a) ∷ own) = cond (inForce d (lastLodged k own)) a 0 + releasedOn d own
-releasedOn d (act e (settle m figures) ∷ own) = releasedOn d own
-releasedOn d (act e annualRun ∷ own) = releasedOn d own
+unfoldable pub releasedWhere : (Position → Bool) → List Own → ℕ
+releasedWhere counts [] = 0
+releasedWhere counts (dayOpened e ∷ own) = releasedWhere counts own
+releasedWhere counts (act e (admit role) ∷ own) = releasedWhere counts own
+releasedWhere counts (act e (lodge k h) ∷ own) = releasedWhere counts own
+releasedWhere counts (act e (release k a) ∷ own) = cond (counts (lastLodged k own)) a 0 + releasedWhere counts own
+releasedWhere counts (act e (settle m figures) ∷ own) = releasedWhere counts own
+releasedWhere counts (act e annualRun ∷ own) = releasedWhere counts own
 
--- "Cover on d sums accepted lodgings less accepted releases, by the dates".
+-- "Cover on d": what counts is in force on it.
 unfoldable pub coverIn : ℕ → List Own → ℕ
-coverIn d own = lodgedOn d own - releasedOn d own
+coverIn d own = lodgedWhere (inForce d) own - releasedWhere (inForce d) own
+
+-- Paper 02, Ask 2: "in force today that will still be in force on day t + 11. A letter that starts later doesn't count."
+abbrev pub staysInForce : ℕ → Position → Bool
+staysInForce t p = inForce t p && inForce (t + 11) p
+
+-- D of a check on day t, "the amount in force today that will still be in force on day t + 11": accepted lodgings less accepted releases, by the dates.
+unfoldable pub depositedIn : ℕ → List Own → ℕ
+depositedIn t own = lodgedWhere (staysInForce t) own - releasedWhere (staysInForce t) own

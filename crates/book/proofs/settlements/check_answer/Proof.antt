@@ -2,7 +2,7 @@
 -- open calls hold zeros, which change no check.
 -- Assumes nothing.
 use borrow.Author.Needs.{needs}
-use Rattle.book.proofs.Functions.OnSettlements.{slots-sound, day-room, check-covered, check-fifth, check-called}
+use Rattle.book.proofs.Functions.OnSettlements.{day-room, check-covered, check-fifth, check-called}
 use Rattle.book.proofs.settlements.check_answer.Statement.{statement}
 use Rattle.book.proofs.settlements.check_answer.Tie as tie
 
@@ -18,8 +18,8 @@ shared-slice-read-number c = search needs
 number-requires : tie.Need-number-requires
 number-requires c κs = search needs
 
-cover-at-requires : tie.Need-cover-at-requires
-cover-at-requires c κs = (search needs, search (slots-sound, needs))
+deposited-today-requires : tie.Need-deposited-today-requires
+deposited-today-requires c κs = search needs
 
 add-t10 : tie.Need-add-t10
 add-t10 c = search needs
@@ -93,10 +93,10 @@ add-t39 c = record { fits = search (day-room, needs) }
 returns : tie.Need-returns
 returns c =
     let checking = c .before .before in
-    let covering = checking .before .before .before .before .before .before .before in
-    let numbering = covering .before in
+    let depositing = checking .before .before .before .before .before .before .before in
+    let numbering = depositing .before in
     let start = numbering .before .before .before in
-    check-covered _ _ (start .pre .0) (start .pre .1) _ (numbering .number .ensures) _ _ (search needs) _ (covering .cover-at .ensures) _
+    check-covered _ _ (start .pre .0) (start .pre .1) _ (numbering .number .ensures) _ _ (search needs) _ (depositing .deposited-today .ensures) _
     (checking .check .ensures) (c .enum-told .given .1)
 
 returns-2 : tie.Need-returns-2
@@ -113,7 +113,7 @@ check-answer-spec =
     add-at
     shared-slice-read-number
     number-requires
-    cover-at-requires
+    deposited-today-requires
     add-t10
     mul-t11
     shared-slice-read-t14

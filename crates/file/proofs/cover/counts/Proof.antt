@@ -1,7 +1,7 @@
 -- `file::cover::counts` meets its contract: each arm, and each way through a letter's two tests, is a case of what a position counts for.
 -- Assumes nothing.
 use borrow.Author.Needs.{needs}
-use Rattle.file.proofs.Holdings.{counts-empty, counts-cash, counts-in-force, counts-lapsed, counts-not-begun}
+use Rattle.file.proofs.Holdings.{counts-empty, counts-cash, counts-in-force, counts-lapsing, counts-not-begun}
 use Rattle.file.proofs.cover.counts.Statement.{statement}
 use Rattle.file.proofs.cover.counts.Tie as tie
 
@@ -24,7 +24,7 @@ returns-3 : tie.Need-returns-3
 returns-3 c = search (counts-in-force, needs)
 
 returns-4 : tie.Need-returns-4
-returns-4 c = search (counts-lapsed, needs)
+returns-4 c = search (counts-lapsing, needs)
 
 returns-5 : tie.Need-returns-5
 returns-5 c = search (counts-not-begun, needs)

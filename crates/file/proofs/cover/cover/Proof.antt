@@ -6,13 +6,13 @@ use mathlib.Core.Path.{_≡_}
 use borrow.Author.Needs.{needs}
 use lib.ListN.{length, drop}
 use Rattle.laws.specs.Lists.{length-unmap}
-use Rattle.file.specs.Position.{coverOn}
-use Rattle.file.proofs.Sums.{cover-step, cover-fits, cover-end}
+use Rattle.file.specs.Position.{coverThrough}
+use Rattle.file.proofs.Sums.{cover-step, cover-fits, cover-whole}
 use Rattle.file.proofs.cover.cover.Statement.{statement}
 use Rattle.file.proofs.cover.cover.Tie as tie
 
 abbrev Inv-loop : tie.InvT-loop
-Inv-loop day slots sum₀ i₀ sum i = (i ≤ 8) × (length slots ≡ 8) × (sum + coverOn (day .0) (drop i slots) ≡ coverOn (day .0) slots)
+Inv-loop day slots sum₀ i₀ sum i = (i ≤ 8) × (length slots ≡ 8) × (sum + coverThrough (day .0) (day .0) (drop i slots) ≡ coverThrough (day .0) (day .0) slots)
 
 abbrev μ-loop : tie.MeasureT-loop
 μ-loop day slots sum₀ i₀ sum i = 8 - i
@@ -42,7 +42,7 @@ loop-again : tie.Need-loop-again Inv-loop μ-loop
 loop-again c = (search needs, search needs, search (cover-step, needs))
 
 returns : tie.Need-returns Inv-loop μ-loop
-returns c = search (cover-end, needs)
+returns c = search (cover-whole, needs)
 
 pub cover-spec : {M : Type 1} → statement M
 cover-spec =

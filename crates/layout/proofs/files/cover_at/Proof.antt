@@ -4,18 +4,20 @@ use borrow.Author.Needs.{needs}
 use Prim.Native.Nat.{_≤_, _+_, _-_}
 use mathlib.Core.Path.{_≡_}
 use lib.ListN.{drop}
-use Rattle.file.specs.Position.{coverOn}
+use Rattle.file.specs.Position.{coverThrough}
 use Rattle.layout.specs.Files.{slotsOfWords, wordsAt}
 use Rattle.layout.proofs.CoverLaws.{cover-none, cover-step, cover-fits, cover-end}
 use Rattle.layout.proofs.files.cover_at.Statement.{statement}
 use Rattle.layout.proofs.files.cover_at.Tie as tie
 
 abbrev Inv-loop : tie.InvT-loop
-Inv-loop words at day sum₀ k₀ sum k =
-    (k ≤ 8) × (sum + coverOn (day .0) (drop k (slotsOfWords (wordsAt words at))) ≡ coverOn (day .0) (slotsOfWords (wordsAt words at)))
+Inv-loop words at from through sum₀ k₀ sum k =
+    (k ≤ 8)
+    × (sum + coverThrough (from .0) (through .0) (drop k (slotsOfWords (wordsAt words at)))
+    ≡ coverThrough (from .0) (through .0) (slotsOfWords (wordsAt words at)))
 
 abbrev μ-loop : tie.MeasureT-loop
-μ-loop words at day sum₀ k₀ sum k = 8 - k
+μ-loop words at from through sum₀ k₀ sum k = 8 - k
 
 loop-holds : tie.Need-loop-holds Inv-loop μ-loop
 loop-holds c = (search needs, search (cover-none, needs))
