@@ -96,11 +96,8 @@ settlement-given l m p mo figures outside due sum x o d s answers puts = puts fi
 -- ---- a check that is due
 
 -- The last free day and the day after it fit the type of days.
-pub day-room : (l : List ℕ) (t : ℕ) → WellFormed l → t ≡ todayIn l → t + 10 < 4294967296
-day-room l t w e = omega (arith, day-within l t w e)
-
-pub day-after-room : (l : List ℕ) (t : ℕ) → WellFormed l → t ≡ todayIn l → t + 11 < 4294967296
-day-after-room l t w e = omega (arith, day-within l t w e)
+pub day-room : (l : List ℕ) (t n : ℕ) → WellFormed l → t ≡ todayIn l → n ≤ 11 → t + n < 4294967296
+day-room l t n w e h = omega (arith, day-within l t w e)
 
 module _ (l : List ℕ) (p : ℕ) (w : WellFormed l) (low : p ≤ 63) where
   pub slots-sound : All (λ (s : Slot). SoundPosition (s .position)) (slotsOfWords (wordsAt l (place p)))

@@ -2,7 +2,7 @@
 -- stand for.
 -- Assumes nothing.
 use borrow.Author.Needs.{needs}
-use Rattle.book.proofs.Functions.OnSettlements.{slots-sound, day-after-room, deposit-is}
+use Rattle.book.proofs.Functions.OnSettlements.{slots-sound, day-room, deposit-is}
 use Rattle.book.proofs.settlements.deposited_today.Statement.{statement}
 use Rattle.book.proofs.settlements.deposited_today.Tie as tie
 
@@ -19,7 +19,7 @@ number-requires : tie.Need-number-requires
 number-requires c κs = search needs
 
 add-t10 : tie.Need-add-t10
-add-t10 c = record { fits = search (day-after-room, needs) }
+add-t10 c = record { fits = search (day-room, needs) }
 
 cover-at-requires : tie.Need-cover-at-requires
 cover-at-requires c κs = (search needs, search (slots-sound, needs))
