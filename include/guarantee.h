@@ -54,13 +54,14 @@ enum {
     GUARANTEE_FILE_SHORT = 20,        /* a batch's file is too short for its pairs, or has none or more than 64 */
     GUARANTEE_PARTS_ORDER = 21,       /* a batch's parts don't follow one another from its pairs to the end of the file */
     GUARANTEE_PART_LENGTH = 22,       /* a part's length isn't that of its rows, or its participant has an earlier part */
+    GUARANTEE_ROLE_RETIRED = 23,      /* the role, 1, is no longer registered */
     GUARANTEE_NOT_A_BOOK = 100        /* the words aren't GUARANTEE_WORDS many: none was read or written */
 };
 
 /* Roles of a participant, and the minimum guarantee of each. */
 enum {
     GUARANTEE_SUPPLIER = 0,           /* 20,000 euros */
-    GUARANTEE_SELF_SUPPLIED = 1,      /* 20,000 euros */
+    GUARANTEE_SELF_SUPPLIED = 1,      /* 20,000 euros; retired, no longer admitted */
     GUARANTEE_TRADER = 2,             /* 10,000 euros */
     GUARANTEE_PRODUCER = 3,           /* none, and so for the next two */
     GUARANTEE_RES_AGGREGATOR = 4,
@@ -137,8 +138,8 @@ typedef struct GuaranteeSpecial {
  * are the fresh book of day 0. Writes every word, but none where it returns 100. */
 uint64_t guarantee_fresh(uint64_t *words, size_t length, uint32_t day);
 
-/* Admits a participant with a role. The role's minimum, if it has one, is called at once: it becomes firm after today and ten more days.
- * Returns the refusal (1, 3, 4). Writes only if accepted. */
+/* Admits a participant with a role. The role's minimum, if it has one, is called at once: it becomes firm after today and ten more days. Role 1 is
+ * retired; a book that was saved with such a participant keeps it. Returns the refusal (1, 3, 4, 23). Writes only if accepted. */
 uint64_t guarantee_admit(uint64_t *words, size_t length, uint64_t participant, uint64_t role);
 
 /* ---- the treasury officer */

@@ -1,4 +1,4 @@
-"""Paper 01's 'Figures to reproduce' that concern the book, and paper 02's batch and D, by the reference: python3 reference/check.py
+"""Paper 01's 'Figures to reproduce' that concern the book, and paper 02's batch, D and role retired, by the reference: python3 reference/check.py
 
 Each figure is reached by a history from a fresh book, so that cover, firm amount and charges are the reading's own. The batches are bytes worked
 out by hand, on both sides of each bound. Exits 1 on a difference.
@@ -309,13 +309,59 @@ def batch_settlements():
     same('batch, calls made after 13', h.calls_made(), (8, 5, 0, 0, 0, 0))
 
 
+# ---- role retired (paper 02, ask 3)
+
+def admissions():
+    """The causes of an admission in their order, under the old rule 1, 3, 4 and under the new one 1, 3, 4, 23; what is refused leaves no file."""
+    for first_stretch, retired in ((True, History.DONE), (False, History.refused(23))):
+        h = fresh(609, first_stretch)[1]
+        for p, role, expected in ((0, 0, History.DONE), (0, 1, History.refused(3)), (0, 6, History.refused(3)), (64, 1, History.refused(1)),
+                                  (257, 1, History.refused(1)), (64, 6, History.refused(1)), (1, 6, History.refused(4)), (1, 257, History.refused(4)),
+                                  (63, 2, History.DONE), (63, 1, History.refused(3)), (1, 1, retired), (62, 1, retired), (2, 3, History.DONE),
+                                  (3, 4, History.DONE), (4, 5, History.DONE)):
+            before = sorted(h.people)
+            same(f'admit {p} {role}, first stretch {first_stretch}', h.admit(p, role), expected)
+            same(f'admit {p} {role}, who is admitted', sorted(h.people), sorted(before + [p]) if expected == History.DONE else before)
+        same(f'calls of admissions, first stretch {first_stretch}', h.calls_made(), (8, 4 if first_stretch else 2, 0, 0, 0, 0))
+    for day in (0, LAST_DAY, LAST_DAY + 1):
+        same(f'fresh on {day}, the rule', [fresh(day)[1].first_stretch, fresh(day, True)[1].first_stretch], [False, True])
+
+
+def first_stretch():
+    """Admitted with role 1 in a first stretch, on 1 September 2021: the file keeps the role, its minimum and its annual runs behind it."""
+    h = History(609, first_stretch=True)
+    same('role 1, the last call of the first stretch', h.admit(0, 1), History.DONE)
+    h.end_stretch()
+    same('role 1, the first call behind it, on the same day', h.admit(1, 1), History.refused(23))
+    same('role 0 behind it', h.admit(1, 0), History.DONE)
+    same('two minimums are called', h.calls_made(), (8, 2, 0, 0, 0, 0))
+    same('the annual run, raised to the minimum', h.annual(0), (5, 2000000, 0, 0, 0, 0))
+    same('a total below the minimum', settle(h, 0, 1999999, 3), recorded(1999999))
+    same('the annual run of one month', h.annual(0), (5, 2000000, 1, 0, 0, 0))
+    go(h, 10)
+    same('the last free day of its minimum', h.statement(0), statement(0, 0, 0, 0))
+    go(h, 1)
+    same('its minimum is firm', h.statement(0), statement(2000000, 0, 1, 100000000))
+    same('cash for half of it', h.lodge(0, 0, 'cash', 1000000), History.DONE)
+    go(h, 19)
+    same('1 October, the next amount', h.statement(0), statement(2000000, 1000000, 20, 2000000000))
+    same('a settlement calls', settle(h, 0, 2000001), called(2000001, 1000001, 649))
+    same('none of the cash is released', h.release(0, 0, 1), History.refused(16))
+    go(h, 11)
+    same('the call is firm', h.statement(0), statement(2000001, 1000000, 31, 3100000000))
+    same('role 1 again', h.admit(0, 1), History.refused(3))
+    same('and of another', h.admit(2, 1), History.refused(23))
+    same('calls made', h.calls_made(), (8, 3, 0, 0, 0, 0))
+    same('the role', h.people[0].role, 1)
+
+
 def main():
     for part in (calendar, examples, checks, charges, two_calls, deposits, batch_too_short, batch_not_following, batch_parts,
-                 batch_settlements):
+                 batch_settlements, admissions, first_stretch):
         part()
     for line in differences:
         print(line)
-    print(f'paper 01, figures of the book, D and batches: {done} compared, {len(differences)} different')
+    print(f'paper 01, figures of the book, D, batches and role retired: {done} compared, {len(differences)} different')
     return 1 if differences else 0
 
 

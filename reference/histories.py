@@ -3,7 +3,7 @@
     python3 reference/histories.py --out DIR --histories N --seed S
 
 writes DIR/data/h000, h001, .. (a text file for each history) and DIR/stdout (the answers to all of them, in order), and prints how often each
-answer, each refusal and each corner was met. A file is decimal numbers: `START COUNT`, then a line for each call, its kind first:
+answer, each refusal and each corner was met. A file is decimal numbers: `START FIRST COUNT`, then a line for each of COUNT calls, its kind first:
 
     0 P ROLE                     admit                  5 P           annual run
     1 P PLACE AMOUNT             lodge cash             6 DAY BUDGET  advance
@@ -11,9 +11,10 @@ answer, each refusal and each corner was met. A file is decimal numbers: `START 
     3 P PLACE AMOUNT             release                8 K B1 .. BK  a batch of K bytes
     4 P MONTH K F1 .. FK         settle                 9             the count of calls made
 
-Every history ends with a statement of each participant admitted by then and the question for the count. The answers are those to the text as
-written: `history START`, then six numbers for each call; to a batch `9 N 0 0 0 0`, or `10 NUMBER INDEX 0 0 0`. Corners are counted by what a call
-met, not by what it was aimed at.
+The first FIRST calls are the history's first stretch, made under the old admission rule, and the others are made under the new one (paper 02, ask
+3); FIRST may be 0, or above COUNT. Every history ends with a statement of each participant admitted by then and the question for the count. The
+answers are those to the text as written: `history START`, then six numbers for each call; to a batch `9 N 0 0 0 0`, or `10 NUMBER INDEX 0 0 0`.
+Corners are counted by what a call met, not by what it was aimed at.
 """
 import argparse
 import collections
@@ -25,12 +26,12 @@ import time
 
 sys.dont_write_bytecode = True
 
-from reading import LAST_DAY, MINIMUM, MOST, History, date, day_number, in_annual_days, is_september, month
+from reading import LAST_DAY, MINIMUM, MOST, RETIRED, History, date, day_number, in_annual_days, is_september, month
 
 ANSWERS = {0: 'refused', 1: 'done', 2: 'called', 3: 'covered', 4: 'recorded only', 5: 'annual amount', 6: 'days opened', 7: 'statement',
            8: 'count of calls', 9: 'batch', 10: 'batch refused'}
 NAMES = {0: 'admit', 1: 'lodge', 2: 'lodge', 3: 'release', 4: 'settle', 5: 'annual', 6: 'advance', 7: 'statement', 8: 'batch'}
-ORDER = {'admit': (1, 3, 4), 'lodge': (1, 2, 5, 6, 8, 9), 'release': (1, 2, 5, 7, 8, 15, 16), 'settle': (1, 2, 12, 10, 11, 13),
+ORDER = {'admit': (1, 3, 4, 23), 'lodge': (1, 2, 5, 6, 8, 9), 'release': (1, 2, 5, 7, 8, 15, 16), 'settle': (1, 2, 12, 10, 11, 13),
          'annual': (1, 2, 14), 'advance': (17,), 'statement': (1, 2)}
 MOST_CALLS = 400     # a history stays below each of these three
 MOST_BYTES = 60000
@@ -38,6 +39,7 @@ MOST_FIGURES = 4000
 MOST_BATCH = 8192    # bytes of all batches of a history
 MOST_DAYS = 1500     # opened in a history of few participants
 WORD, HALF = 2 ** 64 - 1, 2 ** 32 - 1
+ALL = float('inf')   # calls of a first stretch that is the whole history
 
 CORNERS = '''
 start: around 1 September
@@ -47,6 +49,13 @@ start: around a month's end
 start: day 0
 start: days 1 to 70
 start: days 29,200 to 29,219
+stretch: none
+stretch: one call
+stretch: its last call opens days
+stretch: the first call behind it opens days
+stretch: ends between two calls of one day
+stretch: the whole history, as many calls as there are
+stretch: the whole history, more calls than there are
 advance: a single day
 advance: 100 days and more
 advance: B = 0
@@ -93,6 +102,22 @@ admit: role 6 and above (4)
 admit: on 20 or 21 September
 admit: on 1 October
 admit: last free day above 29,219
+admit: role 1 in the first stretch
+admit: role 1 as the first call of the first stretch
+admit: role 1 as the last call of the first stretch
+admit: role 1 as the first call behind the first stretch (23)
+admit: role 1 behind the first stretch (23)
+admit: role 1 behind the first stretch, on a day on which it was admitted (23)
+admit: role 1 with no first stretch (23)
+admit: role 1 of one admitted already, in the first stretch (3)
+admit: role 1 of one admitted already (3)
+admit: role 1 of one that has it (3)
+admit: role 1, participant above 63, in the first stretch (1)
+admit: role 1, participant above 63 (1)
+admit: a role of 1 modulo 256 or 2^32 (4)
+admit: role 1 refused (23), then a statement (2)
+admit: role 1 refused (23), then another role
+admit: another role behind the first stretch
 lodge: amount 1
 lodge: amount 10^12
 lodge: amount 0 (8)
@@ -303,6 +328,17 @@ batch: refused, an earlier part would have called
 batch: refused, an earlier part would have replaced a total
 batch: refused, then a statement of an earlier part's participant
 opening: a batch's call ends
+role 1 behind the first stretch: its minimum becomes firm
+role 1 behind the first stretch: a day is charged
+role 1 behind the first stretch: a call is made
+role 1 behind the first stretch: a call is made by a batch
+role 1 behind the first stretch: only its minimum keeps from calling
+role 1 behind the first stretch: a release refused for its minimum (16)
+role 1 behind the first stretch: an annual run of no months
+role 1 behind the first stretch: an annual run raised to the minimum
+role 1 behind the first stretch: an annual run above the minimum
+role 1 behind the first stretch: a next amount of before takes effect
+role 1 behind the first stretch: a next amount takes effect
 people: above 63 (1)
 people: not admitted (2)
 people: participant 63
@@ -341,10 +377,14 @@ def apply(book, kind, args):
 def read(text):
     """The answers to a history's text, as DIR/stdout has them."""
     lines = [[int(word) for word in line.split(' ')] for line in text.splitlines()]
-    (start, count), calls = lines[0], lines[1:]
+    (start, first, count), calls = lines[0], lines[1:]
     assert count == len(calls)
-    book = History(start)
-    return f'history {start}\n' + ''.join(' '.join(map(str, apply(book, kind, args))) + '\n' for kind, *args in calls)
+    book, answers = History(start, first_stretch=True), [f'history {start}\n']
+    for place, (kind, *args) in enumerate(calls):
+        if place == first:
+            book.end_stretch()
+        answers.append(' '.join(map(str, apply(book, kind, args))) + '\n')
+    return ''.join(answers)
 
 
 def causes(book, kind, args):
@@ -360,6 +400,7 @@ def causes(book, kind, args):
     holds = {1: p > 63, 2: p <= 63 and who is None, 3: who is not None}
     if kind == 0:
         holds[4] = args[1] > 5
+        holds[23] = args[1] == 1 and not book.first_stretch
     if kind in (1, 2, 3):
         place, amount = args[1], args[2]
         held = who.position(place, t) if who and place <= 7 else None
@@ -442,11 +483,11 @@ class Full(Exception):
 
 
 class Recorder:
-    """A history in the making: makes calls on the reference, keeps their text, and counts what they met."""
+    """A history in the making: makes calls on the reference, keeps their text, and counts what they met. Its first stretch has so many calls."""
 
-    def __init__(self, start, calls):
-        self.start, self.calls = start, calls
-        self.book = History(start)
+    def __init__(self, start, calls, first):
+        self.start, self.calls, self.first = start, calls, first
+        self.book = History(start, first_stretch=True)
         self.lines, self.bytes, self.figures, self.batches = [], 0, 0, 0
         self.fifths = []                         # what was refused with 13: (participant, month, total)
         self.undone = []                         # the same of the parts before the one that a batch was refused for
@@ -454,6 +495,10 @@ class Recorder:
         self.batched = {}                        # totals that came by a batch: (participant, month) to total
         self.batch_calls = []                    # last free days of calls that a batch made
         self.files = {}                          # files entered before, and whether the last time accepted
+        self.opened = False                      # whether the last call opened days
+        self.retired = set()                     # participants whose admission was refused with 23
+        self.retired_days = set()                # the days on which role 1 was admitted
+        self.early_runs = set()                  # participants whose last annual run was made in the first stretch
         self.kinds, self.refusals, self.pairs, self.corners = (collections.Counter() for _ in range(4))
         self.met_start()
 
@@ -471,6 +516,9 @@ class Recorder:
         if len(self.lines) >= self.calls or self.bytes + len(line) + 1 > MOST_BYTES - 2000 \
                 or (kind == 4 and self.figures + args[2] >= MOST_FIGURES) or (kind == 8 and self.batches + args[0] > MOST_BATCH):
             raise Full()
+        place = len(self.lines)
+        if place == self.first:
+            self.book.end_stretch()
         held = causes(self.book, kind, args)
         answer = apply(self.book, kind, args)
         assert (answer[0] in (0, 10)) == (held != []) and (held == [] or answer[1] == held[0]), (line, answer, held)
@@ -479,6 +527,11 @@ class Recorder:
         self.figures += args[2] if kind == 4 else 0
         self.batches += args[0] if kind == 8 else 0
         self.spared = self.spared if kind in (7, 9) else []
+        opened = answer[0] == 6 and answer[1] > 0
+        self.met('stretch: its last call opens days', opened and place == self.first - 1)
+        self.met('stretch: the first call behind it opens days', opened and place == self.first > 0)
+        self.met('stretch: ends between two calls of one day', place == self.first > 0 and not (opened or self.opened))
+        self.opened = opened
         self.kinds[answer[0]] += 1
         if held:
             self.refusals[held[0]] += 1
@@ -489,8 +542,12 @@ class Recorder:
                 self.pairs[NAMES[kind], held[0], other] += 1
         return answer
 
+    def kept_role(self, who):
+        """Whether the last call was made behind the first stretch, and the participant has the role that only the first stretch admits."""
+        return who.role == RETIRED and not self.book.first_stretch
+
     def text(self):
-        return f'{self.start} {len(self.lines)}\n' + ''.join(line + '\n' for line in self.lines)
+        return f'{self.start} {self.first} {len(self.lines)}\n' + ''.join(line + '\n' for line in self.lines)
 
     def finish(self):
         """The closing statements and count."""
@@ -500,6 +557,13 @@ class Recorder:
         for p in sorted(self.book.people):
             self.call(7, p)
         self.call(9)
+
+    def met_stretch(self):
+        """What the number of the first stretch's calls met, when all calls are made."""
+        self.met('stretch: none', self.first == 0)
+        self.met('stretch: one call', self.first == 1)
+        self.met('stretch: the whole history, as many calls as there are', self.first == len(self.lines))
+        self.met('stretch: the whole history, more calls than there are', self.first > len(self.lines))
 
     # -- the calls, with what they met -----------------------------------------------------------------------------------------------------
 
@@ -516,17 +580,42 @@ class Recorder:
 
     def admit(self, p, role):
         ok = self.call(0, p, role)
+        if role == RETIRED:
+            self.met_retired(p, ok)
         if ok[0] == 0:
             self.met('admit: admitted twice (3)', ok[1] == 3)
             self.met('admit: role 6 and above (4)', ok[1] == 4)
+            self.met('admit: a role of 1 modulo 256 or 2^32 (4)', ok[1] == 4 and RETIRED in (role % 256, role % 2 ** 32))
             return ok
         d = date(self.t)
+        self.met('admit: role 1 refused (23), then another role', p in self.retired)
+        self.met('admit: another role behind the first stretch', self.first > 0 and not self.book.first_stretch)
         self.met('admit: minimum above 0' if MINIMUM[role] else 'admit: minimum 0')
         self.met('admit: on 20 or 21 September', d.month == 9 and d.day in (20, 21) and MINIMUM[role] > 0)
         self.met('admit: on 1 October', d.month == 10 and d.day == 1)
         self.met('admit: last free day above 29,219', MINIMUM[role] > 0 and self.t + 10 > LAST_DAY)
         self.met('people: participant 63', p == 63)
         return ok
+
+    def met_retired(self, p, ok):
+        """What an admission with role 1 met."""
+        t, place, early, number = self.t, len(self.lines) - 1, self.book.first_stretch, ok[1] if ok[0] == 0 else 0
+        if ok[0] == 1:
+            self.met('admit: role 1 in the first stretch')
+            self.met('admit: role 1 as the first call of the first stretch', place == 0)
+            self.met('admit: role 1 as the last call of the first stretch', place == self.first - 1)
+            self.retired_days.add(t)
+        elif number == 23:
+            self.met('admit: role 1 behind the first stretch (23)', self.first > 0)
+            self.met('admit: role 1 as the first call behind the first stretch (23)', place == self.first > 0)
+            self.met('admit: role 1 behind the first stretch, on a day on which it was admitted (23)', t in self.retired_days)
+            self.met('admit: role 1 with no first stretch (23)', self.first == 0)
+            self.retired.add(p)
+        self.met('admit: role 1 of one admitted already, in the first stretch (3)', number == 3 and early)
+        self.met('admit: role 1 of one admitted already (3)', number == 3 and not early)
+        self.met('admit: role 1 of one that has it (3)', number == 3 and self.kept_role(self.book.people[p]))
+        self.met('admit: role 1, participant above 63, in the first stretch (1)', number == 1 and early)
+        self.met('admit: role 1, participant above 63 (1)', number == 1 and not early)
 
     def lodge(self, p, place, amount, first=None, last=None):
         t, who, letter = self.t, self.book.people.get(p), first is not None
@@ -579,6 +668,8 @@ class Recorder:
         if ok[0] == 0:
             self.met(f'release: one cent below the limit, set by {by} (16)', ok[1] == 16 and left == floor - 1 and alone)
             self.met('release: a letter that has not begun, cover too small (16)', ok[1] == 16 and ahead)
+            self.met('role 1 behind the first stretch: a release refused for its minimum (16)',
+                     ok[1] == 16 and self.kept_role(who) and floor == MINIMUM[RETIRED])
             self.met('release: a letter in part (15)', ok[1] == 15 and held[0] == 'letter' and amount < held[1])
             self.met('release: more than held (15)', ok[1] == 15 and amount > held[1])
             self.met('release: one cent more than held (15)', ok[1] == 15 and amount == held[1] + 1)
@@ -658,6 +749,9 @@ class Recorder:
         self.met('check: only the firm amount keeps from calling', rules == (True, False, True))
         self.met('check: only an open call keeps from calling', rules == (True, True, False))
         self.met('check: a letter that has not begun would have covered it', made and d + ahead >= e)
+        self.met('role 1 behind the first stretch: a call is made', made and self.kept_role(who))
+        self.met('role 1 behind the first stretch: only its minimum keeps from calling',
+                 self.kept_role(who) and not made and e > d and rules[0] and max(calls + [firm]) == MINIMUM[RETIRED])
         self.met_deposits(who, made, e, d, cover, later, letters)
         self.met('check: fourth open call made', made and len(calls) == 3)
         self.met('check: four open, covered', not made and len(calls) == 4)
@@ -746,6 +840,8 @@ class Recorder:
             for e, (_, _, who) in zip(totals, parts)))
         self.met('batch: accepted, a call is made, and the cover today is above its total', any(
             made and who.cover(t) > e for made, e, (_, _, who) in zip(calls, totals, parts)))
+        self.met('role 1 behind the first stretch: a call is made by a batch', any(
+            made and self.kept_role(who) for made, (_, _, who) in zip(calls, parts)))
         self.met('batch: accepted, a total replaced', any(replaced))
         self.met('batch: accepted, a total below 0', min(totals) < 0)
         self.met('batch: accepted, a figure of 10^12 or -10^12', any(abs(x) == MOST for _, figures, _ in parts for x in figures))
@@ -867,6 +963,10 @@ class Recorder:
         self.met('annual: a larger total was in a refused batch', any(e > amount for e in undone))
         self.met('annual: the amount is the total of a batch', any(e == amount == self.batched.get((p, m)) for m, e in window.items()))
         self.met('annual: September 2020', here == 8)
+        if self.kept_role(who):
+            self.met('role 1 behind the first stretch: an annual run ' + ('above the minimum' if amount > MINIMUM[RETIRED] else
+                                                                          'raised to the minimum' if months else 'of no months'))
+        (self.early_runs.add if self.book.first_stretch else self.early_runs.discard)(who)
         return ok
 
     def advance(self, day, budget):
@@ -921,6 +1021,8 @@ class Recorder:
                          ('higher' if coming > was else 'lower' if coming < was else 'the same'))
                 self.met('opening: next amount 0 takes effect', coming == 0)
                 self.met('opening: next amount takes effect, a second one for the participant', len(set(r for r, _ in who.periods())) > 2)
+                self.met('role 1 behind the first stretch: a next amount ' + ('of before ' if who in self.early_runs else '') + 'takes effect',
+                         self.kept_role(who))
             else:
                 self.met('opening: no next amount on 1 October, firm amount above 0', firm > 0)
         for what, amount, first, last in held:
@@ -930,6 +1032,8 @@ class Recorder:
                 self.met('opening: a letter begins', t < first <= now)
                 self.met('opening: a letter begins and a shortfall ends', t + 1 < first <= now and short[first] == 0 and short[first - 1] > 0)
         values = set(short.values())
+        self.met('role 1 behind the first stretch: its minimum becomes firm', self.kept_role(who) and t <= who.day + 10 < now)
+        self.met('role 1 behind the first stretch: a day is charged', self.kept_role(who) and max(values) > 0)
         self.met('charge: shortfall below 100,000,000', any(0 < s < 10 ** 8 for s in values))
         self.met('charge: shortfall of 100,000,000', 10 ** 8 in values)
         self.met('charge: shortfall above 100,000,000', any(s > 10 ** 8 for s in values))
@@ -941,7 +1045,9 @@ class Recorder:
 
     def statement(self, p):
         self.met("batch: refused, then a statement of an earlier part's participant", p in self.spared)
-        return self.call(7, p)
+        ok = self.call(7, p)
+        self.met('admit: role 1 refused (23), then a statement (2)', p in self.retired and ok[:2] == (0, 2))
+        return ok
 
     def count(self):
         return self.call(9)
@@ -950,14 +1056,15 @@ class Recorder:
 class Maker(Recorder):
     """Makes a history by scenes of a few calls each, aimed at corners with the help of the reference's readings."""
 
-    def __init__(self, rng, theme, start, calls, names):
+    def __init__(self, rng, theme, start, calls, names, first):
         self.rng, self.theme = rng, theme
+        self.aimed = 6 < first < ALL and rng.random() < 0.5     # whether the first stretch ends by a scene
         self.names = names                       # the participants to admit
         self.days = MOST_DAYS if len(names) <= 5 else 300 if len(names) <= 20 else 150
         self.everyone = False                    # whether a batch for all 64 was entered
         self.scale = {p: rng.choice((1, 1, 10, 100, 1000, 10 ** 4, 10 ** 5, 10 ** 6, 10 ** 6, 2 * 10 ** 7, 10 ** 8, 10 ** 8, 10 ** 9, 10 ** 11))
                       for p in range(64)}
-        super().__init__(start, calls)
+        super().__init__(start, calls, first)
 
     def likely(self, chance):
         return self.rng.random() < chance
@@ -1094,12 +1201,13 @@ class Maker(Recorder):
     # -- scenes ----------------------------------------------------------------------------------------------------------------------------
 
     def scene_admit(self):
-        """Somebody new, mostly followed by a first payment."""
+        """Somebody new, mostly followed by a first payment. Where role 1 is refused, another role follows."""
         absent = [p for p in self.names if p not in self.book.people]
         if not absent:
             return self.scene_wrong_admit()
         p = absent[0]
-        self.admit(p, self.among(0, 0, 1, 2, 2, 3, 3, 4, 5))
+        if self.admit(p, RETIRED if self.first < 13 and self.likely(0.3) else self.among(0, 1, 1, 2, 2, 3, 3, 4, 5))[0] == 0:
+            self.admit(p, self.among(0, 0, 2, 3))
         if self.likely(0.55 if len(self.names) <= 5 else 0.2):
             self.pay(p, self.among(0, 0, 0, -1, 1))
         elif self.likely(0.2):
@@ -1108,10 +1216,39 @@ class Maker(Recorder):
     def scene_wrong_admit(self):
         p = self.anyone(0) if self.likely(0.4) else self.stranger()
         if p <= 63 and p not in self.book.people and self.likely(0.8):
-            return self.admit(p, self.among(6, 6, 7, 8, 255, 256, 257, 258, 2 ** 32, 2 ** 32 + 3, WORD))
+            return self.admit(p, self.among(6, 6, 7, 8, 255, 256, 257, 258, 2 ** 32, 2 ** 32 + 1, 2 ** 32 + 3, WORD))
         if p <= 63 and p not in self.book.people and (len(self.names) <= 5 and len(self.book.people) >= 5):
             return None
-        return self.admit(p, self.among(0, 2, 3, 5, 6, 6, 255, WORD))
+        return self.admit(p, self.among(0, 1, 2, 3, 5, 6, 6, 255, WORD))
+
+    def scene_retired(self):
+        """Role 1: for somebody new, which is refused behind the first stretch, for one admitted already, or for none that could be."""
+        style, absent = self.rng.random(), [p for p in range(64) if p not in self.book.people]
+        if style < 0.6 and absent:
+            p = self.rng.choice(absent)
+            if self.book.first_stretch and len(self.book.people) > len(self.names):
+                return self.statement(p)
+            if self.admit(p, RETIRED)[0] == 0:
+                if self.likely(0.3):
+                    self.statement(p)
+                if self.likely(0.15) and len(self.book.people) <= len(self.names):
+                    self.admit(p, self.among(0, 2, 3))
+            return None
+        if style < 0.85:
+            return self.admit(self.who()[0], RETIRED)
+        return self.admit(self.among(64, 64, 65, 127, 256, 257, 2 ** 32, WORD), RETIRED)
+
+    def scene_stretch_end(self):
+        """The first stretch ends here: by role 1 as its last call, by an advance, or before one; behind it role 1 is asked for."""
+        absent = self.rng.sample([p for p in range(64) if p not in self.book.people], min(2, 64 - len(self.book.people)))
+        style = self.rng.random()
+        self.first = len(self.lines) + (style < 0.8)
+        if style < 0.6 and absent:
+            self.admit(absent.pop(), RETIRED)
+        elif self.t < LAST_DAY and self.days > 1:
+            self.go(self.t + 1)
+        if absent:
+            self.admit(absent.pop(), RETIRED)
 
     def pay(self, p, more=0, all_due=0.7):
         """Lodges what is due now or later, or a cent more or less, as cash or as a letter."""
@@ -1394,6 +1531,8 @@ class Maker(Recorder):
         else:
             self.record(p, self.among(0, 0, 0, 1, 1, 2, 3, 5, 8, 11, 12, 12))
         self.annual(p)
+        if self.aimed and self.book.first_stretch and who.role == RETIRED and self.likely(0.5):
+            self.first = len(self.lines)        # the first stretch ends behind the run
         if self.likely(0.5):
             if self.likely(0.6) and month(self.t) > 2:
                 m = max(month(self.t) - self.rng.randint(3, 14), 0)
@@ -1746,17 +1885,17 @@ class Maker(Recorder):
             self.statement(self.anyone(0.03))
 
     SCENES = ('admit', 'pay', 'lodge', 'letter', 'release', 'limit', 'check', 'even', 'rise', 'late', 'months', 'wrong_settle', 'turn', 'annual',
-              'summer', 'october', 'advance', 'wrong', 'ask', 'batch', 'lapse')
+              'summer', 'october', 'advance', 'wrong', 'ask', 'batch', 'lapse', 'retired')
     WEIGHTS = {
-        'mixed': (2, 5, 4, 3, 5, 4, 7, 4, 3, 5, 4, 2, 2, 3, 1, 2, 9, 6, 6, 8, 4),
-        'annual': (2, 4, 3, 2, 4, 4, 4, 2, 1, 3, 3, 1, 1, 12, 4, 5, 6, 3, 4, 8, 2),
-        'autumn': (3, 4, 3, 3, 4, 4, 5, 3, 2, 4, 3, 1, 3, 3, 1, 9, 9, 3, 5, 6, 2),
-        'checks': (2, 5, 2, 1, 3, 2, 10, 7, 7, 7, 4, 3, 3, 1, 2, 1, 6, 3, 4, 8, 7),
-        'guarantees': (2, 5, 8, 8, 9, 9, 2, 1, 1, 3, 1, 1, 1, 2, 1, 2, 7, 4, 5, 5, 5),
-        'refusals': (2, 3, 3, 2, 4, 2, 3, 1, 3, 2, 5, 6, 1, 2, 1, 1, 6, 18, 5, 10, 2),
-        'crowd': (26, 4, 3, 1, 3, 3, 5, 2, 2, 2, 3, 1, 1, 4, 1, 2, 6, 4, 6, 9, 3),
-        'end': (4, 5, 5, 3, 5, 4, 7, 4, 5, 3, 3, 2, 1, 2, 1, 1, 6, 4, 5, 7, 7),
-        'begin': (3, 5, 4, 3, 5, 3, 5, 3, 2, 4, 5, 2, 5, 4, 2, 3, 9, 4, 5, 7, 3),
+        'mixed': (2, 5, 4, 3, 5, 4, 7, 4, 3, 5, 4, 2, 2, 3, 1, 2, 9, 6, 6, 8, 4, 2),
+        'annual': (2, 4, 3, 2, 4, 4, 4, 2, 1, 3, 3, 1, 1, 12, 4, 5, 6, 3, 4, 8, 2, 1),
+        'autumn': (3, 4, 3, 3, 4, 4, 5, 3, 2, 4, 3, 1, 3, 3, 1, 9, 9, 3, 5, 6, 2, 2),
+        'checks': (2, 5, 2, 1, 3, 2, 10, 7, 7, 7, 4, 3, 3, 1, 2, 1, 6, 3, 4, 8, 7, 1),
+        'guarantees': (2, 5, 8, 8, 9, 9, 2, 1, 1, 3, 1, 1, 1, 2, 1, 2, 7, 4, 5, 5, 5, 1),
+        'refusals': (2, 3, 3, 2, 4, 2, 3, 1, 3, 2, 5, 6, 1, 2, 1, 1, 6, 18, 5, 10, 2, 5),
+        'crowd': (26, 4, 3, 1, 3, 3, 5, 2, 2, 2, 3, 1, 1, 4, 1, 2, 6, 4, 6, 9, 3, 3),
+        'end': (4, 5, 5, 3, 5, 4, 7, 4, 5, 3, 3, 2, 1, 2, 1, 1, 6, 4, 5, 7, 7, 2),
+        'begin': (3, 5, 4, 3, 5, 3, 5, 3, 2, 4, 5, 2, 5, 4, 2, 3, 9, 4, 5, 7, 3, 2),
     }
 
     def make(self):
@@ -1767,10 +1906,15 @@ class Maker(Recorder):
             if self.theme == 'mixed' and self.likely(0.15):
                 self.scene_vast()
             while True:
+                if self.aimed and self.first - 6 <= len(self.lines) < self.first:
+                    self.scene_stretch_end()
                 getattr(self, 'scene_' + self.rng.choices(self.SCENES, weights)[0])()
         except Full:
             pass
         self.finish()
+        if self.first == ALL:
+            self.first = self.among(*[len(self.lines) + n for n in (0, 0, 1, 2)], MOST_CALLS, HALF + 1, WORD)
+        self.met_stretch()
 
 
 def start_of(theme, rng):
@@ -1792,6 +1936,11 @@ def start_of(theme, rng):
     return rng.choice((first + rng.randint(-3, 1), first + rng.randint(0, 27), leap - rng.randint(0, 3), rng.choice(autumn)))
 
 
+def stretch_of(calls, rng):
+    """How many calls a first stretch has: none, a few, some, or all that there are."""
+    return rng.choice([0] * 6 + [rng.randint(1, 2), rng.randint(1, 12), rng.randint(2, 12)] + [rng.randint(13, calls)] * 9 + [ALL] * 2)
+
+
 def make(seed, i):
     """History number i of a seed; it depends on no other."""
     rng = random.Random(f'paper 01 history {seed} {i}')
@@ -1800,7 +1949,8 @@ def make(seed, i):
     names = rng.sample(range(64), many)
     if many < 64 and rng.random() < 0.3:
         names[0] = 63 if 0 in names else 0 if 63 in names else rng.choice((0, 63))
-    maker = Maker(rng, theme, start_of(theme, rng), rng.randint(200, 268), names)
+    start, calls = start_of(theme, rng), rng.randint(200, 268)
+    maker = Maker(rng, theme, start, calls, names, stretch_of(calls, rng))
     maker.make()
     return maker
 
@@ -1838,7 +1988,7 @@ def main():
           f'{time.time() - began:.0f} s')
     print(f'largest: {largest} bytes, {most_calls} calls, {most_figures} figures, {most_batch} bytes of batches, {most_days} days opened')
     print('answers: ' + ', '.join(f'{name} {kinds[kind]}' for kind, name in ANSWERS.items()))
-    numbers = [*range(1, 18), 20, 21, 22]
+    numbers = [*range(1, 18), 20, 21, 22, 23]
     print('refusals: ' + ', '.join(f'{n}: {refusals[n]}' for n in numbers))
     print('first cause + another that held: ' + ', '.join(f'{name} {a}+{b}: {pairs[name, a, b]}' for name, a, b in sorted(pairs)))
     print('corners:')

@@ -8,8 +8,10 @@
     python3 reference/ledger.py --check                                 paper 01's starred figures, as calls and their answers
 
 A line is read to a tuple, the call's name first and its arguments after it, numbers as numbers; a settlement's last argument is the list of its
-figures, a special guarantee's arguments are its seven lists, and a batch's is its bytes. The book is reading.py's; the special guarantee stands
-here. What the program does with the system (locks, forced writes, what fails) is not here: reference/ledger_cases.py tries that.
+figures, a special guarantee's arguments are its seven lists, and a batch's is its bytes. The line `role-retired` is read the same way, but is no
+call: it ends the first stretch of a journal, whose calls were made under the old admission rule (paper 02, ask 3), and has no answer. The book is
+reading.py's; the special guarantee stands here. What the program does with the system (locks, forced writes, what fails) is not here:
+reference/ledger_cases.py tries that.
 """
 import datetime
 import os
@@ -25,6 +27,7 @@ LOADED = 32764                                      # bytes of a file that is en
 DROPPED = 20479                                     # bytes behind a journal's last newline that are dropped at most
 MARK = b'\xef\xbb\xbf'                              # a byte order mark, passed over at the start of an input
 QUESTIONS = ('statement', 'calls', 'special', 'report')
+STRETCH_END = ('role-retired',)                     # the line that ends a journal's first stretch, as it is read
 NATURAL, DAY, SIGNED = 2 ** 64 - 1, 2 ** 32 - 1, 2 ** 63 - 1
 ROLES = ('supplier', 'self-supplied', 'trader', 'producer', 'res-aggregator', 'demand-response')
 WORD = re.compile(rb'[^ \t\r]+')                    # blanks are spaces, tabs and carriage returns
@@ -124,7 +127,7 @@ def file(word):
 # The arguments of the calls that have a fixed number of words; a lodging's go on after `cash` or `letter`. A batch's word may be missing.
 ARGUMENTS = {'fresh': (day,), 'admit': (natural, role), 'lodge': (natural, natural, kind), 'release': (natural, natural, natural),
              'settle': (natural, month), 'annual': (natural,), 'advance': (day, natural), 'statement': (natural,), 'calls': (), 'special': (),
-             'report': (), 'batch': ()}
+             'report': (), 'batch': (), 'role-retired': ()}
 LODGED = {'cash': (natural,), 'letter': (natural, day, day)}
 
 
@@ -152,7 +155,7 @@ class Words:
 
 
 def call_of(line):
-    """The call that a line is, without its newline; None where it has no words."""
+    """The call that a line is, without its newline, or STRETCH_END; None where it has no words."""
     if len(line) > LONGEST:
         raise Fault('line too long')
     line = line.partition(b'#')[0]
@@ -243,17 +246,18 @@ def row(cells):
 
 
 class Ledger:
-    """The book, and the answer to one call after the other. Before any `fresh` it is the fresh book of day 0."""
+    """The book, and the answer to one call after the other. Before any `fresh` it is the fresh book of day 0. A first stretch goes on behind a
+    `fresh`, until it is ended."""
 
-    def __init__(self):
-        self.book = reading.History(0)
+    def __init__(self, first_stretch=False):
+        self.book = reading.History(0, first_stretch)
 
     def make(self, call):
         """The answer to a call: a line, or for a report several, without the last newline."""
         name, *args = call
         book = self.book
         if name == 'fresh':
-            number, made = reading.fresh(*args)
+            number, made = reading.fresh(*args, book.first_stretch)
             if number == 0:
                 self.book = made
             return f'refused {number}' if number else 'done'
@@ -282,7 +286,8 @@ def refused(answer):
 
 
 class Filter:
-    """Answers the lines of an input, which are counted from 1."""
+    """Answers the lines of an input, which are counted from 1. Whoever types them is under the new admission rule, and `role-retired` is passed over
+    like a line without words."""
 
     def __init__(self):
         self.ledger = Ledger()
@@ -307,7 +312,7 @@ class Filter:
 
     def taken(self, line, whole):
         call = call_of(line)
-        return None if call is None else self.made(call)
+        return None if call in (None, STRETCH_END) else self.made(call)
 
     def made(self, call):
         return self.ledger.make(call)
@@ -318,11 +323,15 @@ class Stop(Exception):
 
 
 class Kept(Filter):
-    """The same for a kept book: changes that are accepted are kept, `fresh` only as the first of them, and no line without its newline is taken."""
+    """The same for a kept book: changes that are accepted are kept, `fresh` only as the first of them, and no line without its newline is taken. The
+    journal is replayed first, under the old admission rule up to its line `role-retired`; one without that line is a first stretch as a whole, and
+    gets the line before the first change that is added."""
 
     def __init__(self):
         super().__init__()
+        self.ledger = Ledger(first_stretch=True)
         self.any = False     # whether the journal has a change
+        self.marked = False  # whether it has the line that ends its first stretch
 
     def first_only(self, call):
         if call[0] == 'fresh' and self.any:
@@ -337,21 +346,26 @@ class Kept(Filter):
         self.first_only(call)
         answer = self.ledger.make(call)
         if call[0] not in QUESTIONS and not refused(answer):
-            self.keep(numeric(call).encode())
-            self.any = True
+            self.keep([numeric(line).encode() for line in ((call,) if self.marked else (STRETCH_END, call))])
+            self.any = self.marked = True
         return answer
 
     def replay(self, data):
-        """Replays the complete lines of a journal, and gives the rest behind them."""
+        """Replays the complete lines of a journal, and gives the rest behind them. What is asked then is under the new rule, marked or not."""
         *lines, rest = data.removeprefix(MARK).split(b'\n')
         for number, line in enumerate(lines, 1):
             self.replay_line(number, line)
+        self.ledger.book.end_stretch()
         return rest
 
     def replay_line(self, number, line):
         try:
             call = call_of(line)
             if call is None:
+                return
+            if call == STRETCH_END:
+                self.marked = True
+                self.ledger.book.end_stretch()
                 return
             self.first_only(call)
             answer = self.ledger.make(call)
@@ -412,8 +426,9 @@ class Keeper(Kept):
             self.file.truncate(len(data) - len(rest))
         self.file.seek(0, os.SEEK_END)
 
-    def keep(self, line):
-        self.file.write(line + b'\n')
+    def keep(self, lines):
+        """Appends lines at once."""
+        self.file.write(b''.join(line + b'\n' for line in lines))
 
 
 def answers(data, to=None):

@@ -8,6 +8,12 @@ Three programs that a comparison of whole runs alone might pass, and the cases t
 - every answer is `done`: `filter`, `kept changes` and every other case that compares answers;
 - an answer is written before its line is appended, and a failure is ignored: `order of the calls`, `failing write`, `failing fdatasync`;
 - the order is right, and a failure is ignored: `failing write`, `failing fdatasync`, `full disk`, `file size limit`.
+
+Programs that would treat a first stretch (paper 02, ask 3) wrongly, and the cases that catch each:
+- a journal is replayed under the new rule: `old journal with the retired role`; under the old one to its end: `retired role behind its end`;
+- who types behind a journal without the line `role-retired` is under the old rule: `retired role that is typed`;
+- the line is appended when the journal is opened: `old journal that is only asked`; on its own: `order of the first addition`; in each run: `old
+  journal with the retired role`.
 """
 import contextlib
 import fcntl
@@ -31,6 +37,7 @@ PATIENCE = 20        # seconds without an answer or an end
 SHORT = 5            # the same where the ledger has to stop
 NOBODY = 65534
 CASES = []
+RETIRED = b'role-retired'                           # the line that ends a journal's first stretch
 
 
 class Wrong(Exception):
@@ -49,8 +56,12 @@ class Model(ledger.Kept):
         self.lines = []
         self.replay(journal)
 
-    def keep(self, line):
-        self.lines.append(line)
+    def keep(self, lines):
+        self.lines += lines
+
+    def changes(self):
+        """How many of the lines are changes: all but the one that ends the first stretch."""
+        return len(self.lines) - self.lines.count(RETIRED)
 
     def people(self):
         return self.ledger.book.people
@@ -112,6 +123,10 @@ statement 0
 frob
 fresh 0
 admit 1 1
+admit 1 trader
+admit 2 self-supplied
+role-retired
+role-retired 1
 lodge 0 1 cash 500000
 release 0 1 10
 settle 0 2020-10 1 2 3 4 5 6
@@ -156,6 +171,24 @@ def batch_line(data):
 def many(count):
     """A fresh book and so many settlements."""
     return joined([b'fresh 2021-02-01', b'admit 0 producer']) + settled(range(count))
+
+
+# A journal as it was kept while role 1 was admitted: two have it, of whom one has paid its minimum, on 1 February 2021, month 13. And what follows.
+OLD_BOOK = b'fresh 366\nadmit 0 1\nadmit 1 1\nadmit 2 3\nlodge 1 0 cash 2000000\nadvance 397 100\n'
+LATER = b'''statement 0
+settle 0 2020-12 2000001 0 0 0 0
+settle 1 2020-12 2000000 0 0 0 0
+advance 2021-09-01 1000
+annual 0
+annual 1
+admit 0 1
+admit 9 1
+advance 2021-10-01 100
+statement 0
+statement 1
+calls
+report
+'''
 
 
 # ---- the ledger in a folder
@@ -342,7 +375,7 @@ def failed(place, journal, data, out, said, acked=None):
     same('the journal', place.got(), journal + model.appended())
     holds('every line was answered in spite of the failure', left)
     if acked is not None:
-        same('the acknowledged changes', len(model.lines), acked)
+        same('the acknowledged changes', model.changes(), acked)
     holds('no message on standard error', said.startswith(b'ledger: ') and place.path.encode() in said, said)
     same('the lock that is left', place.got('book.journal.lock'), None)
 
@@ -435,8 +468,8 @@ def byte_order_mark(place):
 @case
 def byte_order_mark_of_a_journal(place):
     """A mark at the start of a journal is passed over and stays there; the mark of the input is not kept."""
-    keeps(place, ledger.MARK + b'calls\nadmit 1 1\n', journal=ledger.MARK + b'fresh 5\nadmit 0 0\n')
-    keeps(place, ledger.MARK + b'fresh 7\nadmit 1 1\nreport\n', journal=b'')
+    keeps(place, ledger.MARK + b'calls\nadmit 1 2\n', journal=ledger.MARK + b'fresh 5\nadmit 0 0\n')
+    keeps(place, ledger.MARK + b'fresh 7\nadmit 1 2\nreport\n', journal=b'')
     place.put(b'fresh 5\n' + ledger.MARK + b'admit 0 0\n')
     refuses(place, place.path, texts=[f'{place.path}: line 2: error 2 no such call'.encode()])
 
@@ -498,14 +531,14 @@ def long_lines_of_a_journal(place):
 @case
 def torn_input(place):
     """A last line of standard input without its newline is not taken in the kept way."""
-    for rest in (b'admit 5 1', b'calls', b'a', b' ', b'# a comment', b'frob', b'\x00', b'calls'.ljust(65535), b'x' * 200000):
+    for rest in (b'admit 5 2', b'calls', b'a', b' ', b'# a comment', b'frob', b'\x00', b'calls'.ljust(65535), b'x' * 200000):
         data = CALLS + rest
         keeps(place, data)
         holds('it is taken', place.got() == due(CALLS)[1])
         os.remove(place.path)
         keeps(place, data, '--batch', '--end', end=True)
         os.remove(place.path)
-    keeps(place, b'admit 5 1')
+    keeps(place, b'admit 5 2')
 
 
 @case
@@ -587,7 +620,7 @@ def kept_changes(place):
     left = place.got()
     keeps(place, b'report\ncalls\nstatement 0\n' + SPECIAL + b'\n', journal=left)
     same('the journal after questions', place.got(), left)
-    for data in (b'', b'\n\n', b'# nothing\n', b'calls\nreport\n', b'frob\nadmit 64 0\n'):
+    for data in (b'', b'\n\n', b'# nothing\n', b'calls\nreport\n', b'frob\nadmit 64 0\n', b'role-retired\nadmit 0 1\n'):
         keeps(place, data, journal=b'')
         same('the journal without a change', place.got(), b'')
 
@@ -652,8 +685,8 @@ def mode_of_a_new_journal(place):
 @case
 def relative_name(place):
     """A journal named without a directory is made, locked and gone on with in the working directory."""
-    for data, journal in ((b'admit 0 0\n', b''), (b'admit 1 1\nreport\n', b'admit 0 0\n')):
-        answers, left = due(data, journal)
+    for data in (b'admit 0 0\n', b'admit 1 2\nreport\n'):
+        answers, left = due(data, place.got() or b'')
         same('the answers', place.run('book.journal', data=data, cwd=place.folder), (answers, b''))
         same('the journal', place.got(), left)
         same('the files', place.names(), ['book.journal'])
@@ -665,10 +698,10 @@ def relative_name(place):
 def torn_journal(place):
     """A short rest behind complete lines is cut off, and what it was is said."""
     journal = due(CALLS)[1]
-    for rest in (b'a', b'lodge 0 0 cash 777', b'admit 5 1', b'\x00\x1f\x7f\xff~ \t', b' ', b'#', b'\r', b'x' * 4096, b'y' * ledger.DROPPED):
+    for rest in (b'a', b'lodge 0 0 cash 777', b'admit 5 2', b'\x00\x1f\x7f\xff~ \t', b' ', b'#', b'\r', b'x' * 4096, b'y' * ledger.DROPPED):
         place.put(journal + rest)
-        out, said = place.keep(b'report\nadmit 5 1\n')
-        answers, left = due(b'report\nadmit 5 1\n', journal)
+        out, said = place.keep(b'report\nadmit 5 2\n')
+        answers, left = due(b'report\nadmit 5 2\n', journal)
         same('on standard error', said, (ledger.dropped(place.path, rest) + '\n').encode())
         same('the answers', out, answers)
         same('the journal', place.got(), left)
@@ -681,7 +714,8 @@ def rest_that_is_not_dropped(place):
     more = ledger.DROPPED + 1
     for journal, rest in ((b'', b'admit 0 0'), (b'', b'a'), (b'', b'x' * 200000), (b'admit 0 0\n', b'x' * more), (b'admit 0 0\n', b'y' * 65536),
                           (b'admit 0 0\nadmit 1 0\n', b'z' * 200000), (b'', ledger.MARK + b'admit 0 0'), (b'\n', b'admit 0 0'),
-                          (b'# a comment\n', b'admit 0 0'), (b' \r\n\n', b'a'), (b'calls\nreport\n', b'admit 0 0')):
+                          (b'# a comment\n', b'admit 0 0'), (b' \r\n\n', b'a'), (b'calls\nreport\n', b'admit 0 0'), (b'role-retired\n', b'fre'),
+                          (b'role-retired\n', b'fresh 366'), (b'', b'role-ret'), (b'', b'role-retired'), (b'\nrole-retired\n#\n', b'a')):
         place.put(journal + rest)
         refuses(place, place.path, texts=[f'ledger: {place.path}: line {journal.count(10) + 1}: '.encode()])
 
@@ -723,7 +757,7 @@ def month_file_that_is_no_journal(place):
 def failing_cut(place):
     """Where a torn line can't be cut off, the ledger says so and answers nothing."""
     place.put(b'admit 0 0\nadm')
-    out, said = place.keep(b'calls\nadmit 1 1\n', before=fault(place.path, (CUT, 'EIO', '1+')))
+    out, said = place.keep(b'calls\nadmit 1 2\n', before=fault(place.path, (CUT, 'EIO', '1+')))
     same('the answers', out, b'')
     same('the journal', place.got(), b'admit 0 0\nadm')
     holds('no message of the failure', b'Input/output error' in said, said)
@@ -790,9 +824,9 @@ def empty_lock_file(place):
         place.put(b'admit 0 0\n')
         place.put(lock, 'book.journal.lock')
         before = snapshot(place.folder)
-        out, said = place.keep(b'admit 1 1\nreport\n')
+        out, said = place.keep(b'admit 1 2\nreport\n')
         if out:
-            same('the answers', (out, place.got()), due(b'admit 1 1\nreport\n', b'admit 0 0\n'))
+            same('the answers', (out, place.got()), due(b'admit 1 2\nreport\n', b'admit 0 0\n'))
             same('the lock that is left', place.got('book.journal.lock'), None)
         else:
             same('the files', snapshot(place.folder), before)
@@ -811,11 +845,11 @@ def two_names(place):
             if second.hear(1):
                 same('the second answers', second.out, b'done\n')
                 model.answer(b'lodge 0 0 cash 5')
-                out, said = first.stops(b'admit 1 1\n')
+                out, said = first.stops(b'admit 1 2\n')
                 same('the first answers', out, b'')
                 holds('the first says nothing', b'nothing more is kept' in said, said)
             else:
-                first.ask(b'admit 1 1\n', model)
+                first.ask(b'admit 1 2\n', model)
     same('the journal', place.got(), model.appended())
 
 
@@ -895,7 +929,7 @@ def questions_go_on(place):
         talk.ask(many(5), model)
         os.rename(place.path, place.at('away'))
         talk.ask(b'report\ncalls\nadmit 0 0\n', model)
-        same('the answers to a change', talk.stops(b'admit 1 1\n')[0], b'')
+        same('the answers to a change', talk.stops(b'admit 1 2\n')[0], b'')
 
 
 # ---- streams that are closed, or take nothing
@@ -903,7 +937,7 @@ def questions_go_on(place):
 @case
 def answers_that_can_not_be_written(place):
     """Where standard output takes nothing, the ledger says so and stops: no more than the one change in work is kept, with --batch the one part."""
-    for words, most in (((), 1), (('--batch',), 22)):
+    for words, most in (((), 2), (('--batch',), 23)):              # lines, the first of them `role-retired`
         with open('/dev/full', 'wb') as full:
             _, said = place.run(*words, place.path, data=many(20), stdout=full)
         holds('no message', b'standard output' in said, said)
@@ -974,7 +1008,7 @@ def full_disk_at_the_start(place):
         same('the answers', out, b'')
         same('the journal', small.got(), b'admit 0 0\n')
         os.remove(small.at('filler'))
-        keeps(small, b'admit 1 1\n', journal=b'admit 0 0\n')
+        keeps(small, b'admit 1 2\n', journal=b'admit 0 0\n')
 
 
 @case
@@ -1072,9 +1106,9 @@ def trace(place, words, data):
     return [(call, os.path.basename(path), int(result)) for call, path, result in found]
 
 
-def needs(data):
+def needs(data, journal):
     """For each byte of the answers to an input how long the journal on disk has to be before it: 0 where it belongs to no change."""
-    model, found, length = Model(), [], 0
+    model, found, length = Model(journal), [], len(journal)
     for line in data.split(b'\n')[:-1]:
         kept, answer = len(model.lines), model.answer(line)
         more = sum(len(line) + 1 for line in model.lines[kept:])
@@ -1083,13 +1117,15 @@ def needs(data):
     return found
 
 
-def in_order(place, words, data):
-    """A run on a new journal: no byte of an answer to a change is written before a force to disk that follows the append of its line. Gives the
-    counts of reads, appends and forces."""
+def in_order(place, words, data, journal=b''):
+    """A run on a new journal, or on one that is put there: no byte of an answer to a change is written before a force to disk that follows the
+    append of its line. Gives the counts of reads, appends and forces."""
+    if journal:
+        place.put(journal)
     calls = trace(place, words, data)
-    same('the answers', place.got('output'), due(data)[0])
-    same('the journal', place.got(), due(data)[1])
-    due_at, appended, forced, answered = needs(data), 0, 0, 0
+    same('the answers', place.got('output'), due(data, journal)[0])
+    same('the journal', place.got(), due(data, journal)[1])
+    due_at, appended, forced, answered = needs(data, journal), len(journal), len(journal), 0
     counts = {'read': 0, 'append': 0, 'force': 0}
     for call, name, result in calls:
         holds(f'{call} of {name} failed', result >= 0)
@@ -1112,7 +1148,7 @@ def order_of_the_calls(place):
     """Every answer to a change is written after its line was appended and then forced to disk; each change has its own force."""
     data = CALLS + settled(range(30)) + b'report\n' * 3 + settled(range(90, 99))
     counts = in_order(place, [place.path], data)
-    changes = due(data)[1].count(b'\n')
+    changes = due(data)[1].count(b'\n') - 1                       # the first is appended with `role-retired` before it
     same('appends and forces', (counts['append'], counts['force']), (changes, changes))
 
 
@@ -1159,7 +1195,9 @@ def restarts(place, journal, rest, data, out):
     found, whole = place.got() or b'', due(data, journal)[1]
     if out or found != journal + rest:
         holds('the journal', whole.startswith(found) and found[-1:] in (b'', b'\n'), found)
-        holds('not one change more', found.count(b'\n') - journal.count(b'\n') - len(model.lines) in (0, 1), found)
+        more = found[len(journal):].split(b'\n')[:-1]
+        holds('not one change more', len(more) - more.count(RETIRED) - model.changes() in (0, 1), found)
+        holds('the end of the first stretch without a change behind it', more[-1:] != [RETIRED], found)
     found = found[:found.rfind(b'\n') + 1]
     same('the answers after a start', place.keep(b'report\n')[0], due(b'report\n', found)[0])
     same('the journal after a start', place.got(), found)
@@ -1170,7 +1208,8 @@ def restarts(place, journal, rest, data, out):
 def killed_at_every_step(place):
     """Killed before any of its calls of the system, the ledger leaves what was acknowledged and at most one change more, and starts again."""
     data = b'calls\n' + many(3)
-    for journal, rest in ((b'', b''), (b'fresh 397\nadmit 0 3\n', b'adm')):
+    for journal, rest in ((b'', b''), (b'fresh 397\nadmit 0 3\n', b'adm'), (b'fresh 397\nadmit 1 1\nadmit 0 3\n', b'role-ret'),
+                          (b'role-retired\nfresh 397\nadmit 0 3\n', b'')):
         for step in STEPS:
             for when in (1, 2, 3, 4, 6):
                 if journal:
@@ -1250,7 +1289,7 @@ def read_only_file_system(place):
             raise Skip('no mount is permitted')
         for name in ('book.journal', 'another'):
             refuses(small, small.at(name), texts=[small.at(name).encode(), b'Read-only file system'])
-        reads(small, b'report\nadmit 1 1\n')
+        reads(small, b'report\nadmit 1 2\n')
 
 
 @case
@@ -1283,15 +1322,15 @@ def bail(place):
             keeps(place, data, '--bail', *words, bail=True)
             os.remove(place.path)
     with place.talk('--bail', place.path) as talk:
-        same('the answer', talk.stops(b'admit 0 0\nfrob\nadmit 1 1\n'), (b'done\nerror 2 no such call\n', b''))
-    same('the journal', place.got(), b'admit 0 0\n')
+        same('the answer', talk.stops(b'admit 0 0\nfrob\nadmit 1 2\n'), (b'done\nerror 2 no such call\n', b''))
+    same('the journal', place.got(), b'role-retired\nadmit 0 0\n')
 
 
 @case
 def end(place):
     """--end writes the count of lines and of those accepted behind the last answer, whatever the input's last line is."""
-    for data in (b'', b'\n', b'\n\n# a comment\nreport\n', CALLS, many(20), b'frob\n', b'frob', b'calls', b'admit 0 0\nadmit 0 0\nadmit 1 1',
-                 b'x' * 70000 + b'\n'):
+    for data in (b'', b'\n', b'\n\n# a comment\nreport\n', CALLS, many(20), b'frob\n', b'frob', b'calls', b'admit 0 0\nadmit 0 0\nadmit 1 2',
+                 b'x' * 70000 + b'\n', b'role-retired\nadmit 0 1\nrole-retired x\n', b'role-retired'):
         same('the answers of the filter', place.run('--end', data=data), (filtered(data, end=True), b''))
         for words in ((), ('--batch',)):
             keeps(place, data, '--end', *words, end=True)
@@ -1301,7 +1340,7 @@ def end(place):
 @case
 def bail_and_end(place):
     """There is no end line behind a refusal that stopped the ledger, and there is one where nothing did."""
-    for data in (CALLS, many(20), many(20) + b'frob\n', b'admit 0 0\nadmit 1 1'):
+    for data in (CALLS, many(20), many(20) + b'frob\n', b'admit 0 0\nadmit 1 2'):
         same('the answers of the filter', place.run('--bail', '--end', data=data), (filtered(data, True, True), b''))
         for words in ((), ('--batch',)):
             keeps(place, data, '--end', *words, '--bail', bail=True, end=True)
@@ -1313,7 +1352,7 @@ def no_end_after_a_failure(place):
     """Where the journal can't be written, there is no end line."""
     place.put(b'admit 0 3\n')
     for words in ((), ('--batch',)):
-        out, said = place.keep(b'admit 1 1\nadmit 2 2\n', '--end', *words, before=fault(place.path, (APPEND, 'EIO', 1)))
+        out, said = place.keep(b'admit 1 2\nadmit 2 2\n', '--end', *words, before=fault(place.path, (APPEND, 'EIO', 1)))
         same('the answers', out, b'')
         same('the journal', place.got(), b'admit 0 3\n')
         holds('no message on standard error', said.startswith(b'ledger: ') and place.path.encode() in said, said)
@@ -1378,11 +1417,11 @@ def journal_that_is_a_stream(place):
 @case
 def read(place):
     """--read answers questions, and every change as one; nothing is made or changed."""
-    for journal in (b'', due(CALLS)[1], due(CALLS)[1] + CALLS[:3], ledger.MARK + b'admit 0 0\n', many(3000)):
+    for journal in (b'', due(CALLS)[1], due(CALLS)[1] + CALLS[:3], ledger.MARK + b'admit 0 0\n', many(3000), OLD_BOOK, due(LATER, OLD_BOOK)[1]):
         place.put(journal)
         reads(place, CALLS)
         reads(place, b'report\n' + CALLS + b'fresh 99999\n', '--end', end=True)
-        reads(place, b'report\nadmit 1 1\ncalls\n', '--bail', '--end', bail=True, end=True)
+        reads(place, b'report\nadmit 1 2\ncalls\n', '--bail', '--end', bail=True, end=True)
     refuses(place, '--read', place.at('absent'), texts=[place.at('absent').encode(), b'No such file or directory'])
     place.put(b'admit 0 0\nadmit 0 0\n')
     refuses(place, '--read', place.path, texts=[f'ledger: {place.path}: line 2: refused 3\n'.encode()])
@@ -1395,7 +1434,7 @@ def read_while_it_is_kept(place):
     with place.talk() as talk:
         for data in (many(5), settled(range(50, 60)), b'advance 2021-03-01 5\n'):
             talk.ask(data, model)
-            reads(place, b'report\ncalls\nstatement 0\nadmit 1 1\n')
+            reads(place, b'report\ncalls\nstatement 0\nadmit 1 2\n')
         same('the end of the first', talk.end(), (b'', b''))
     same('the journal', place.got(), model.appended())
 
@@ -1403,12 +1442,13 @@ def read_while_it_is_kept(place):
 @case
 def read_a_torn_journal(place):
     """--read passes over a rest behind the last newline and leaves it; what is no rest of a kept line stops it."""
-    for rest in (b'a', b'admit 1 1', b'x' * ledger.DROPPED):
+    for rest in (b'a', b'admit 1 2', b'x' * ledger.DROPPED):
         place.put(b'admit 0 0\n' + rest)
         before = snapshot(place.folder)
         same('the answers', place.run('--read', place.path, data=b'report\n')[0], due(b'report\n', b'admit 0 0\n')[0])
         same('the files', snapshot(place.folder), before)
-    for journal in (b'admit 0 0\n' + b'x' * (ledger.DROPPED + 1), b'admit 0 0\n' + b'x' * 200000, b'no journal', b'# a comment\nadm'):
+    for journal in (b'admit 0 0\n' + b'x' * (ledger.DROPPED + 1), b'admit 0 0\n' + b'x' * 200000, b'no journal', b'# a comment\nadm',
+                    b'role-retired\nfre', b'role-retired'):
         place.put(journal)
         refuses(place, '--read', place.path, texts=[f'ledger: {place.path}: line {journal.count(10) + 1}: '.encode()])
 
@@ -1420,7 +1460,7 @@ def read_without_the_right_to_write(place):
     place.put(due(CALLS)[1])
     os.chmod(place.path, 0o444)
     os.chmod(place.folder, 0o555)
-    reads(place, b'report\nstatement 0\nadmit 1 1\n', preexec_fn=as_nobody)
+    reads(place, b'report\nstatement 0\nadmit 1 2\n', preexec_fn=as_nobody)
     os.chmod(place.path, 0o000)
     refuses(place, '--read', place.path, texts=[place.path.encode(), b'Permission denied'], preexec_fn=as_nobody)
 
@@ -1579,6 +1619,177 @@ def refuses_usage(place, words):
     same(f'{words}: the answers', out, b'')
     same(f'{words}: the files', snapshot(place.folder), before)
     return said
+
+
+# ---- a first stretch, and the line that ends it (paper 02, ask 3)
+
+@case
+def old_journal_with_the_retired_role(place):
+    """A journal without `role-retired` that admits role 1 is replayed and gone on with: the minimum, the charges, calls and annual runs are as ever.
+    It gets the line once, before the first change that is added."""
+    for words in ((), ('--batch',)):
+        keeps(place, LATER, *words, journal=OLD_BOOK)
+        left = place.got()
+        holds('the line is not behind what was there', left.startswith(OLD_BOOK + b'role-retired\nsettle 0 11 '), left)
+        keeps(place, LATER + b'lodge 0 0 cash 5\nadmit 9 1\nreport\n', *words, journal=left)
+        keeps(place, b'lodge 0 1 cash 5\nadmit 9 1\nadmit 9 0\nreport\n', *words, journal=place.got())
+        same('how often the line is there', place.got().count(RETIRED), 1)
+    out, _ = place.run(place.path, data=b'statement 0\nstatement 1\nadmit 8 1\n')
+    same('the answers', out, b'statement 2000001 10 1999991 263 26300000000\nstatement 2000000 2000000 0 0 0\nrefused 23\n')
+
+
+@case
+def new_journal(place):
+    """A new journal begins with `role-retired`, whatever its first change is, and is given to the filter without a refusal."""
+    for data in (b'fresh 366\nadmit 0 0\n', b'calls\nadmit 0 1\nadmit 0 0\n', b'role-retired\nrole-retired\nadvance 5 5\n', many(5)):
+        for words in ((), ('--batch',), ('--end',)):
+            keeps(place, data, *words, end='--end' in words)
+            holds('the line is not the first', place.got().startswith(b'role-retired\n') and place.got().count(RETIRED) == 1, place.got())
+            holds('the filter refuses', b'refused' not in place.run(data=place.got())[0])
+            os.remove(place.path)
+
+
+@case
+def old_journal_that_is_only_asked(place):
+    """A journal without `role-retired` stays byte for byte where nothing is accepted: questions, refusals, errors, and that line itself."""
+    for data in (b'', b'report\ncalls\nstatement 0\n' + SPECIAL + b'\n', b'admit 9 1\nadmit 0 0\nfrob\nfresh 5\n\n# a comment\n',
+                 b'role-retired\nreport\nrole-retired\nrole-retired x\n', b'admit 9 0'):
+        for words in ((), ('--batch',), ('--bail',)):
+            keeps(place, data, *words, journal=OLD_BOOK, bail='--bail' in words)
+            same('the journal', place.got(), OLD_BOOK)
+        reads(place, data)
+
+
+@case
+def retired_role_that_is_typed(place):
+    """Whoever types is under the new rule: role 1 is refused with 23, behind 1, 3 and 4, on any journal, and nothing is appended."""
+    for data in (b'admit 9 1\n', b'admit 9 self-supplied\n', b'admit 64 1\nadmit 0 1\nadmit 9 6\nadmit 9 1\nstatement 9\nreport\n'):
+        same('the answers of the filter', place.run(data=data), (filtered(data), b''))
+        for journal in (b'', b'# nothing\n', b'role-retired\n', b'fresh 366\nadmit 0 1\n', OLD_BOOK, OLD_BOOK + b'role-retired\n'):
+            for words in ((), ('--batch',)):
+                keeps(place, data, *words, journal=journal)
+                same('the journal', place.got(), journal)
+
+
+@case
+def retired_role_behind_its_end(place):
+    """Role 1 behind `role-retired` in a journal stops the ledger with nothing changed; behind a second such line, and where it is read, too."""
+    place.put(GOOD_FILE, 'month.batch')
+    for journal, said in ((b'role-retired\nadmit 0 1\n', 'line 2: refused 23'),
+                          (OLD_BOOK + b'role-retired\nadmit 9 1\nadmit 8 0\n', 'line 8: refused 23'),
+                          (b'\n#\nrole-retired\n\nadmit 9 self-supplied\nadm', 'line 5: refused 23'),
+                          (b'role-retired\nrole-retired\nfresh 366\nadmit 0 1\n', 'line 4: refused 23'),
+                          (b'admit 0 1\nadmit 0 1\n', 'line 2: refused 3'),
+                          (b'admit 0 1\nfresh 5\n', 'line 2: error 2 fresh is not the first call'),
+                          (b'role-retired\nadmit 0 0\nfresh 5\n', 'line 3: error 3 fresh is not the first call'),
+                          (b'role-retired 1\n', 'line 1: error 1 too many words'), (b'role-retire\n', 'line 1: error 1 no such call')):
+        place.put(journal)
+        for words in ((place.path,), ('--batch', place.path), ('--read', place.path), (place.path, '--load', place.at('month.batch'))):
+            refuses(place, *words, texts=[f'ledger: {place.path}: {said}\n'.encode()])
+
+
+@case
+def end_of_the_first_stretch_that_is_typed(place):
+    """`role-retired` from standard input is neither answered nor kept, and it counts as a line; with more words it is an error."""
+    data = b'role-retired\nfresh 366\nrole-retired\nadmit 0 0\n\trole-retired \r# again\nrole-retired 1\nadmit 1 1\nrole-retired#\nreport\nrole-retired\n'
+    same('the answers of the filter', place.run('--end', data=data), (filtered(data, end=True), b''))
+    for words in ((), ('--batch',)):
+        keeps(place, data, '--end', *words, end=True)
+        same('the journal', place.got(), b'role-retired\nfresh 366\nadmit 0 0\n')
+        reads(place, b'role-retired\nreport\nrole-retired x\nadmit 1 2\nrole-retired', '--end', end=True)
+        keeps(place, b'role-retired\nadmit 9 2\nrole-retired\nadmit 8 2\nrole-retired', '--end', *words, journal=OLD_BOOK, end=True)
+        same('how often the line is there', place.got().count(RETIRED), 1)
+        os.remove(place.path)
+    with place.talk() as talk:
+        for byte in b'role-retired\ncalls\n':
+            talk.send(bytes([byte]))
+            time.sleep(0.003)
+        same('the answers to single bytes', talk.end(), (b'calls 0\n', b''))
+
+
+@case
+def end_of_the_first_stretch_in_a_journal(place):
+    """`role-retired` in a journal is no kept call, so that `fresh` may follow it; a second one is passed over; blanks and comments stand beside it."""
+    for journal in (b'role-retired\n', b'role-retired\nrole-retired\n', b'#\n\n role-retired \t# here\r\n', ledger.MARK + b'role-retired\n',
+                    b'calls\nrole-retired\nreport\n'):
+        keeps(place, b'report\nadmit 1 1\nfresh 366\nfresh 5\nadmit 1 2\nreport\n', journal=journal)
+    for journal in (b'role-retired\nfresh 366\nadmit 0 0\n', b'fresh 366\nadmit 0 1\nrole-retired\nadmit 3 0\nrole-retired\nadmit 4 0\n',
+                    OLD_BOOK + b'role-retired\n', OLD_BOOK + b'role-retired\nrole-retired\n', b'role-retired\n' + many(3000)):
+        keeps(place, b'admit 5 2\nadmit 6 1\nreport\n', journal=journal)
+        holds('another line is added', place.got() == journal + b'admit 5 2\n', place.got())
+        reads(place, b'report\nadmit 6 1\n')
+
+
+@case
+def torn_end_of_the_first_stretch(place):
+    """A part of `role-retired` behind an old journal is dropped like any rest, and the line is written with the next change; behind the whole line
+    the rest alone is dropped."""
+    data = b'report\nadmit 9 1\nadmit 9 2\nreport\n'
+    for journal, rest in ((OLD_BOOK, b'r'), (OLD_BOOK, b'role-ret'), (OLD_BOOK, b'role-retired'), (OLD_BOOK + b'role-retired\n', b'lodge 0 0 ca'),
+                          (OLD_BOOK + b'role-retired\n', b'role-ret'), (b'role-retired\nadmit 0 0\n', b'role-retired')):
+        for words in ((), ('--batch',)):
+            place.put(journal + rest)
+            answers, left = due(data, journal)
+            said = (ledger.dropped(place.path, rest) + '\n').encode()
+            same('the answers', place.run(place.path, *words, data=data), (answers, said))
+            same('the journal', place.got(), left)
+            same('how often the line is there', place.got().count(RETIRED), 1)
+        place.put(journal + rest)
+        reads(place, b'report\n')
+        place.put(journal + rest)
+        same('the answers to questions', place.keep(b'report\n'), (due(b'report\n', journal)[0], said))
+        same('the journal after questions', place.got(), journal)
+
+
+@case
+def failing_first_addition(place):
+    """Where `role-retired` and the first change can't be appended or forced to disk, nothing is answered and nothing of them is left."""
+    for calls in (APPEND, FORCE):
+        for words in ((), ('--batch',)):
+            for journal, data in ((OLD_BOOK, LATER), (OLD_BOOK, b'admit 9 0\n'), (b'', b'calls\nfresh 366\nadmit 0 0\n')):
+                place.put(journal)
+                with Talk(fault(place.path, (calls, 'EIO', 1)) + [place.command, *words, place.path]) as talk:
+                    out, said = talk.stops(data)
+                failed(place, journal, data, out, said, 0)
+                keeps(place, data, *words, journal=place.got())
+
+
+@case
+def first_addition_at_the_file_size_limit(place):
+    """Where only a part of `role-retired` and the first change fits, that part is cut off; where both fit, they are kept, and not what follows."""
+    first, data = b'role-retired\nadmit 9 0\n', b'calls\nadmit 9 0\nadmit 8 0\n'
+    for more in (0, 1, 7, 12, 13, 14, 20, len(first) - 1, len(first)):
+        def limit():
+            signal.signal(signal.SIGXFSZ, signal.SIG_IGN)
+            resource.setrlimit(resource.RLIMIT_FSIZE, (len(OLD_BOOK) + more,) * 2)
+        place.put(OLD_BOOK)
+        with place.talk(preexec_fn=limit, restore_signals=False) as talk:
+            out, said = talk.stops(data)
+        failed(place, OLD_BOOK, data, out, said, int(more == len(first)))
+
+
+@case
+def order_of_the_first_addition(place):
+    """`role-retired` and the first change that is added to an old journal have one append and one force, before its answer; with --batch the part."""
+    data = LATER + b'lodge 0 0 cash 5\nlodge 0 1 cash 5\n'
+    changes = due(data, OLD_BOOK)[1].count(b'\n') - OLD_BOOK.count(b'\n') - 1
+    counts = in_order(place, [place.path], data, OLD_BOOK)
+    same('appends and forces', (counts['append'], counts['force']), (changes, changes))
+    counts = in_order(place, ['--batch', place.path], data, OLD_BOOK)
+    same('appends and forces of a part', (counts['append'], counts['force']), (1, 1))
+
+
+@case
+def load_behind_a_first_stretch(place):
+    """--load on a journal without `role-retired` adds that line and the batch's; for those with role 1 too; a refused file leaves it as it is."""
+    some = month_file(11, (0, [2000001, 0, 0, 0, 0]), (1, [5, 0, 0, 0, 0]))
+    loads(place, some, OLD_BOOK)
+    same('the journal', place.got(), OLD_BOOK + b'role-retired\n' + batch_line(some))
+    loads(place, some, place.got())
+    same('the journal of the second', place.got(), OLD_BOOK + b'role-retired\n' + batch_line(some) * 2)
+    for data in (month_file(11, (0, [5] * 5), (9, [1] * 5)),) + BAD_FILES[1:]:
+        loads(place, data, OLD_BOOK)
+        same('the journal of a refused one', place.got(), OLD_BOOK)
 
 
 # ---- all of them

@@ -47,7 +47,7 @@ report
 # ---- Each call, accepted.
 fresh 2022-03-01                        #= done | day 790, month 26
 admit 0 supplier                        #= done
-admit 1 1                               #= done | self-supplied
+admit 1 0                               #= done | supplier
 admit 2 trader                          #= done
 admit 3 producer                        #= done
 admit 4 res-aggregator                  #= done
@@ -132,6 +132,19 @@ admit 1 6                               #= refused 3 | before 4
 admit 2 6                               #= refused 4
 admit 2 18446744073709551616            #= refused 4
 admit 63 4294967296                     #= refused 4
+# Refusal 23: role 1 at admission, after 4.
+admit 2 1                               #= refused 23
+admit 2 self-supplied                   #= refused 23
+admit 63 000000000000000000000000001    #= refused 23
+admit 64 1                              #= refused 1 | before 23
+admit 18446744073709551615 self-supplied  #= refused 1
+admit 0 1                               #= refused 3 | before 23
+admit 1 self-supplied                   #= refused 3
+admit 2 257                             #= refused 4 | not role 1
+admit 2 4294967297                      #= refused 4
+admit 2 18446744073709551617            #= refused 4
+statement 2                             #= refused 2 | nobody was admitted
+calls                                   #= calls 1
 # Refusal 5: position above 7.
 lodge 0 8 cash 0                        #= refused 5 | before 8
 lodge 0 256 letter 1 790 790            #= refused 5
@@ -270,6 +283,9 @@ admit 0 +1                              #= error not a role
 admit 0 traders                         #= error not a role
 admit 0 trade                           #= error not a role
 admit 0 self supplied                   #= error not a role
+admit 64 self                           #= error not a role
+admit 2 1 1                             #= error too many words | before 23
+admit 2 self-supplied x                 #= error too many words
 admit 0 supplier 0                      #= error too many words
 lodge                                   #= error too few words
 lodge 0                                 #= error too few words
@@ -493,7 +509,7 @@ advance 2096-03-01 0                    #= opened 0
 advance 2096-02-28 0                    #= refused 17
 advance 2099-12-31 0                    #= opened 0
 fresh 2099-12-31                        #= done
-admit 0 self-supplied                   #= done
+admit 0 supplier                        #= done
 lodge 0 0 letter 5 2020-01-01 2099-12-31  #= done
 settle 0 2099-10 3000000 0 0 0 0        #= called 3000000 3000000 29229 | a last free day beyond the calendar; there no letter lasts
 settle 0 957 3000000 0 0 0 0            #= covered 3000000
@@ -533,14 +549,15 @@ fresh 0                                 #= done
 fresh 0                                 #= done
 report
 
-# ---- Reports: every role, all widths, order by number.
+# ---- Reports: every role but the retired one, which only a kept journal has; all widths, order by number.
 fresh 2021-03-01                        #= done
 admit 63 demand-response                #= done
 admit 5 demand-response                 #= done
 admit 10 res-aggregator                 #= done
 admit 3 producer                        #= done
 admit 2 trader                          #= done
-admit 1 self-supplied                   #= done
+admit 1 self-supplied                   #= refused 23
+admit 1 supplier                        #= done
 admit 0 supplier                        #= done
 report
 settle 63 2021-01 <16 1000000000000> #= called 16000000000000 16000000000000 435
@@ -563,6 +580,42 @@ report
 statement 63                            #= statement 16000000000000 0 16000000000000 366 5856000000000000
 statement 10                            #= statement 0 8000000000000 0 0 0
 statement 5                             #= statement 1 0 1 366 36600000000
+
+# ---- The line that ends a journal's first stretch: here it has no answer and changes nothing.
+role-retired                            #= no answer
+role-retired
+\t role-retired \r                      #= no answer
+role-retired#= no answer
+role-retired # and a comment
+statement 5                             #= statement 1 0 1 366 36600000000
+admit 7 self-supplied                   #= refused 23 | as before it
+admit 7 supplier                        #= done
+role-retired x                          #= error too many words
+role-retired 1                          #= error too many words
+role-retired role-retired               #= error too many words
+role-retired \x00                       #= error a control byte
+role-retired\x7f                        #= error a control byte
+\xefrole-retired                        #= error no such call
+role-retired\xff                        #= error no such call
+role-retire                             #= error no such call
+role-retiredd                           #= error no such call
+role-retired-                           #= error no such call
+role                                    #= error no such call
+role-                                   #= error no such call
+role retired                            #= error no such call
+role_retired                            #= error no such call
+roleretired                             #= error no such call
+Role-retired                            #= error no such call
+ROLE-RETIRED                            #= error no such call
+retired                                 #= error no such call
+1role-retired                           #= error no such call
+admit 8 role-retired                    #= error not a role
+statement role-retired                  #= error not a number
+calls role-retired                      #= error too many words
+fresh 2021-03-01                        #= done
+role-retired                            #= no answer | no rule but the new one, before it and behind it
+admit 7 1                               #= refused 23
+calls                                   #= calls 0
 
 # ---- A month in one file, in hexadecimal digits: month, count, pairs of offset and length, parts; the least byte first.
 fresh 2022-03-01                        #= done | month 26: month 24 = 18 is checked
@@ -711,6 +764,7 @@ statement 3                             #= statement 0 9 0 0 0
 '''
 
 KEPT_JOURNAL = br'''\xef\xbb\xbf# The journal that is found: a byte order mark, comments, blank lines, dates and names, and a last line that a crash cut.
+# It has no line `role-retired`: all of it is a first stretch, in which role 1 was admitted.
 
 	fresh	2021-01-01     # a Friday
 
@@ -718,6 +772,9 @@ admit 0 supplier
 admit 01 trader#s
 admit 2 producer
 admit 6 res-aggregator
+admit 7 self-supplied                            # its minimum isn't paid
+admit 8 1
+lodge 8 0 cash 2000000
 lodge 0 0 cash 2000000                           # the minimum
 lodge 1 0 letter 1000000 2021-01-01 2021-06-30   # until the end of June
   advance 2021-02-01 1000
@@ -730,19 +787,32 @@ lodge 0 1 cash 500000
 batch {0B00 0200 14000000 2A000000 3E000000 2A000000 0605 0500000000000000 <4> 0105 <5>}  # December 2020
 lodge\t2 0 cash 77'''
 
-KEPT_STDIN = br'''\xef\xbb\xbf# What was kept is there: four participants, 1 February 2021.
+KEPT_STDIN = br'''\xef\xbb\xbf# What was kept is there: six participants, 1 February 2021.
 report
-calls                                            #= calls 4 | two minimums, the settlement and the one of the batch
+calls                                            #= calls 6 | four minimums, the settlement and the one of the batch
 statement 0                                      #= statement 2000000 2500000 0 0 0
 statement 2                                      #= statement 0 0 0 0 0 | the cut line was dropped
+statement 7                                      #= statement 2000000 0 2000000 21 2100000000 | from 12 January on
+statement 8                                      #= statement 2000000 2000000 0 0 0
+# The first stretch is over, though the journal has no line that says so.
+admit 9 self-supplied                            #= refused 23
+admit 9 1                                        #= refused 23
+admit 9 6                                        #= refused 4
+admit 64 1                                       #= refused 1
+admit 7 1                                        #= refused 3 | as the one who has the role
+role-retired                                     #= no answer | not kept
+role-retired x                                   #= error too many words
+statement 9                                      #= refused 2
 fresh 2021-01-01                                 #= error fresh is not the first call
 fresh 29220                                      #= error fresh is not the first call
 fresh 2021-02-29                                 #= error not a day
-lodge 2 0 cash 000000000000000000000000077       #= done
+lodge 2 0 cash 000000000000000000000000077       #= done | the first change: before it stands the line in the journal
+role-retired                                     #= no answer | nor is this kept
 lodge 2 0 cash 77                                #= refused 6 | not kept
 lodge 2 01 letter 5000 2021-03-01 2021-03-31     #= done
 
-admit 3 self-supplied                            #= done
+admit 3 self-supplied                            #= refused 23
+admit 3 supplier                                 #= done
 admit 3 self-supplied                            #= refused 3
 admit 64 0                                       #= refused 1
 admit 4 nobody                                   #= error not a role
@@ -759,7 +829,7 @@ batch {0b00 0100 0c000000 2b000000 0605 <5>}  #= refused 21 0
 batch                                            #= refused 20 0
 batch 0b0                                        #= error not two hexadecimal digits for each byte
 batch 0b 00                                      #= error too many words
-calls                                            #= calls 7
+calls                                            #= calls 9
 special 3 0126 +4 0                              #= error not a number
 special 3 00126 04 -0 3 3253 4048 4723 3 0 00 0 1 1000000 1 01000000 1 0 1 0  #= special 500000
 special 0 0 0 0 0 0 0                            #= refused 18
@@ -779,9 +849,24 @@ statement 3                                      #= statement 2000000 0 2000000 
 statement 4                                      #= statement 3 0 3 1 100000000
 statement 6                                      #= statement 6 0 6 1 100000000
 statement 5                                      #= refused 2
+# Those who have role 1 keep it, with its minimum and its annual runs. 12 February 2021, day 408.
+statement 7                                      #= statement 2000000 0 2000000 32 3200000000
+settle 7 2020-12 2000000 0 0 0 0                 #= covered 2000000 | not above the firm minimum
+settle 7 2020-12 2000001 0 0 0 0                 #= called 2000001 2000001 418
+settle 8 2020-12 2399999 0 0 0 0                 #= covered 2399999 | below 20%
+settle 8 2020-12 5 0 0 0 0                       #= covered 5
+release 8 0 1                                    #= refused 16 | the minimum is firm
+calls                                            #= calls 10
+advance 2021-09-01 1000                          #= opened 201
+annual 7                                         #= annual 2000001 1
+annual 8                                         #= annual 2000000 1 | 5, raised to the minimum
+admit 9 self-supplied                            #= refused 23
+advance 2021-10-01 1000                          #= opened 30
+statement 7                                      #= statement 2000001 0 2000001 263 26300000000
+statement 8                                      #= statement 2000000 2000000 0 0 0
 report
 \xef\xbb\xbfcalls                                #= error no such call | a mark stands only at the start
-calls                                            #= calls 7
+calls                                            #= calls 10
 lodge 1 7 cash 5                                 #= error line without newline, not taken'''
 
 
@@ -863,7 +948,8 @@ def damaged(rng, pool):
                 words[k] = rng.choice(other)
             elif way == 9:
                 words[k] = rng.choice((b'', b'-', b'+1', b'-1', b'0', b'18446744073709551616', b'9223372036854775808', b'-9223372036854775809',
-                                       b'2021-02-29', b'2021-1-01', b'2100-01', b'2022-03-01', b'2022-01', b'cash', b'letter', b'trader'))
+                                       b'2021-02-29', b'2021-1-01', b'2100-01', b'2022-03-01', b'2022-01', b'cash', b'letter', b'trader',
+                                       b'self-supplied', b'role-retired'))
             elif way == 10:
                 words = words[:k] + rng.choice(pool).split(b' ')
             else:
@@ -874,11 +960,13 @@ def damaged(rng, pool):
 
 
 def history_lines(rng, i, most):
-    """A history of histories.py, its first calls."""
+    """A history of histories.py, its first calls. Where its first stretch has role 1, the filter, which has none, gets role 0 with the same minimum."""
     made = histories.make(SEED, i)
     lines = [written(rng, [('x', 'fresh'), ('d', made.start)])]
-    for text in made.text().splitlines()[1:][:most]:
+    for place, text in enumerate(made.text().splitlines()[1:][:most]):
         kind, *args = map(int, text.split())
+        if kind == 0 and args[1] == reading.RETIRED and place < made.first:
+            args[1] = 0
         lines.append(written(rng, call_words(kind, args)))
     return lines
 
@@ -902,6 +990,7 @@ SHORT = [b'lodge 0 0 cash 2000000', b'lodge 0 1 letter 500000 2022-03-01 2022-12
          b'release 0 0 1000000', b'release 1 0 1000000', b'release 2 7 5', b'settle 0 2022-01 2400000 0 0 0 -5', b'settle 1 24 1 2 3 4 5 6',
          b'settle 2 2021-12 900 0 0 0 0', b'settle 2 2022-07 900 0 0 0 0', b'annual 0', b'annual 2', b'advance 2022-03-12 3',
          b'advance 2022-10-01 40', b'statement 0', b'statement 1', b'statement 2', b'calls', b'report', b'admit 3 trader', b'admit 63 5',
+         b'admit 4 self-supplied', b'role-retired',
          b'batch 180001000c0000002a0000000005' + b'00' * 40, b'batch 170001000C0000002A0000000205' + b'FF' * 40,
          b'batch 18000200140000002a0000003e0000002a0000000005' + b'00' * 39 + b'7f0205' + b'01' + b'00' * 39]
 
@@ -932,6 +1021,7 @@ def random_lines():
 
 
 EXAMPLES = ('year', 'manual', 'month', 'letters')
+KEPT_EXAMPLES = {'retired': 'kept_by_1_3'}           # calls, and the journal that they are typed behind
 
 
 def example(name):
@@ -1001,11 +1091,11 @@ def lines_of(text):
     return re.sub(rb'\{([0-9A-Fa-f ]+)\}', lambda digits: digits[1].replace(b' ', b''), text).split(b'\n')
 
 
-def due_answers(lines, to):
-    """Answers the lines, of which the last has no newline, and gives the answers and the differences from what is due."""
+def due_answers(lines, to, torn=True):
+    """Answers the lines, of which the last has no newline or has one, and gives the answers and the differences from what is due."""
     out, wrong = [], []
     for n, line in enumerate(lines, 1):
-        answer = to.answer(line, n < len(lines))
+        answer = to.answer(line, n < len(lines) or not torn)
         if answer is not None:
             out.append(answer)
         if b'#= ' in line and len(line) < 10000:
@@ -1016,16 +1106,17 @@ def due_answers(lines, to):
     return out, wrong
 
 
-def kept_run(journal, lines):
-    """Keeps a journal, whose last line has no newline: the answers to the lines, the differences from what is due, and the journal left."""
+def kept_run(journal, lines, torn=True):
+    """Keeps a journal, whose last line has no newline or is empty: the answers to the lines, the differences from what is due, and the journal
+    left."""
     with tempfile.TemporaryDirectory() as folder:
         path = os.path.join(folder, 'journal')
         write(folder, 'journal', b'\n'.join(journal))
         said = io.StringIO()
         with contextlib.redirect_stderr(said):
             keeper = ledger.Keeper(path)
-        assert said.getvalue() == f'ledger: {path}: the last line has no end and is dropped: lodge?2 0 cash 77\n'
-        out, wrong = due_answers(lines, keeper)
+        assert said.getvalue() == (f'ledger: {path}: the last line has no end and is dropped: lodge?2 0 cash 77\n' if journal[-1] else '')
+        out, wrong = due_answers(lines, keeper, torn)
         keeper.file.close()
         with open(path, 'rb') as file:
             return out, wrong, file.read()
@@ -1043,6 +1134,11 @@ def main():
     for name in EXAMPLES:
         wrong += [f'{name}, {line}' for line in due_answers(example(name).splitlines(), ledger.Filter())[1]]
         write(ROOT, f'examples/{name}.expected', ledger.answers(example(name)))
+    for name, before in KEPT_EXAMPLES.items():
+        out, more, kept = kept_run(example(before).split(b'\n'), example(name).splitlines(), False)
+        wrong += [f'{name}, {line}' for line in more]
+        write(ROOT, f'examples/{name}.expected', ''.join(answer + '\n' for answer in out).encode())
+        write(ROOT, f'examples/{name}.kept', kept)
     lines = lines_of(BEFORE) + example_lines() + random_lines() + largest_batch() + long_lines()
     lines += [b'', b'# ---- The last line has no newline.', b'statement 0']
     out, more = due_answers(lines, ledger.Filter())
@@ -1064,7 +1160,7 @@ def main():
         at = ' at a pair' if len(words) == 3 else ''
         key = words[0] if words[0] not in ('refused', 'error') else f'refused {words[1]}{at}' if words[0] == 'refused' else ' '.join(words[2:])
         kinds[key] = kinds.get(key, 0) + 1
-    due = [f'refused {n}' for n in range(1, 20)] + [f'refused {n} at a pair' for n in (1, 2, 10, 11, 12, 13, 20, 21, 22)] + [
+    due = [f'refused {n}' for n in (*range(1, 20), 23)] + [f'refused {n} at a pair' for n in (1, 2, 10, 11, 12, 13, 20, 21, 22)] + [
         'a control byte', 'no such call', 'too few words', 'too many words', 'not a number', 'not a day', 'not a month', 'not a role',
         'neither cash nor letter', 'line too long', 'not two hexadecimal digits for each byte',
         'batch', 'done', 'called', 'covered', 'recorded', 'annual', 'opened', 'statement', 'calls', 'special', 'report']

@@ -1,10 +1,11 @@
 """Paper 01's reading of the history, in Python's standard library: the reference that the book's answers are compared with.
 
-Written from the section 'The reading of the history' and the table of causes alone, for a batch from paper 02's ask 1 and for D from its ask 2. A
-participant's figures are read from its accepted calls, each with its arguments and the day it was made on, and from the days opened. Nothing is
-summed up in between: cover, D, firm amount, open calls, month totals and the next amount are worked out afresh from the calls whenever they are
-asked for. What is kept is the history itself and what the reading once gave and no later call can change: beside a settlement whether it called,
-beside an annual run its amount, beside an opened day its shortfall. An accepted batch is in the history as its settlements.
+Written from the section 'The reading of the history' and the table of causes alone, for a batch from paper 02's ask 1, for D from its ask 2 and
+for the two admission rules from its ask 3. A participant's figures are read from its accepted calls, each with its arguments and the day it was made
+on, and from the days opened. Nothing is summed up in between: cover, D, firm amount, open calls, month totals and the next amount are worked out
+afresh from the calls whenever they are asked for. What is kept is the history itself and what the reading once gave and no later call can change:
+beside a settlement whether it called, beside an annual run its amount, beside an opened day its shortfall. An accepted batch is in the history as
+its settlements.
 """
 import datetime
 
@@ -17,6 +18,7 @@ FREE_DAYS = 10
 DEPOSITED_DAYS = 11  # what counts in a check is still in force so many days after it
 ALWAYS = float('inf')  # cash has no last day
 MOST_PARTS = 64
+RETIRED = 1  # the role that is no longer registered (paper 02, ask 3); files that have it keep it, and its minimum
 
 
 def date(day):
@@ -215,11 +217,20 @@ class Participant:
 
 
 class History:
-    """A history from a fresh book on a day. Each method answers as paper 01 decides: six numbers, the kind of answer first."""
+    """A history from a fresh book on a day. Each method answers as the papers decide: six numbers, the kind of answer first.
 
-    def __init__(self, day):
+    It may have a first stretch of calls made under the old admission rule, which admits every role; the calls behind it, of a history without one
+    all calls, are made under the new one, which admits no role 1 (paper 02, ask 3). Which rule it is depends on a call's place in the list, not on
+    its day, and only an admission depends on it: what is read of a participant is the same for both."""
+
+    def __init__(self, day, first_stretch=False):
         self.today = day
         self.people = {}
+        self.first_stretch = first_stretch
+
+    def end_stretch(self):
+        """The first stretch ends with the call before."""
+        self.first_stretch = False
 
     @staticmethod
     def refused(n):
@@ -240,12 +251,15 @@ class History:
         return None
 
     def admit(self, p, role):
+        """An admission, whose causes are 1, 3, 4 and, behind the first stretch, 23."""
         if p > 63:
             return self.refused(1)
         if p in self.people:
             return self.refused(3)
         if role > 5:
             return self.refused(4)
+        if role == RETIRED and not self.first_stretch:
+            return self.refused(23)
         self.people[p] = Participant(self.today, role)
         return self.DONE
 
@@ -364,6 +378,6 @@ class History:
         return (8, sum(len(who.calls()) for who in self.people.values()), 0, 0, 0, 0)
 
 
-def fresh(day):
+def fresh(day, first_stretch=False):
     """A fresh book on a day: the refusal's number, or 0 where there is none, and the history that begins. Refused, it begins on day 0."""
-    return (17, History(0)) if day > LAST_DAY else (0, History(day))
+    return (17, History(0, first_stretch)) if day > LAST_DAY else (0, History(day, first_stretch))

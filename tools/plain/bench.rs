@@ -102,11 +102,19 @@ fn letter(participant: u64, position: u64) -> Position {
     }
 }
 
+/// The role of a participant: the six in turn, with 0 for 1, which is retired and has the same minimum.
+fn role_of(participant: u64) -> u64 {
+    match participant % 6 {
+        1 => 0,
+        role => role,
+    }
+}
+
 /// A fresh book of day 0 with every participant admitted, the roles in turn, and so many letters lodged for each. No call is refused.
 fn with_all(letters: u64) -> Box<Book> {
     let mut book = Box::new(Book::new());
     for participant in 0..PARTICIPANTS as u64 {
-        let _ = book.admit(participant, participant % 6);
+        let _ = book.admit(participant, role_of(participant));
         for position in 0..letters {
             let _ = book.lodge(participant, position, letter(participant, position));
         }

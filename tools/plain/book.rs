@@ -17,10 +17,11 @@ const MOST: u64 = 1_000_000_000_000;
 const FREE_DAYS: u32 = 10;
 const LEAST_CHARGE: u64 = 100_000_000;
 
-/// The six roles' minimum guarantees, in cents (002, 3.1).
+/// The six roles' minimum guarantees, in cents (002, 3.1), and the role that is no longer admitted (paper 02, Ask 3).
 const MINIMUMS: [u64; 6] = [2_000_000, 2_000_000, 1_000_000, 0, 0, 0];
+const RETIRED: u64 = 1;
 
-/// Why a call is refused, with the paper's numbers (paper 01, 'Causes of refusal').
+/// Why a call is refused, with the papers' numbers (paper 01, 'Causes of refusal').
 #[derive(Clone, Copy)]
 pub enum Refusal {
     ParticipantAbove = 1,
@@ -42,6 +43,7 @@ pub enum Refusal {
     DayOutside = 17,
     FewRates = 18,
     ListLengths = 19,
+    RoleRetired = 23,
 }
 
 /// What a position holds: nothing, cash, or a letter from its first day to its last, both included.
@@ -410,7 +412,7 @@ impl Book {
         Ok(())
     }
 
-    /// Admits a participant with a role (paper 01, 'Admit').
+    /// Admits a participant with a role (paper 01, 'Admit'; paper 02, 'Role retired').
     pub fn admit(&mut self, participant: u64, role: u64) -> Result<(), Refusal> {
         let file = match self.files.get_mut(participant as usize) {
             None => return Err(Refusal::ParticipantAbove),
@@ -419,6 +421,9 @@ impl Book {
         };
         if MINIMUMS.len() as u64 <= role {
             return Err(Refusal::RoleAbove);
+        }
+        if role == RETIRED {
+            return Err(Refusal::RoleRetired);
         }
         file.admitted = true;
         file.role = role as u8;

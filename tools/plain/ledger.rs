@@ -52,7 +52,7 @@ impl Ledger {
         self.error(Fault::LineTooLong);
     }
 
-    /// Makes the call of one line and answers it, or finds that it is none.
+    /// Makes the call of one line and answers it, or finds that it is none. The line that ends a journal's first stretch has no answer.
     fn take(&mut self, words: &mut Words) -> Result<(), Fault> {
         if !words.more() {
             return Ok(());
@@ -69,6 +69,7 @@ impl Ledger {
             b"special" => self.special(words),
             b"report" => self.report(words),
             b"fresh" => self.fresh(words),
+            b"role-retired" => words.end(),
             _ => Err(Fault::NoSuchCall),
         }
     }

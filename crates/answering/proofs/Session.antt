@@ -1,13 +1,13 @@
 -- The claim about a whole session; and a line that is not kept leaves the book.
 -- Assumes nothing.
 use Prim.Native.Nat.{ℕ, _≤_}
-use mathlib.Core.Path.{_≡_, refl, sym, ap}
-use mathlib.Core.Bool.{Bool, true, false, cond}
+use mathlib.Core.Path.{_≡_, refl, sym, ap, _∙_}
+use mathlib.Core.Bool.{Bool, true, false, cond, _&&_}
 use mathlib.Core.List.{List, [], _∷_}
 use native.Mathlib.Omega.{arith}
 use borrow.Author.Tests.{ltb-false}
 use lib.Dec.{ltb}
-use Rattle.laws.specs.Cases.{split}
+use Rattle.laws.specs.Cases.{split, clash}
 use Rattle.file.specs.Answer as Said
 use lib.IntN.{ℤ}
 use Rattle.calendar.specs.Civil.{monthOf}
@@ -24,13 +24,15 @@ use Rattle.batch.specs.declared.Form.the-variants as Forms
 use Rattle.layout.specs.Book.{Book}
 use Rattle.book.specs.Call.{Call, Act, on, admit, lodge, release, settle, annualRun, advance, statement, callsMade, batch}
 use Rattle.book.specs.Call.{firstRefused, batchSays}
+use Rattle.book.specs.Rule.{Rule, oldRule, newRule, history}
 use Rattle.book.specs.Account.{freshBook, freshAnswer, fileAt, ifNumbered, ifAdmitted, fileAnswer, partAnswer, answer, applied, step, run}
-use Rattle.book.specs.Reading.Decisions.{decision, eventsOf}
-use Rattle.book.proofs.History.Life.{life, given}
+use Rattle.book.specs.Account.{admitsRetired, ifRegistered}
+use Rattle.book.proofs.History.Life.{life}
+use Rattle.book.proofs.History.Lift.{decided}
 use Rattle.answering.specs.Shown.{shown}
-use Rattle.answering.specs.Asked.{Asked, call, fresh, guarantee, nothing, fault, answerTo, bookAfter}
+use Rattle.answering.specs.Asked.{Asked, call, fresh, guarantee, nothing, roleRetired, fault, answerTo, bookAfter}
 use Rattle.answering.specs.Kept.{takes}
-use Rattle.answering.specs.Session.{bookOf, Since, since, Session}
+use Rattle.answering.specs.Session.{ruleOf, bookOf, Since, historyOf, withCall, since, eventsSince, Session}
 
 -- ---- a fresh book's answer
 
@@ -40,48 +42,67 @@ fresh-accepted d = split (ltb 29219 d) (λ e. rw e) (λ e. rw e)
 
 -- ---- the book is that of the calls since the latest fresh book
 
--- The day and the calls give the book b.
-record Leads (s : Since) (b : Book) : Type 0 where
+-- The day and the calls give the book b; while the first stretch lasts there are none behind it.
+record Leads (rule : Rule) (s : Since) (b : Book) : Type 0 where
   within : s .start ≤ 29219
-  book : b ≡ run (s .start) (s .calls)
+  book : b ≡ run (s .start) (historyOf s)
+  first : rule ≡ oldRule → s .calls ≡ []
 
-leads-fresh : (d : ℕ) (s : Since) (b : Book) → Leads s b
-    → Leads (cond (ltb 29219 d) s (record { start = d; calls = [] })) (cond (accepted (freshAnswer d)) (freshBook d) b)
+leads-fresh : (rule : Rule) (d : ℕ) (s : Since) (b : Book) → Leads rule s b
+    → Leads rule (cond (ltb 29219 d) s (record { start = d; first = []; calls = [] })) (cond (accepted (freshAnswer d)) (freshBook d) b)
 unfolding run
-leads-fresh d s b l =
+leads-fresh rule d s b l =
     split (ltb 29219 d)
     (λ e. rw (fresh-accepted d, e) l)
-    (λ e. rw (fresh-accepted d, e) (record { within = ltb-false 29219 d e; book = refl }))
+    (λ e. rw (fresh-accepted d, e) (record { within = ltb-false 29219 d e; book = refl; first = λ old. refl }))
 
-leads-call : (c : Call) (s : Since) (b : Book) → Leads s b → Leads (record { start = s .start; calls = c ∷ s .calls }) (step b c)
+-- The new rule is not the old one.
+not-old : newRule ≡ oldRule → ⊥
+not-old e = clash {t = true} refl (ap isNew e)
+  where
+    isNew : Rule → Bool
+    isNew oldRule = false
+    isNew newRule = true
+
+leads-call : (rule : Rule) (c : Call) (s : Since) (b : Book) → Leads rule s b → Leads rule (withCall rule c s) (step rule b c)
 unfolding run
-leads-call c s b l = record { within = l .within; book = ap (λ (k : Book). step k c) (l .book) }
+leads-call oldRule c s b l =
+    let none : s .calls ≡ [] = l .first refl in
+    record {
+      within = l .within;
+      book =
+          ap (λ (k : Book). step oldRule k c) (l .book ∙ ap (λ (z : List Call). run (s .start) (history (s .first) z)) none)
+          ∙ ap (λ (z : List Call). run (s .start) (history (c ∷ s .first) z)) (sym none);
+      first = λ old. none;
+    }
+leads-call newRule c s b l =
+    record { within = l .within; book = ap (λ (k : Book). step newRule k c) (l .book); first = λ old. absurd (not-old old) }
 
-leads : (lines : List Asked) → Leads (since lines) (bookOf lines)
-unfolding since bookOf run
-leads [] = record { within = omega arith; book = refl }
-leads (call c ∷ before) = leads-call c (since before) (bookOf before) (leads before)
-leads (fresh d ∷ before) = leads-fresh d (since before) (bookOf before) (leads before)
+leads : (lines : List Asked) → Leads (ruleOf lines) (since lines) (bookOf lines)
+unfolding since bookOf ruleOf run
+leads [] = record { within = omega arith; book = refl; first = λ old. refl }
+leads (call c ∷ before) = leads-call (ruleOf before) c (since before) (bookOf before) (leads before)
+leads (fresh d ∷ before) = leads-fresh (ruleOf before) d (since before) (bookOf before) (leads before)
 leads (guarantee x ∷ before) = leads before
 leads (nothing ∷ before) = leads before
+leads (roleRetired ∷ before) =
+    record { within = leads before .within; book = leads before .book; first = λ old. absurd (not-old old) }
 leads (fault e ∷ before) = leads before
 
 -- The claim about a whole session, for every list of lines.
 pub session : (lines : List Asked) → Session lines
+unfolding eventsSince
 session lines =
     let l = leads lines in
     let s = since lines .start in
-    let calls = since lines .calls in
+    let calls = historyOf (since lines) in
     record {
       within = l .within;
       book = l .book;
       life = life s calls (l .within);
-      answered = λ n c. ap shown (decided s calls (bookOf lines) (l .within) (l .book) c);
+      answered = λ n c.
+          ap shown (ap (λ (b : Book). answer (ruleOf lines) b c) (l .book) ∙ decided s calls (l .within) (ruleOf lines) c);
     }
-  where
-    decided : (s : ℕ) (calls : List Call) (b : Book) → s ≤ 29219 → b ≡ run s calls → (c : Call) → answer b c ≡ decision s (eventsOf s calls) c
-    decided s calls b h e c =
-        given b c (answer b c) (step b c) refl refl .decided s calls h (sym e)
 
 -- ---- what is not kept
 
@@ -133,22 +154,26 @@ file-untold f t (release k a) = decided-untold _ _ (decided-untold _ Said.done r
 file-untold f t (settle m figures) = decided-untold _ _ (decided-untold _ _ (settled-untold f t m figures))
 file-untold f t annualRun = decided-untold _ _ (decided-untold _ _ refl)
 
-act-untold : (b : Book) (p : ℕ) (a : Act) → tells (answer b (on p a)) ≡ false
-unfolding answer ifNumbered
-act-untold b p a = decided-untold _ _ (file-untold (fileAt b p) (b .today .0) a)
+registered-untold : (rule : Rule) (a : Act) (x : Said.Answer) → tells x ≡ false → tells (ifRegistered rule a x) ≡ false
+registered-untold oldRule a x h = h
+registered-untold newRule a x h = split (admitsRetired a && accepted x) (λ e. rw e refl) (λ e. rw e h)
 
-advance-untold : (b : Book) (day k : ℕ) → tells (answer b (advance day k)) ≡ false
+act-untold : (rule : Rule) (b : Book) (p : ℕ) (a : Act) → tells (answer rule b (on p a)) ≡ false
+unfolding answer ifNumbered
+act-untold rule b p a = decided-untold _ _ (registered-untold rule a _ (file-untold (fileAt b p) (b .today .0) a))
+
+advance-untold : (rule : Rule) (b : Book) (day k : ℕ) → tells (answer rule b (advance day k)) ≡ false
 unfolding answer
-advance-untold b day k = decided-untold _ _ refl
+advance-untold rule b day k = decided-untold _ _ refl
 
 says-untold : (form : Form) (x : ℕ → Said.Answer) → tells (batchSays form x) ≡ false
 unfolding batchSays
 says-untold (Forms.Refused n i) x = refl
 says-untold (Forms.Parts n) x = split (ltb (firstRefused x n) n) (λ e. rw e refl) (λ e. rw e refl)
 
-batch-untold : (b : Book) (file : List ℕ) → tells (answer b (batch file)) ≡ false
+batch-untold : (rule : Rule) (b : Book) (file : List ℕ) → tells (answer rule b (batch file)) ≡ false
 unfolding answer
-batch-untold b file = says-untold (formOf file) (partAnswer b file)
+batch-untold rule b file = says-untold (formOf file) (partAnswer b file)
 
 fresh-untold : (d : ℕ) → tells (freshAnswer d) ≡ false
 unfolding freshAnswer
@@ -160,14 +185,15 @@ question-leaves true b = refl
 question-leaves false b = refl
 
 -- A line that is not taken leaves the book: it is refused, or it is a question.
-pub not-taken : (b : Book) (n : ℕ) (a : Asked) → takes (answerTo b n a) ≡ false → bookAfter b a ≡ b
+pub not-taken : (rule : Rule) (b : Book) (n : ℕ) (a : Asked) → takes (answerTo rule b n a) ≡ false → bookAfter rule b a ≡ b
 unfolding step applied
-not-taken b n (call (on p a)) h = rw (untaken (answer b (on p a)) h (act-untold b p a)) refl
-not-taken b n (call (advance day k)) h = rw (untaken (answer b (advance day k)) h (advance-untold b day k)) refl
-not-taken b n (call (statement p)) h = question-leaves (accepted (answer b (statement p))) b
-not-taken b n (call callsMade) h = question-leaves (accepted (answer b callsMade)) b
-not-taken b n (call (batch file)) h = rw (untaken (answer b (batch file)) h (batch-untold b file)) refl
-not-taken b n (fresh d) h = rw (untaken (freshAnswer d) h (fresh-untold d)) refl
-not-taken b n (guarantee x) h = refl
-not-taken b n nothing h = refl
-not-taken b n (fault e) h = refl
+not-taken rule b n (call (on p a)) h = rw (untaken (answer rule b (on p a)) h (act-untold rule b p a)) refl
+not-taken rule b n (call (advance day k)) h = rw (untaken (answer rule b (advance day k)) h (advance-untold rule b day k)) refl
+not-taken rule b n (call (statement p)) h = question-leaves (accepted (answer rule b (statement p))) b
+not-taken rule b n (call callsMade) h = question-leaves (accepted (answer rule b callsMade)) b
+not-taken rule b n (call (batch file)) h = rw (untaken (answer rule b (batch file)) h (batch-untold rule b file)) refl
+not-taken rule b n (fresh d) h = rw (untaken (freshAnswer d) h (fresh-untold d)) refl
+not-taken rule b n (guarantee x) h = refl
+not-taken rule b n nothing h = refl
+not-taken rule b n roleRetired h = refl
+not-taken rule b n (fault e) h = refl

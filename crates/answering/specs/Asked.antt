@@ -12,8 +12,9 @@ use Rattle.special.specs.declared.Special.{Special}
 use Rattle.special.specs.Guarantee.{specialGuarantee}
 use Rattle.layout.specs.Book.{Book}
 use Rattle.book.specs.Call.{Call, on, admit, lodge, release, settle, annualRun, advance, statement, callsMade, batch}
+use Rattle.book.specs.Rule.{Rule}
 use Rattle.book.specs.Account.{freshAnswer, freshBook, answer, step}
-use Rattle.book.specs.Reached.{Reached}
+use Rattle.book.specs.Reached.{ReachedUnder}
 use Rattle.journal.specs.declared.Reason.{Reason}
 use Rattle.journal.specs.declared.Request.{Request}
 use Rattle.journal.specs.declared.Lengths.{Lengths}
@@ -30,6 +31,8 @@ pub data Asked : Type 0 where
   guarantee : Special → Asked
   -- nothing of the book: an empty line, or the table for people
   nothing : Asked
+  -- paper 02, Ask 3: the mark that ends the first stretch of a journal
+  roleRetired : Asked
   -- no call
   fault : Reason → Asked
 
@@ -79,28 +82,31 @@ asked (Request.Statement p) zs = call (statement p)
 asked Request.Calls zs = call callsMade
 asked (Request.Special n) zs = guarantee (guaranteeOf n zs)
 asked (Request.Batch n) zs = call (batch (batchBytes n zs))
+asked Request.RoleRetired zs = roleRetired
 asked Request.Report zs = nothing
 asked (Request.Error e) zs = fault e
 
--- What is answered to line number n on book b.
-abbrev pub answerTo : Book → ℕ → Asked → Answer
-answerTo b n (call c) = shown (answer b c)
-answerTo b n (fresh d) = shown (freshAnswer d)
-answerTo b n (guarantee x) = guaranteeShown x
-answerTo b n nothing = Answer.Nothing
-answerTo b n (fault e) = Answer.Error n e
+-- What is answered to line number n on book b, its call being made under a rule.
+abbrev pub answerTo : Rule → Book → ℕ → Asked → Answer
+answerTo rule b n (call c) = shown (answer rule b c)
+answerTo rule b n (fresh d) = shown (freshAnswer d)
+answerTo rule b n (guarantee x) = guaranteeShown x
+answerTo rule b n nothing = Answer.Nothing
+answerTo rule b n roleRetired = Answer.Nothing
+answerTo rule b n (fault e) = Answer.Error n e
 
 -- The book that a line leaves: "`fresh` begins a new one", unless it is refused; "a line that is no call: the book is as before".
-abbrev pub bookAfter : Book → Asked → Book
-bookAfter b (call c) = step b c
-bookAfter b (fresh d) = cond (accepted (freshAnswer d)) (freshBook d) b
-bookAfter b (guarantee x) = b
-bookAfter b nothing = b
-bookAfter b (fault e) = b
+abbrev pub bookAfter : Rule → Book → Asked → Book
+bookAfter rule b (call c) = step rule b c
+bookAfter rule b (fresh d) = cond (accepted (freshAnswer d)) (freshBook d) b
+bookAfter rule b (guarantee x) = b
+bookAfter rule b nothing = b
+bookAfter rule b roleRetired = b
+bookAfter rule b (fault e) = b
 
--- What line number n gives on book b: the answer x and the book b′ that it leaves.
-pub record Answered (b : Book) (n : ℕ) (a : Asked) (x : Answer) (b′ : Book) : Type 0 where
-  pub answered : x ≡ answerTo b n a
-  pub left : b′ ≡ bookAfter b a
+-- What line number n gives on book b under a rule: the answer x and the book b′ that it leaves.
+pub record Answered (rule : Rule) (b : Book) (n : ℕ) (a : Asked) (x : Answer) (b′ : Book) : Type 0 where
+  pub answered : x ≡ answerTo rule b n a
+  pub left : b′ ≡ bookAfter rule b a
   -- a reached book stays one
-  pub reached : Reached b → Reached b′
+  pub reached : ReachedUnder rule b → ReachedUnder rule b′

@@ -62,6 +62,7 @@ changes (Request.Statement p) = false
 changes Request.Calls = false
 changes (Request.Special n) = false
 changes (Request.Batch n) = true
+changes Request.RoleRetired = false
 changes Request.Report = false
 changes (Request.Error e) = false
 
@@ -80,8 +81,28 @@ isFresh (Request.Statement p) = false
 isFresh Request.Calls = false
 isFresh (Request.Special n) = false
 isFresh (Request.Batch n) = false
+isFresh Request.RoleRetired = false
 isFresh Request.Report = false
 isFresh (Request.Error e) = false
+
+-- Whether a request is the mark that ends the first stretch of a journal (paper 02, Ask 3).
+abbrev pub isMark : Request → Bool
+isMark Request.Nothing = false
+isMark (Request.Fresh d) = false
+isMark (Request.Admit p r) = false
+isMark (Request.LodgeCash p q a) = false
+isMark (Request.LodgeLetter p q a f l) = false
+isMark (Request.Release p q a) = false
+isMark (Request.Settle p m n) = false
+isMark (Request.Annual p) = false
+isMark (Request.Advance t b) = false
+isMark (Request.Statement p) = false
+isMark Request.Calls = false
+isMark (Request.Special n) = false
+isMark (Request.Batch n) = false
+isMark Request.RoleRetired = true
+isMark Request.Report = false
+isMark (Request.Error e) = false
 
 -- "In a kept journal `fresh` stands only as the first call; a later one is an error": a request where so many calls are kept.
 unfoldable pub freshFirst : ℕ → Request → Request
@@ -103,9 +124,14 @@ numbersIn (Request.Statement p) most = 0
 numbersIn Request.Calls most = 0
 numbersIn (Request.Special n) most = min (total (lengthList n)) most
 numbersIn (Request.Batch n) most = min n most
+numbersIn Request.RoleRetired most = 0
 numbersIn Request.Report most = 0
 numbersIn (Request.Error e) most = 0
 
 -- A call as a line of the journal, in its numeric form, with its newline.
 unfoldable pub keptLine : Request → List ℤ → List ℕ
 keptLine r zs = printed r (take (numbersIn r (length zs)) zs) ++ (10 ∷ [])
+
+-- The mark as a line of the journal.
+abbrev pub markLine : List ℕ
+markLine = printed Request.RoleRetired [] ++ (10 ∷ [])

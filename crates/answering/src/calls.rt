@@ -1,5 +1,6 @@
 // The application of one call: a request made on the book.
 ghost use Rattle.layout.specs.WellFormed.{WellFormed};
+ghost use Rattle.book.specs.Rule.{oldRule, newRule};
 ghost use Rattle.answering.specs.Asked.{fresh as Asked·fresh, asked};
 ghost use Rattle.answering.specs.InWords.{AnsweredWords};
 use crate::batches::load_file;
@@ -14,7 +15,7 @@ use printing::Answer;
 // A fresh book on a day; a refused one leaves the book as it was.
 fn begin(book: &mut [u64], day: Day) -> Answer
     requires { ⌜ WellFormed (now book) ⌝ }
-    ensures { λ r. ⌜ AnsweredWords (now (book .entry)) 0 (Asked·fresh (day .0)) r (now (book .exit)) ⌝ }
+    ensures { λ r. ⌜ AnsweredWords newRule (now (book .entry)) 0 (Asked·fresh (day .0)) r (now (book .exit)) ⌝ }
 {
     if 29219 < day.0 {
         return Answer::Refused(17);
@@ -26,7 +27,7 @@ fn begin(book: &mut [u64], day: Day) -> Answer
 // is the number of its line, which an error names.
 pub fn apply(book: &mut [u64], request: Request, numbers: &[i64], line: u64) -> Answer
     requires { ⌜ WellFormed (now book) ⌝ }
-    ensures { λ r. ⌜ AnsweredWords (now (book .entry)) line (asked request (now (numbers .entry))) r (now (book .exit)) ⌝ }
+    ensures { λ r. ⌜ AnsweredWords newRule (now (book .entry)) line (asked request (now (numbers .entry))) r (now (book .exit)) ⌝ }
 {
     match request {
         Request::Nothing => Answer::Nothing,
@@ -48,7 +49,19 @@ pub fn apply(book: &mut [u64], request: Request, numbers: &[i64], line: u64) -> 
         Request::Calls => Answer::Calls(book::calls_made(book)),
         Request::Special(n) => guarantee(n, numbers),
         Request::Batch(n) => shown::loaded_shown(load_file(book, numbers, n)),
+        Request::RoleRetired => Answer::Nothing,
         Request::Report => Answer::Nothing,
         Request::Error(why) => Answer::Error(line, why),
     }
+}
+
+// The same by the old admission rule, for a line of a journal's first stretch (paper 02, Ask 3): only an admission is another call.
+pub fn apply_by_old_rule(book: &mut [u64], request: Request, numbers: &[i64], line: u64) -> Answer
+    requires { ⌜ WellFormed (now book) ⌝ }
+    ensures { λ r. ⌜ AnsweredWords oldRule (now (book .entry)) line (asked request (now (numbers .entry))) r (now (book .exit)) ⌝ }
+{
+    let Request::Admit(p, role) = request else {
+        return apply(book, request, numbers, line);
+    };
+    shown::outcome_shown(book::admit_by_old_rule(book, p, role))
 }

@@ -3,7 +3,7 @@ ghost use mathlib.Core.Path.{_≡_};
 ghost use Prim.Native.Nat.{min};
 ghost use Rattle.journal.specs.Grammar.{lengthList, total};
 ghost use Rattle.printing.specs.Placed.{Put};
-ghost use Rattle.answering.specs.Kept.{takes, refuses, changes, isFresh, freshFirst, numbersIn, keptLine};
+ghost use Rattle.answering.specs.Kept.{takes, refuses, changes, isFresh, isMark, freshFirst, numbersIn, keptLine};
 use crate::guarantee::front;
 use crate::guarantee::smaller;
 use journal::Lengths;
@@ -76,6 +76,7 @@ pub fn is_change(request: Request) -> bool
         Request::Calls => false,
         Request::Special(_) => false,
         Request::Batch(_) => true,
+        Request::RoleRetired => false,
         Request::Report => false,
         Request::Error(_) => false,
     }
@@ -99,6 +100,31 @@ fn is_fresh(request: Request) -> bool
         Request::Calls => false,
         Request::Special(_) => false,
         Request::Batch(_) => false,
+        Request::RoleRetired => false,
+        Request::Report => false,
+        Request::Error(_) => false,
+    }
+}
+
+// Whether a request is the mark that ends the first stretch of a journal.
+pub fn is_mark(request: Request) -> bool
+    ensures { λ r. ⌜ r ≡ isMark request ⌝ }
+{
+    match request {
+        Request::Nothing => false,
+        Request::Fresh(_) => false,
+        Request::Admit(_, _) => false,
+        Request::LodgeCash(_, _, _) => false,
+        Request::LodgeLetter(_, _, _, _, _) => false,
+        Request::Release(_, _, _) => false,
+        Request::Settle(_, _, _) => false,
+        Request::Annual(_) => false,
+        Request::Advance(_, _) => false,
+        Request::Statement(_) => false,
+        Request::Calls => false,
+        Request::Special(_) => false,
+        Request::Batch(_) => false,
+        Request::RoleRetired => true,
         Request::Report => false,
         Request::Error(_) => false,
     }
@@ -145,6 +171,7 @@ fn number_count(request: Request, most: usize) -> usize
         Request::Calls => 0,
         Request::Special(n) => listed(n, most),
         Request::Batch(n) => smaller(n, most),
+        Request::RoleRetired => 0,
         Request::Report => 0,
         Request::Error(_) => 0,
     }

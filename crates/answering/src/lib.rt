@@ -8,8 +8,10 @@ mod kept; // kept.rt: what a kept journal takes
 mod requests; // requests.rt: the request that a line of an input is
 
 pub use calls::apply;
+pub use calls::apply_by_old_rule;
 pub use kept::is_change;
 pub use kept::is_kept;
+pub use kept::is_mark;
 pub use kept::is_refusal;
 pub use kept::put_kept;
 pub use requests::request_of;

@@ -34,6 +34,14 @@ fn lodge_letters(book: &mut [u64], participant: u64, letters: u64)
     }
 }
 
+// The role of a participant: the six in turn, with 0 for 1, which is retired and has the same minimum.
+fn role_of(participant: u64) -> u64 {
+    match participant % 6 {
+        1 => 0,
+        role => role,
+    }
+}
+
 // Writes a fresh book of day 0 with every participant admitted, the roles in turn, and so many letters lodged for each.
 pub fn admit_all(book: &mut [u64], letters: u64)
     requires { ⌜ (length (now book) ≡ bookLength) × (letters ≤ 8) ⌝ }
@@ -42,7 +50,7 @@ pub fn admit_all(book: &mut [u64], letters: u64)
     book::fresh(book, Day(0));
     let mut participant = 0;
     while participant < 64 {
-        book::admit(book, participant, participant % 6);
+        book::admit(book, participant, role_of(participant));
         lodge_letters(book, participant, letters);
         participant += 1;
     }

@@ -1,9 +1,9 @@
 -- The book's account of paper 01, 'The calls', and of paper 02: what each call answers, and the book that it leaves, from the book that it finds.
 -- Assumes nothing.
 use Prim.Native.Nat.{ℕ, zero, suc, _+_, _-_, min}
-use mathlib.Core.Bool.{cond, not, _||_}
+use mathlib.Core.Bool.{Bool, false, cond, not, _&&_, _||_}
 use mathlib.Core.List.{List, [], _∷_, map}
-use lib.Dec.{ltb}
+use lib.Dec.{ltb, eqb}
 use lib.ListN.{length, getD, set, replicate}
 use Rattle.file.specs.declared.File.{File}
 use Rattle.file.specs.Answer.{Answer, refused, done, daysOpened, counted, decide, accepted, statementSays}
@@ -18,6 +18,7 @@ use Rattle.layout.specs.Book.{Book}
 use Rattle.batch.specs.Batch.{countIn, participantAt, formOf}
 use Rattle.book.specs.Call.{Act, admit, lodge, release, settle, annualRun, Call, on, advance, statement, callsMade, batch}
 use Rattle.book.specs.Call.{partAct, batchSays}
+use Rattle.book.specs.Rule.{Rule, oldRule, newRule, Entry}
 
 -- "Fresh book on a day: no participants."
 unfoldable pub freshBook : ℕ → Book
@@ -47,7 +48,7 @@ ifNumbered p answer = decide refused (record { number = 1; holds = ltb 63 p } �
 unfoldable pub ifAdmitted : File → Answer → Answer
 ifAdmitted f answer = decide refused (record { number = 2; holds = not (f .admitted) } ∷ []) answer
 
--- What a call on a file answers on day t, after cause 1. An admission's causes are 3 and 4.
+-- What a call on a file answers on day t, after cause 1. An admission's causes are 3 and 4, under the new rule also 23, below.
 unfoldable pub fileAnswer : File → ℕ → Act → Answer
 fileAnswer f t (admit role) =
     decide refused (record { number = 3; holds = f .admitted } ∷ record { number = 4; holds = ltb 5 role } ∷ []) done
@@ -72,9 +73,22 @@ callsAdded f t (release k a) = 0
 callsAdded f t (settle m figures) = cond (settlementCalls f t m figures) 1 0
 callsAdded f t annualRun = 0
 
+-- Paper 02, Ask 3: "The regulator no longer registers Self-Supplied Customers." Whether a call admits one, role 1.
+abbrev pub admitsRetired : Act → Bool
+admitsRetired (admit role) = eqb role 1
+admitsRetired (lodge k h) = false
+admitsRetired (release k a) = false
+admitsRetired (settle m figures) = false
+admitsRetired annualRun = false
+
+-- "Answers: 23 role 1 at admission, after 4": under the new rule such a call is refused where it was accepted under the old one.
+abbrev pub ifRegistered : Rule → Act → Answer → Answer
+ifRegistered oldRule a answer = answer
+ifRegistered newRule a answer = cond (admitsRetired a && accepted answer) (refused 23) answer
+
 -- What a call that names participant p answers, and the book that it leaves where it is accepted.
-abbrev pub answerOn : Book → ℕ → Act → Answer
-answerOn b p a = ifNumbered p (fileAnswer (fileAt b p) (b .today .0) a)
+abbrev pub answerOn : Rule → Book → ℕ → Act → Answer
+answerOn rule b p a = ifNumbered p (ifRegistered rule a (fileAnswer (fileAt b p) (b .today .0) a))
 
 abbrev pub appliedOn : Book → ℕ → Act → Book
 appliedOn b p a = withFile b p (fileAfter (fileAt b p) (b .today .0) a) (callsAdded (fileAt b p) (b .today .0) a)
@@ -84,9 +98,9 @@ unfoldable pub afterParts : Book → List ℕ → ℕ → Book
 afterParts b file zero = b
 afterParts b file (suc k) = appliedOn (afterParts b file k) (participantAt file k) (partAct file k)
 
--- .. and what the next one answers on it.
+-- .. and what the next one answers on it; a settlement is answered alike under both rules.
 unfoldable pub partAnswer : Book → List ℕ → ℕ → Answer
-partAnswer b file k = answerOn (afterParts b file k) (participantAt file k) (partAct file k)
+partAnswer b file k = answerOn newRule (afterParts b file k) (participantAt file k) (partAct file k)
 
 -- 'Advance': "Opening day d, for every admitted participant".
 unfoldable pub openedIfAdmitted : ℕ → File → File
@@ -110,17 +124,17 @@ openDays (suc n) b = openDays n (openDay b)
 abbrev pub daysToOpen : Book → ℕ → ℕ → ℕ
 daysToOpen b day budget = min budget (day - b .today .0)
 
--- What each call answers.
-unfoldable pub answer : Book → Call → Answer
-answer b (on p a) = answerOn b p a
-answer b (advance day budget) =
+-- What each call answers, made under a rule.
+unfoldable pub answer : Rule → Book → Call → Answer
+answer rule b (on p a) = answerOn rule b p a
+answer rule b (advance day budget) =
     decide refused
     (record { number = 17; holds = ltb 29219 day || ltb day (b .today .0) } ∷ [])
     (daysOpened (daysToOpen b day budget))
-answer b (statement p) =
+answer rule b (statement p) =
     ifNumbered p (ifAdmitted (fileAt b p) (statementSays (fileStatement (fileAt b p) (b .today .0))))
-answer b callsMade = counted (b .made)
-answer b (batch file) = batchSays (formOf file) (partAnswer b file)
+answer rule b callsMade = counted (b .made)
+answer rule b (batch file) = batchSays (formOf file) (partAnswer b file)
 
 -- The book that an accepted call leaves.
 unfoldable pub applied : Book → Call → Book
@@ -131,10 +145,10 @@ applied b callsMade = b
 applied b (batch file) = afterParts b file (countIn file)
 
 -- The book that a call leaves: a refused one leaves it as it was.
-unfoldable pub step : Book → Call → Book
-step b c = cond (accepted (answer b c)) (applied b c) b
+unfoldable pub step : Rule → Book → Call → Book
+step rule b c = cond (accepted (answer rule b c)) (applied b c) b
 
--- The book that a list of calls, the newest first, leads to from a fresh book on day s.
-unfoldable pub run : ℕ → List Call → Book
+-- The book that a list of calls, the newest first, each made under its rule, leads to from a fresh book on day s.
+unfoldable pub run : ℕ → List Entry → Book
 run s [] = freshBook s
-run s (c ∷ calls) = step (run s calls) c
+run s (e ∷ before) = step (e .rule) (run s before) (e .call)

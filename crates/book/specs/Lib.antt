@@ -1,4 +1,5 @@
 pub mod Call
+pub mod Rule
 pub mod Account
 pub mod Reading
 pub mod Kept
@@ -10,3 +11,4 @@ pub mod Positions
 pub mod Left
 pub mod Settlements
 pub mod Batches
+pub mod Admissions

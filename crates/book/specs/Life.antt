@@ -1,5 +1,5 @@
--- Demand 3: the single claim about a whole list of calls from a fresh book on day s, refused ones included; and that an advance equals any
--- advances that open the same days.
+-- Demand 3: the single claim about a whole list of calls from a fresh book on day s, refused ones included, each made under the old or the new
+-- admission rule; and that an advance equals any advances that open the same days.
 -- Assumes nothing.
 use Prim.Native.Nat.{ℕ, suc, _+_, _-_, _≤_, _<_}
 use mathlib.Core.Path.{_≡_}
@@ -12,6 +12,7 @@ use Rattle.file.specs.Answer.{Answer}
 use Rattle.file.specs.Fields.{coverOf, shortfallOf}
 use Rattle.layout.specs.Book.{Book}
 use Rattle.book.specs.Call.{Call, on, advance, statement, callsMade, batch}
+use Rattle.book.specs.Rule.{Rule, newRule, Entry, under}
 use Rattle.book.specs.Account.{fileAt, answer, step, run}
 use Rattle.book.specs.Reading.Events.{Own, dayOpened, act, mine, todayOf, admittedIn, roleIn}
 use Rattle.book.specs.Reading.Holdings.{coverIn}
@@ -21,14 +22,14 @@ use Rattle.book.specs.Reading.Decisions.{callsBelow, decision, eventsOf}
 use Rattle.book.specs.Kept.{bookIn}
 
 -- What the book answered to each call of a list, the newest first.
-unfoldable pub answersOf : ℕ → List Call → List Answer
+unfoldable pub answersOf : ℕ → List Entry → List Answer
 answersOf s [] = []
-answersOf s (c ∷ calls) = answer (run s calls) c ∷ answersOf s calls
+answersOf s (e ∷ before) = answer (e .rule) (run s before) (e .call) ∷ answersOf s before
 
 -- What the reading decides of each, "from the arguments, the fresh day and the calls before".
-unfoldable pub decisionsOf : ℕ → List Call → List Answer
+unfoldable pub decisionsOf : ℕ → List Entry → List Answer
 decisionsOf s [] = []
-decisionsOf s (c ∷ calls) = decision s (eventsOf s calls) c ∷ decisionsOf s calls
+decisionsOf s (e ∷ before) = decision (e .rule) s (eventsOf s before) (e .call) ∷ decisionsOf s before
 
 -- A file's figures on day t are the readings of its own calls and the days opened.
 pub record ReadsAs (t : ℕ) (f : File) (own : List Own) : Type 0 where
@@ -69,16 +70,17 @@ pub record ChargedBook (before after : Book) : Type 0 where
       → ChargedFile (after .today .0) (fileAt before p) (fileAt after p)
   pub others : (p : ℕ) → fileAt before p .admitted ≡ false → fileAt after p ≡ fileAt before p
 
--- Every opening after a list of calls: what an advance that opens n days leaves, and one that opens one more, as far as there are days to T.
-abbrev pub Openings : ℕ → List Call → Type 0
+-- Every opening after a list of calls, under either rule: what an advance that opens n days leaves, and one that opens one more, as far as there
+-- are days to T.
+abbrev pub Openings : ℕ → List Entry → Type 0
 Openings s calls =
-    (day n : ℕ) → day ≤ 29219 → run s calls .today .0 + suc n ≤ day
-    → ChargedBook (run s (advance day n ∷ calls)) (run s (advance day (suc n) ∷ calls))
+    (rule : Rule) (day n : ℕ) → day ≤ 29219 → run s calls .today .0 + suc n ≤ day
+    → ChargedBook (run s (under rule (advance day n) ∷ calls)) (run s (under rule (advance day (suc n)) ∷ calls))
 
 -- .. after each of the calls of a list, so those inside its own advances too.
-abbrev pub EachOpening : ℕ → List Call → Type 0
+abbrev pub EachOpening : ℕ → List Entry → Type 0
 EachOpening s [] = Openings s []
-EachOpening s (c ∷ calls) = Openings s (c ∷ calls) × EachOpening s calls
+EachOpening s (e ∷ before) = Openings s (e ∷ before) × EachOpening s before
 
 -- A call after which today is still `before`'s, so one that opened no day, left no admitted participant's shortfall higher, and a newly
 -- admitted one began with none.
@@ -89,13 +91,13 @@ pub record NoneHigher (before after : Book) : Type 0 where
       → shortfallOf (fileAt after p) (after .today .0) ≡ 0
 
 -- .. each call of a list.
-abbrev pub EachCall : ℕ → List Call → Type 0
+abbrev pub EachCall : ℕ → List Entry → Type 0
 EachCall s [] = Unit {0}
-EachCall s (c ∷ calls) =
-    (run s (c ∷ calls) .today .0 ≡ run s calls .today .0 → NoneHigher (run s calls) (run s (c ∷ calls))) × EachCall s calls
+EachCall s (e ∷ before) =
+    (run s (e ∷ before) .today .0 ≡ run s before .today .0 → NoneHigher (run s before) (run s (e ∷ before))) × EachCall s before
 
--- The claim about the list of calls as a whole.
-pub record Life (s : ℕ) (calls : List Call) : Type 0 where
+-- The claim about the list of calls as a whole, the newest first. A history with its first stretch (`history`) is such a list.
+pub record Life (s : ℕ) (calls : List Entry) : Type 0 where
   -- "each answer is what paper 01 decides from the arguments, the fresh day and the calls before"
   pub answers : answersOf s calls ≡ decisionsOf s calls
   -- the book is that of the readings, field by field
@@ -116,7 +118,7 @@ pub record Life (s : ℕ) (calls : List Call) : Type 0 where
 -- The book after a list of calls, the first of them first.
 unfoldable pub afterCalls : Book → List Call → Book
 afterCalls b [] = b
-afterCalls b (c ∷ calls) = afterCalls (step b c) calls
+afterCalls b (c ∷ calls) = afterCalls (step newRule b c) calls
 
 -- A list of advances only.
 abbrev pub Advances : List Call → Type 0

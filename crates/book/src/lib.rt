@@ -12,6 +12,7 @@ mod settlements;
 pub use batches::load;
 pub use begin::fresh;
 pub use calls::admit;
+pub use calls::admit_by_old_rule;
 pub use calls::annual_run;
 pub use days::advance;
 pub use positions::lodge;

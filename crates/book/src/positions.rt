@@ -34,7 +34,7 @@ ghost use Rattle.book.specs.InWords.{GivenWords};
 ghost use Rattle.book.specs.Positions.{SlotLeft};
 
 // Whether an outcome is no refusal.
-fn is_done(answer: Outcome) -> bool
+pub fn is_done(answer: Outcome) -> bool
     ensures { λ r. ⌜ r ≡ accepted (outcomeSays answer) ⌝ }
 {
     match answer {

@@ -17,6 +17,7 @@ use Rattle.file.specs.CheckLaws.{settled-answer}
 use Rattle.file.specs.Settle.{checkDue, settlementCalls, settledAnswer, settleAnswer}
 use Rattle.layout.specs.Book.{Book}
 use Rattle.book.specs.Call.{settle, on}
+use Rattle.book.specs.Rule.{newRule}
 use Rattle.book.specs.Account.{ifNumbered, ifAdmitted, fileAnswer, fileAt, answer}
 use Rattle.book.specs.InWords.{GivenWords}
 use Rattle.layout.specs.Words.{bookOfWords}
@@ -45,7 +46,7 @@ settled-small f t m figures w o =
     (split (checkDue (monthOf t) m) (λ d. rw d (summed-total figures w o)) (λ d. rw d (summed-total figures w o))))
 
 -- The book's answer.
-answer-small : (b : Book) (p m : ℕ) (figures : List ℤ) → SmallTotal (answer b (on p (settle m figures)))
+answer-small : (b : Book) (p m : ℕ) (figures : List ℤ) → SmallTotal (answer newRule b (on p (settle m figures)))
 unfolding answer ifNumbered ifAdmitted fileAnswer settleAnswer
 answer-small b p m figures =
     decide-small _ _ (λ above. decide-small _ _ (λ admitted. decide-small _ _ (λ none.

@@ -19,7 +19,8 @@ use Rattle.file.specs.Answer.{decide, accepted}
 use Rattle.file.specs.DecideLaws.{none-holds}
 use Rattle.file.specs.Settle.{settleAnswer}
 use Rattle.layout.specs.Book.{Book}
-use Rattle.book.specs.Account.{answer, fileAt, fileAnswer, ifNumbered, ifAdmitted, afterParts, partAnswer}
+use Rattle.book.specs.Rule.{Rule, oldRule, newRule}
+use Rattle.book.specs.Account.{answer, fileAt, fileAnswer, ifNumbered, ifAdmitted, ifRegistered, afterParts, partAnswer}
 use Rattle.book.specs.Call.{on, settle, batch}
 use Rattle.book.proofs.History.Parts.{Accepted, batch-accepted}
 
@@ -33,13 +34,20 @@ behind-causes (c ∷ causes) x e =
     split (c .holds) (λ h. clash {t = false} (sym (ap accepted (cond-true _ (Said.refused (c .number)) (decide Said.refused causes x) h)) ∙ e) refl)
     (λ h. behind-causes causes x (sym (ap accepted (cond-false _ (Said.refused (c .number)) (decide Said.refused causes x) h)) ∙ e))
 
+-- A settlement is answered alike under both rules.
+either-rule : (rule : Rule) (m : ℕ) (figures : List ℤ) (x : Said.Answer) → ifRegistered rule (settle m figures) x ≡ x
+either-rule oldRule m figures x = refl
+either-rule newRule m figures x = refl
+
 -- An accepted settlement has at most 16 figures.
-pub settle-few : (b : Book) (p m : ℕ) (figures : List ℤ) → accepted (answer b (on p (settle m figures))) ≡ true → length figures ≤ 16
+pub settle-few : (rule : Rule) (b : Book) (p m : ℕ) (figures : List ℤ) → accepted (answer rule b (on p (settle m figures))) ≡ true
+    → length figures ≤ 16
 unfolding answer ifNumbered fileAnswer ifAdmitted settleAnswer wrongCount
-settle-few b p m figures e =
+settle-few rule b p m figures e =
     let f = fileAt b p in
     let t = b .today .0 in
-    let x = behind-causes _ (fileAnswer f t (settle m figures)) e in
+    let x = ap accepted (sym (either-rule rule m figures (fileAnswer f t (settle m figures))))
+    ∙ behind-causes _ (ifRegistered rule (settle m figures) (fileAnswer f t (settle m figures))) e in
     let y = behind-causes _ (settleAnswer f t m figures) x in
     let h = none-holds _ _ y in
     omega (arith, ltb-false 16 (length figures) (or-second (ltb (length figures) 5) (ltb 16 (length figures)) (h .1 .0)))
@@ -62,13 +70,13 @@ figures-many file i = length-table (rowsAt file i) _
 part-few : (b : Book) (file : List ℕ) → Accepted file (partAnswer b file) → (i : ℕ) → i < countIn file → rowsAt file i ≤ 16
 unfolding partAnswer answer
 part-few b file a i h =
-    let few = settle-few (afterParts b file i) (participantAt file i) (monthIn file) (figuresAt file i) (a .each i h) in
+    let few = settle-few newRule (afterParts b file i) (participantAt file i) (monthIn file) (figuresAt file i) (a .each i h) in
     omega (arith, few, figures-many file i)
 
 -- An accepted batch has at most 8,836 bytes.
-pub batch-length : (b : Book) (file : List ℕ) → accepted (answer b (batch file)) ≡ true → length file ≤ 8836
+pub batch-length : (rule : Rule) (b : Book) (file : List ℕ) → accepted (answer rule b (batch file)) ≡ true → length file ≤ 8836
 unfolding answer
-batch-length b file e =
+batch-length rule b file e =
     let a = batch-accepted file (partAnswer b file) e in
     let n = countIn file in
     let some : n - 1 < n = omega (arith, a .whole .some) in

@@ -2,121 +2,105 @@
 -- Assumes nothing.
 use Prim.Native.Nat.{ℕ, _≤_}
 use mathlib.Core.Path.{_≡_, refl, sym, ap, subst, _∙_}
-use mathlib.Core.Bool.{Bool, true, false, _&&_}
-use mathlib.Core.List.{List, [], _∷_, _++_, append-assoc}
+use mathlib.Core.Bool.{Bool, true, false, cond, not, _&&_, and-true, and-false}
+use mathlib.Core.List.{List, [], _∷_, _++_, append-nil, append-assoc}
 use native.Mathlib.Omega.{arith}
 use borrow.Author.Tests.{lt-leb}
 use lib.Dec.{ltb}
 use lib.ListN.{length}
 use Rattle.laws.specs.Cases.{split, cond-true, cond-false}
+use Rattle.book.specs.Rule.{Rule, oldRule, newRule}
+use Rattle.journal.specs.declared.Request.{Request}
+use Rattle.printing.specs.Decimals.{spaced, joined}
+use Rattle.printing.specs.Lines.{callWords, printed}
 use Rattle.answering.specs.Asked.{answerTo}
-use Rattle.answering.specs.Kept.{takes}
+use Rattle.answering.specs.Kept.{takes, isMark, markLine}
 use Rattle.answering.proofs.Session.{not-taken}
 use Rattle.dialogue.specs.declared.Way.{Way}
 use Rattle.dialogue.specs.Split.{linesIn, restIn}
-use Rattle.dialogue.specs.Asks.{asks}
-use Rattle.dialogue.specs.Turns.{State, next, counted, answerOf, isKept, after, numeric, journalOf, ended}
+use Rattle.dialogue.specs.Asks.{requestOf, asks, ruleAt}
+use Rattle.dialogue.specs.Turns.{State, next, counted, marks, answerOf, isKept, after, numeric, journalOf, ended}
 use Rattle.dialogue.specs.Whole.{stateBefore, streamAfter, streamJournal}
 use Rattle.dialogue.specs.Dialogue.{replaying, Begins, Replayed}
-use Rattle.dialogue.proofs.CompleteLines.{line-first, rest-first}
-use Rattle.dialogue.proofs.KeptForm.{numeric-plain}
-use Rattle.dialogue.proofs.KeptAgain.{numeric-short, book-again, count-again, none-refused, line-again}
-use Rattle.dialogue.proofs.Streams.{ended-state, ended-kept, on-state, on-kept}
-
--- ---- one line more in the journal
-
-module _ (most : ℕ) (way : Way) (room : ℕ) (s : State) (l : List ℕ) (ls : List (List ℕ)) (on : ended way (s .place) ≡ false) where
-  abbrev s₁ : State
-  s₁ = stateBefore most s l
-
-  abbrev rest : List ℕ
-  rest = streamJournal most way room (after way room s₁ l) ls
-
-  kept-first : isKept way room s₁ l ≡ true → streamJournal most way room s (l ∷ ls) ≡ numeric room (s .place .line) l ++ (10 ∷ rest)
-  unfolding journalOf
-  kept-first e =
-      on-kept most way room s l ls on
-      ∙ ap (λ (z : List ℕ). z ++ rest) (cond-true (isKept way room s₁ l) (numeric room (s .place .line) l ++ (10 ∷ [])) [] e)
-      ∙ append-assoc (numeric room (s .place .line) l) (10 ∷ []) rest
-
-  left-first : isKept way room s₁ l ≡ false → streamJournal most way room s (l ∷ ls) ≡ rest
-  unfolding journalOf
-  left-first e =
-      on-kept most way room s l ls on
-      ∙ ap (λ (z : List ℕ). z ++ rest) (cond-false (isKept way room s₁ l) (numeric room (s .place .line) l ++ (10 ∷ [])) [] e)
+use Rattle.dialogue.proofs.CompleteLines.{Plain, line-first, rest-first}
+use Rattle.dialogue.proofs.SplitLaws.{lines-behind, rest-behind}
+use Rattle.dialogue.proofs.KeptForm.{printed-plain, numeric-plain}
+use Rattle.dialogue.proofs.KeptAgain.{numeric-short, kept-no-mark, book-again, count-again, none-refused, mark-stays, line-again}
+use Rattle.dialogue.proofs.KeptAgain.{markText, mark-book, mark-kept, mark-refused, mark-ends, mark-journal}
+use Rattle.dialogue.proofs.Streams.{ended-state, ended-kept, on-state, on-kept, state-append, kept-append}
 
 -- ---- its bytes are complete lines
+
+-- A line with its newline, or nothing.
+line-or-none : (t : Bool) (k : List ℕ) → Plain k → restIn (cond t (k ++ (10 ∷ [])) []) ≡ []
+unfolding restIn
+line-or-none true k p = rest-first k [] p
+line-or-none false k p = refl
+
+-- Those of one line.
+one-whole : (way : Way) (room : ℕ) (s : State) (l : List ℕ) → restIn (journalOf way room s l) ≡ []
+unfolding journalOf
+one-whole way room s l =
+    rest-behind (cond (way .keeps && marks way room s l) markLine []) (cond (isKept way room s l) (numeric room (s .place .line) l ++ (10 ∷ [])) [])
+    (line-or-none (way .keeps && marks way room s l) markText (printed-plain Request.RoleRetired []))
+    ∙ line-or-none (isKept way room s l) (numeric room (s .place .line) l) (numeric-plain room (s .place .line) l)
 
 pub journal-whole : (most : ℕ) (way : Way) (room : ℕ) (s : State) (ls : List (List ℕ)) → restIn (streamJournal most way room s ls) ≡ []
 unfolding streamJournal restIn
 journal-whole most way room s [] = refl
 journal-whole most way room s (l ∷ ls) =
-    let t = after way room (stateBefore most s l) l in
-    let k = numeric room (s .place .line) l in
+    let s₁ = stateBefore most s l in
+    let t = after way room s₁ l in
     split (ended way (s .place)) (λ e. ap restIn (ended-kept most way room s (l ∷ ls) e))
     (λ e.
-    split (isKept way room (stateBefore most s l) l)
-    (λ g.
-    ap restIn (kept-first most way room s l ls e g) ∙ rest-first k (streamJournal most way room t ls) (numeric-plain room (s .place .line) l)
+    ap restIn (on-kept most way room s l ls e)
+    ∙ rest-behind (journalOf way room s₁ l) (streamJournal most way room t ls) (one-whole way room s₁ l)
     ∙ journal-whole most way room t ls)
-    (λ g. ap restIn (left-first most way room s l ls e g) ∙ journal-whole most way room t ls))
 
 -- ---- replayed
 
+-- The mark, the line and the others, one behind the other.
+journal-parts : (most : ℕ) (way : Way) (room : ℕ) (s : State) (l : List ℕ) (ls : List (List ℕ)) → ended way (s .place) ≡ false
+    → streamJournal most way room s (l ∷ ls)
+    ≡ cond (way .keeps && marks way room (stateBefore most s l) l) markLine []
+    ++ (cond (isKept way room (stateBefore most s l) l) (numeric room (s .place .line) l ++ (10 ∷ [])) []
+    ++ streamJournal most way room (after way room (stateBefore most s l) l) ls)
+unfolding journalOf
+journal-parts most way room s l ls e =
+    on-kept most way room s l ls e
+    ∙ append-assoc (cond (way .keeps && marks way room (stateBefore most s l) l) markLine [])
+    (cond (isKept way room (stateBefore most s l) l) (numeric room (s .place .line) l ++ (10 ∷ [])) [])
+    (streamJournal most way room (after way room (stateBefore most s l) l) ls)
+
 module _ (most : ℕ) (way : Way) (room : ℕ) (enough : 20480 ≤ most) (small : room ≤ 18446744073709551615) (keeps : way .keeps ≡ true) where
-  -- What is replayed has not ended, for nothing was refused.
-  not-ended : (s t : State) → Begins s t → ended replaying (t .place) ≡ false
-  unfolding ended
-  not-ended s t b = ap (λ (n : ℕ). ltb 0 n) (b .refused)
+  -- Complete lines j replayed from t lead to u, and are kept again.
+  record Passes (t : State) (j : List ℕ) (u : State) : Type 0 where
+    whole : restIn j ≡ []
+    state : streamAfter most replaying room t (linesIn j) ≡ u
+    same : streamJournal most replaying room t (linesIn j) ≡ j
 
-  -- A line that is not kept leaves the book and the count.
-  begins-left : (s t : State) (l : List ℕ) → Begins s t → isKept way room (stateBefore most s l) l ≡ false
-      → Begins (after way room (stateBefore most s l) l) t
-  unfolding after isKept answerOf
-  begins-left s t l b e =
-      let s₁ = stateBefore most s l in
-      let a = asks way room (s₁ .place) l in
-      let n = next (s .place .line) in
-      let f : takes (answerTo (s .book) n a) ≡ false = ap (λ (z : Bool). z && takes (answerTo (s .book) n a)) (sym keeps) ∙ e in
+  none-passes : (t : State) → Passes t [] t
+  unfolding streamAfter streamJournal linesIn restIn
+  none-passes t = record { whole = refl; state = refl; same = refl }
+
+  passes-by : (t u : State) (j j₁ : List ℕ) → j ≡ j₁ → Passes t j₁ u → Passes t j u
+  passes-by t u j j₁ e w = subst (λ (z : List ℕ). Passes t z u) (sym e) w
+
+  -- One line, where none was refused, that is kept again.
+  one-passes : (t : State) (k : List ℕ) → t .place .refused ≡ 0 → Plain k → journalOf replaying room (stateBefore most t k) k ≡ k ++ (10 ∷ [])
+      → Passes t (k ++ (10 ∷ [])) (after replaying room (stateBefore most t k) k)
+  unfolding streamAfter streamJournal linesIn restIn ended
+  one-passes t k none p again =
+      let on : ended replaying (t .place) ≡ false = ap (λ (n : ℕ). ltb 0 n) none in
+      let lines = line-first k [] p in
       record {
-        book = b .book ∙ sym (not-taken (s .book) n a f);
-        kept = b .kept ∙ sym (ap (λ (z : Bool). counted z (s .place .kept)) e);
-        refused = b .refused;
+        whole = rest-first k [] p;
+        state = ap (streamAfter most replaying room t) lines ∙ on-state most replaying room t k [] on;
+        same =
+            ap (streamJournal most replaying room t) lines ∙ on-kept most replaying room t k [] on
+            ∙ append-nil (journalOf replaying room (stateBefore most t k) k)
+            ∙ again;
       }
-
-  module _ (s t : State) (l : List ℕ) (b : Begins s t) (e : isKept way room (stateBefore most s l) l ≡ true) where
-    abbrev line : List ℕ
-    line = numeric room (s .place .line) l
-
-    abbrev t₁ : State
-    t₁ = stateBefore most t line
-
-    line-short : t₁ .place .long ≡ false
-    line-short = lt-leb most (length line) (omega (arith, numeric-short way room (stateBefore most s l) l small e))
-
-    begins-kept : Begins (after way room (stateBefore most s l) l) (after replaying room t₁ line)
-    begins-kept =
-        record {
-          book = book-again way room (stateBefore most s l) t₁ l small e (b .book) (b .kept) line-short;
-          kept = count-again way room (stateBefore most s l) t₁ l small e (b .book) (b .kept) line-short;
-          refused = none-refused way room (stateBefore most s l) t₁ l small e (b .book) (b .kept) line-short ∙ b .refused;
-        }
-
-    state-again : (js : List ℕ) → streamAfter most replaying room t (linesIn (line ++ (10 ∷ js)))
-        ≡ streamAfter most replaying room (after replaying room t₁ line) (linesIn js)
-    state-again js =
-        ap (streamAfter most replaying room t) (line-first line js (numeric-plain room (s .place .line) l))
-        ∙ on-state most replaying room t line (linesIn js) (not-ended s t b)
-
-    bytes-again : (js : List ℕ) → streamJournal most replaying room (after replaying room t₁ line) (linesIn js) ≡ js
-        → streamJournal most replaying room t (linesIn (line ++ (10 ∷ js))) ≡ line ++ (10 ∷ js)
-    bytes-again js same =
-        ap (streamJournal most replaying room t) (line-first line js (numeric-plain room (s .place .line) l))
-        ∙ on-kept most replaying room t line (linesIn js) (not-ended s t b)
-        ∙ ap (λ (z : List ℕ). z ++ streamJournal most replaying room (after replaying room t₁ line) (linesIn js))
-        (line-again way room (stateBefore most s l) t₁ l small e (b .book) (b .kept) line-short)
-        ∙ ap (λ (z : List ℕ). (line ++ (10 ∷ [])) ++ z) same
-        ∙ append-assoc line (10 ∷ []) js
 
   -- Bytes j replayed from t lead to where a state begins, and are kept again.
   record Again (t : State) (j : List ℕ) (end : State) : Type 0 where
@@ -131,36 +115,185 @@ module _ (most : ℕ) (way : Way) (room : ℕ) (enough : 20480 ≤ most) (small 
   again-by t end end₁ j j₁ e f w =
       subst (λ (z : List ℕ). Again t z end) (sym e) (subst (λ (z : State). Again t j₁ z) (sym f) w)
 
-  kept-more : (s t end : State) (l js : List ℕ) (b : Begins s t) (e : isKept way room (stateBefore most s l) l ≡ true)
-      → Again (after replaying room (stateBefore most t (numeric room (s .place .line) l)) (numeric room (s .place .line) l)) js end
-      → Again t (numeric room (s .place .line) l ++ (10 ∷ js)) end
-  kept-more s t end l js b e w =
-      record { agree = subst (Begins end) (sym (state-again s t l b e js)) (w .agree); same = bytes-again s t l b e js (w .same) }
+  -- Lines before others.
+  passes-then : (t u end : State) (j k : List ℕ) → Passes t j u → Again u k end → Again t (j ++ k) end
+  passes-then t u end j k x y =
+      let lines = lines-behind j k (x .whole) in
+      record {
+        agree =
+            subst (Begins end)
+            (sym
+            (ap (streamAfter most replaying room t) lines ∙ state-append most replaying room t (linesIn j) (linesIn k)
+            ∙ ap (λ (z : State). streamAfter most replaying room z (linesIn k)) (x .state)))
+            (y .agree);
+        same =
+            ap (streamJournal most replaying room t) lines ∙ kept-append most replaying room t (linesIn j) (linesIn k)
+            ∙ ap (λ (z : List ℕ). z ++ streamJournal most replaying room (streamAfter most replaying room t (linesIn j)) (linesIn k)) (x .same)
+            ∙ ap (λ (z : State). j ++ streamJournal most replaying room z (linesIn k)) (x .state)
+            ∙ ap (λ (z : List ℕ). j ++ z) (y .same);
+      }
+
+  -- One line of the input, from s, where a journal that was begun there is replayed from t.
+  module _ (s t : State) (l : List ℕ) (b : Begins s t) where
+    abbrev s₁ : State
+    s₁ = stateBefore most s l
+
+    abbrev marked : Bool
+    marked = marks way room s₁ l
+
+    -- The state u behind the mark, if the line writes it: the book and the count are the same, and the mark is there.
+    record Between (u : State) : Type 0 where
+      book : u .book ≡ s .book
+      kept : u .place .kept ≡ s .place .kept
+      refused : u .place .refused ≡ 0
+      unmarked : u .place .unmarked ≡ (s .place .unmarked && not marked)
+
+    -- Only where the mark is not there a line writes it.
+    marks-unmarked : marked ≡ true → s .place .unmarked ≡ true
+    unfolding marks
+    marks-unmarked e =
+        first (way .replays) (s .place .unmarked) (isMark (requestOf way room (s₁ .place) l)) (isKept way room s₁ l) e
+      where
+        first : (r u m k : Bool) → cond r (u && m) (u && k) ≡ true → u ≡ true
+        first true true m k h = refl
+        first true false m k h = h
+        first false true m k h = refl
+        first false false m k h = h
+
+    mark-short : stateBefore most t markText .place .long ≡ false
+    unfolding printed callWords joined spaced
+    mark-short = lt-leb most (length markText) (omega arith)
+
+    abbrev behindMark : State
+    behindMark = after replaying room (stateBefore most t markText) markText
+
+    mark-step : (u : State) × Passes t (cond (way .keeps && marked) markLine []) u × Between u
+    mark-step =
+        split marked
+        (λ e.
+        let t₁ = stateBefore most t markText in
+        let unmarked : t .place .unmarked ≡ true = b .unmarked ∙ marks-unmarked e in (
+          behindMark,
+          passes-by t behindMark (cond (way .keeps && marked) markLine []) markLine
+              (cond-true (way .keeps && marked) markLine [] (ap (λ (z : Bool). z && marked) keeps ∙ e))
+              (one-passes t markText (b .refused) (printed-plain Request.RoleRetired []) (mark-journal room t₁ mark-short unmarked)),
+          record {
+            book = mark-book room t₁ mark-short ∙ b .book;
+            kept = mark-kept room t₁ mark-short ∙ b .kept;
+            refused = mark-refused room t₁ mark-short ∙ b .refused;
+            unmarked = mark-ends room t₁ mark-short ∙ sym (ap (λ (z : Bool). s .place .unmarked && not z) e ∙ and-false (s .place .unmarked));
+          },
+        ))
+        (λ e. (
+          t,
+          passes-by t t (cond (way .keeps && marked) markLine []) []
+              (cond-false (way .keeps && marked) markLine [] (ap (λ (z : Bool). z && marked) keeps ∙ e))
+              (none-passes t),
+          record {
+            book = b .book;
+            kept = b .kept;
+            refused = b .refused;
+            unmarked = b .unmarked ∙ sym (ap (λ (z : Bool). s .place .unmarked && not z) e ∙ and-true (s .place .unmarked));
+          },
+        ))
+
+    abbrev line : List ℕ
+    line = numeric room (s .place .line) l
+
+    -- The kept line is taken again under the rule that it was taken under.
+    same-rule : (u : State) → Between u → isKept way room s₁ l ≡ true → ruleAt replaying (u .place) ≡ ruleAt way (s .place)
+    unfolding marks
+    same-rule u x e =
+        ap (λ (z : Bool). cond z oldRule newRule) (x .unmarked)
+        ∙ ap (λ (k : Bool). behind (isMark (requestOf way room (s₁ .place) l)) k) e
+        ∙ ap (λ (m : Bool). behind m true) (kept-no-mark way room s₁ l e)
+        ∙ agrees (way .replays) (s .place .unmarked)
+      where
+        behind : (m k : Bool) → Rule
+        behind m k =
+            cond (s .place .unmarked && not (cond (way .replays) (s .place .unmarked && m) (s .place .unmarked && k))) oldRule newRule
+
+        agrees : (r u : Bool) → cond (u && not (cond r (u && false) (u && true))) oldRule newRule ≡ cond (r && u) oldRule newRule
+        agrees true true = refl
+        agrees true false = refl
+        agrees false true = refl
+        agrees false false = refl
+
+    -- A line that is not kept leaves the book and the count.
+    left-alone : (u : State) → Between u → isKept way room s₁ l ≡ false → Begins (after way room s₁ l) u
+    unfolding after isKept answerOf
+    left-alone u x e =
+        let a = asks way room (s₁ .place) l in
+        let n = next (s .place .line) in
+        let rule = ruleAt way (s .place) in
+        let f : takes (answerTo rule (s .book) n a) ≡ false = ap (λ (z : Bool). z && takes (answerTo rule (s .book) n a)) (sym keeps) ∙ e in
+        record {
+          book = x .book ∙ sym (not-taken rule (s .book) n a f);
+          kept = x .kept ∙ sym (ap (λ (z : Bool). counted z (s .place .kept)) e);
+          refused = x .refused;
+          unmarked = x .unmarked;
+        }
+
+    line-step : (u : State) → Between u
+        → (v : State) × Passes u (cond (isKept way room s₁ l) (line ++ (10 ∷ [])) []) v × Begins (after way room s₁ l) v
+    unfolding after
+    line-step u x =
+        split (isKept way room s₁ l)
+        (λ e.
+        let u₁ = stateBefore most u line in
+        let short : u₁ .place .long ≡ false = lt-leb most (length line) (omega (arith, numeric-short way room s₁ l small e)) in
+        let rule = same-rule u x e in (
+          after replaying room u₁ line,
+          passes-by u (after replaying room u₁ line) (cond (isKept way room s₁ l) (line ++ (10 ∷ [])) []) (line ++ (10 ∷ []))
+              (cond-true (isKept way room s₁ l) (line ++ (10 ∷ [])) [] e)
+              (one-passes u line (x .refused) (numeric-plain room (s .place .line) l)
+              (line-again way room s₁ u₁ l small e (x .book) (x .kept) short rule)),
+          record {
+            book = book-again way room s₁ u₁ l small e (x .book) (x .kept) short rule;
+            kept = count-again way room s₁ u₁ l small e (x .book) (x .kept) short rule;
+            refused = none-refused way room s₁ u₁ l small e (x .book) (x .kept) short rule ∙ x .refused;
+            unmarked = mark-stays way room s₁ u₁ l small e (x .book) (x .kept) short rule ∙ x .unmarked;
+          },
+        ))
+        (λ e. (
+          u,
+          passes-by u u (cond (isKept way room s₁ l) (line ++ (10 ∷ [])) []) [] (cond-false (isKept way room s₁ l) (line ++ (10 ∷ [])) [] e)
+              (none-passes u),
+          left-alone u x e,
+        ))
 
   again : (s t : State) (ls : List (List ℕ)) → Begins s t → Again t (streamJournal most way room s ls) (streamAfter most way room s ls)
   unfolding streamAfter streamJournal
   again s t [] b = none-again s t b
   again s t (l ∷ ls) b =
-      let s₁ = after way room (stateBefore most s l) l in
+      let s₁ = stateBefore most s l in
+      let next-state = after way room s₁ l in
       let end = streamAfter most way room s (l ∷ ls) in
-      let end₁ = streamAfter most way room s₁ ls in
+      let end₁ = streamAfter most way room next-state ls in
       let j = streamJournal most way room s (l ∷ ls) in
-      let j₁ = streamJournal most way room s₁ ls in
-      let k = numeric room (s .place .line) l in
+      let j₁ = streamJournal most way room next-state ls in
+      let first = mark-step s t l b in
+      let second = line-step s t l b (first .0) (first .2) in
       split (ended way (s .place))
       (λ e. again-by t end s j [] (ended-kept most way room s (l ∷ ls) e) (ended-state most way room s (l ∷ ls) e) (none-again s t b))
       (λ e.
-      split (isKept way room (stateBefore most s l) l)
-      (λ g.
-      again-by t end end₁ j (k ++ (10 ∷ j₁)) (kept-first most way room s l ls e g) (on-state most way room s l ls e)
-      (kept-more s t end₁ l j₁ b g (again s₁ (after replaying room (stateBefore most t k) k) ls (begins-kept s t l b g))))
-      (λ g.
-      again-by t end end₁ j j₁ (left-first most way room s l ls e g) (on-state most way room s l ls e)
-      (again s₁ t ls (begins-left s t l b g))))
+      again-by t end end₁ j
+      (cond (way .keeps && marks way room s₁ l) markLine []
+      ++ (cond (isKept way room s₁ l) (numeric room (s .place .line) l ++ (10 ∷ [])) [] ++ j₁))
+      (journal-parts most way room s l ls e)
+      (on-state most way room s l ls e)
+      (passes-then t (first .0) end₁ _ _ (first .1)
+      (passes-then (first .0) (second .0) end₁ _ _ (second .1) (again next-state (second .0) ls (second .2)))))
 
   -- "no complete line is ever lost or repeated", of bytes: for every input.
   pub replayed : (s t : State) (ls : List (List ℕ)) → Begins s t
       → Replayed most room t (streamJournal most way room s ls) (streamAfter most way room s ls)
   replayed s t ls b =
       let w = again s t ls b in
-      record { book = w .agree .book; kept = w .agree .kept; refused = w .agree .refused; again = w .same }
+      record {
+        book = w .agree .book;
+        kept = w .agree .kept;
+        refused = w .agree .refused;
+        unmarked = w .agree .unmarked;
+        again = w .same;
+      }

@@ -15,6 +15,7 @@ use Rattle.special.specs.declared.Special.the-variants as Specials
 use Rattle.file.specs.Answer as Said
 use Rattle.file.specs.Answer.{accepted}
 use Rattle.layout.specs.Book.{Book}
+use Rattle.book.specs.Rule.{Rule}
 use Rattle.book.specs.Account.{answer}
 use Rattle.book.specs.Call.{on, settle, batch}
 use Rattle.journal.specs.Grammar.{areMarks, lengthList}
@@ -104,6 +105,7 @@ printed-short (Request.Statement p) zs f = simp length-append (omega (arith, nat
 printed-short Request.Calls zs f = omega arith
 printed-short (Request.Special n) zs f = simp length-append (omega (arith, lists-short areMarks (lengthList n) zs (f .2) (f .0)))
 printed-short (Request.Batch n) zs f = file-short n zs
+printed-short Request.RoleRetired zs f = omega arith
 printed-short Request.Report zs f = omega arith
 printed-short (Request.Error e) zs f = absurd f
 
@@ -129,29 +131,32 @@ taken-accepted (Said.batched n) h = refl
 taken-accepted (Said.refusedPair n i) h = h
 
 -- The bytes of an accepted batch.
-batch-few : (b : Book) (n : ℕ) (zs : List ℤ) → n ≡ length zs → accepted (answer b (batch (batchBytes n zs))) ≡ true → length zs ≤ 8836
+batch-few : (rule : Rule) (b : Book) (n : ℕ) (zs : List ℤ) → n ≡ length zs → accepted (answer rule b (batch (batchBytes n zs))) ≡ true
+    → length zs ≤ 8836
 unfolding batchBytes
-batch-few b n zs e h =
-    omega (arith, batch-length b (batchBytes n zs) h, length-map (take (min n 32768) zs) byteOf, length-take (min n 32768) zs)
+batch-few rule b n zs e h =
+    omega (arith, batch-length rule b (batchBytes n zs) h, length-map (take (min n 32768) zs) byteOf, length-take (min n 32768) zs)
 
 -- A kept call has room: at most 16 figures of a settlement or 8,836 bytes of a batch are printed.
-pub kept-short : (b : Book) (k : ℕ) (r : Request) (zs : List ℤ) → Fitting r zs → countOf r ≡ length zs → takes (answerTo b k (asked r zs)) ≡ true
-    → length (printed r zs) ≤ 20000
-kept-short b k Request.Nothing zs f e h = omega (arith, printed-short Request.Nothing zs f)
-kept-short b k (Request.Fresh d) zs f e h = omega (arith, printed-short (Request.Fresh d) zs f)
-kept-short b k (Request.Admit p r) zs f e h = omega (arith, printed-short (Request.Admit p r) zs f)
-kept-short b k (Request.LodgeCash p q a) zs f e h = omega (arith, printed-short (Request.LodgeCash p q a) zs f)
-kept-short b k (Request.LodgeLetter p q a l m) zs f e h = omega (arith, printed-short (Request.LodgeLetter p q a l m) zs f)
-kept-short b k (Request.Release p q a) zs f e h = omega (arith, printed-short (Request.Release p q a) zs f)
-kept-short b k (Request.Settle p m n) zs f e h =
-    let x : accepted (answer b (on p (settle (m .0) (take n zs)))) ≡ true = taken-accepted (answer b (on p (settle (m .0) (take n zs)))) h in
-    omega (arith, printed-short (Request.Settle p m n) zs f, settle-few b p (m .0) (take n zs) x, length-take n zs)
-kept-short b k (Request.Annual p) zs f e h = omega (arith, printed-short (Request.Annual p) zs f)
-kept-short b k (Request.Advance t n) zs f e h = omega (arith, printed-short (Request.Advance t n) zs f)
-kept-short b k (Request.Statement p) zs f e h = omega (arith, printed-short (Request.Statement p) zs f)
-kept-short b k Request.Calls zs f e h = omega (arith, printed-short Request.Calls zs f)
-kept-short b k (Request.Special n) zs f e h = clash {t = false} (sym (special-untaken (guaranteeOf n zs)) ∙ h) refl
-kept-short b k (Request.Batch n) zs f e h =
-    omega (arith, batch-short n zs, batch-few b n zs e (taken-accepted (answer b (batch (batchBytes n zs))) h))
-kept-short b k Request.Report zs f e h = omega (arith, printed-short Request.Report zs f)
-kept-short b k (Request.Error w) zs f e h = absurd f
+pub kept-short : (rule : Rule) (b : Book) (k : ℕ) (r : Request) (zs : List ℤ) → Fitting r zs → countOf r ≡ length zs
+    → takes (answerTo rule b k (asked r zs)) ≡ true → length (printed r zs) ≤ 20000
+kept-short rule b k Request.Nothing zs f e h = omega (arith, printed-short Request.Nothing zs f)
+kept-short rule b k (Request.Fresh d) zs f e h = omega (arith, printed-short (Request.Fresh d) zs f)
+kept-short rule b k (Request.Admit p r) zs f e h = omega (arith, printed-short (Request.Admit p r) zs f)
+kept-short rule b k (Request.LodgeCash p q a) zs f e h = omega (arith, printed-short (Request.LodgeCash p q a) zs f)
+kept-short rule b k (Request.LodgeLetter p q a l m) zs f e h = omega (arith, printed-short (Request.LodgeLetter p q a l m) zs f)
+kept-short rule b k (Request.Release p q a) zs f e h = omega (arith, printed-short (Request.Release p q a) zs f)
+kept-short rule b k (Request.Settle p m n) zs f e h =
+    let x : accepted (answer rule b (on p (settle (m .0) (take n zs)))) ≡ true =
+    taken-accepted (answer rule b (on p (settle (m .0) (take n zs)))) h in
+    omega (arith, printed-short (Request.Settle p m n) zs f, settle-few rule b p (m .0) (take n zs) x, length-take n zs)
+kept-short rule b k (Request.Annual p) zs f e h = omega (arith, printed-short (Request.Annual p) zs f)
+kept-short rule b k (Request.Advance t n) zs f e h = omega (arith, printed-short (Request.Advance t n) zs f)
+kept-short rule b k (Request.Statement p) zs f e h = omega (arith, printed-short (Request.Statement p) zs f)
+kept-short rule b k Request.Calls zs f e h = omega (arith, printed-short Request.Calls zs f)
+kept-short rule b k (Request.Special n) zs f e h = clash {t = false} (sym (special-untaken (guaranteeOf n zs)) ∙ h) refl
+kept-short rule b k (Request.Batch n) zs f e h =
+    omega (arith, batch-short n zs, batch-few rule b n zs e (taken-accepted (answer rule b (batch (batchBytes n zs))) h))
+kept-short rule b k Request.RoleRetired zs f e h = omega (arith, printed-short Request.RoleRetired zs f)
+kept-short rule b k Request.Report zs f e h = omega (arith, printed-short Request.Report zs f)
+kept-short rule b k (Request.Error w) zs f e h = absurd f

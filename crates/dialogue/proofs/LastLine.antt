@@ -2,17 +2,17 @@
 -- Assumes nothing.
 use Prim.Native.Nat.{ℕ}
 use mathlib.Core.Path.{_≡_, refl, ap, _∙_}
-use mathlib.Core.Bool.{Bool, true, false, _&&_}
+use mathlib.Core.Bool.{Bool, true, false, cond, _&&_}
 use mathlib.Core.List.{List, [], _∷_, _++_, append-nil}
 use Rattle.laws.specs.Cases.{split, cond-false}
 use Rattle.journal.specs.Grammar.{parsed}
 use Rattle.answering.specs.Asked.{Asked, asked, answerTo, bookAfter}
-use Rattle.answering.specs.Kept.{takes}
+use Rattle.answering.specs.Kept.{takes, isMark, markLine}
 use Rattle.journal.specs.declared.Reason.{Reason}
 use Rattle.journal.specs.declared.Request.{Request}
 use Rattle.dialogue.specs.declared.Way.{Way}
-use Rattle.dialogue.specs.Asks.{textOf, heldBack, requestOf, asks}
-use Rattle.dialogue.specs.Turns.{State, next, answerOf, isKept, after, numeric, journalOf, ended}
+use Rattle.dialogue.specs.Asks.{textOf, heldBack, requestOf, asks, ruleAt}
+use Rattle.dialogue.specs.Turns.{State, next, marks, answerOf, isKept, after, numeric, journalOf, ended}
 use Rattle.dialogue.specs.Whole.{stateBefore, streamAfter, streamJournal, lastLine, lastWay}
 use Rattle.dialogue.proofs.Streams.{ended-state, ended-kept, on-state, on-kept}
 
@@ -22,15 +22,41 @@ torn-asks : (way : Way) (room : ℕ) (s : State) (l : List ℕ) → way .keeps �
 unfolding asks requestOf heldBack
 torn-asks way room s l e = rw e refl
 
+torn-request : (way : Way) (room : ℕ) (s : State) (l : List ℕ) → way .keeps ≡ true
+    → requestOf (lastWay way) room (s .place) l ≡ Request.Error Reason.NoNewline
+unfolding requestOf heldBack
+torn-request way room s l e = rw e refl
+
 -- It is not kept: where lines are kept it is an error.
 last-left : (way : Way) (room : ℕ) (s : State) (l : List ℕ) → isKept (lastWay way) room s l ≡ false
 unfolding isKept answerOf
 last-left way room s l =
     split (way .keeps)
     (λ e.
-    ap (λ (a : Asked). way .keeps && takes (answerTo (s .book) (next (s .place .line)) a)) (torn-asks way room s l e)
+    ap (λ (a : Asked). way .keeps && takes (answerTo (ruleAt way (s .place)) (s .book) (next (s .place .line)) a)) (torn-asks way room s l e)
     ∙ ap (λ (t : Bool). t && false) e)
     (λ e. ap (λ (t : Bool). t && takes (answerOf (lastWay way) room s l)) e)
+
+-- Nor does it end the first stretch of a journal that is kept: it is no mark.
+none-ends : (t u : Bool) → cond t (u && false) (u && false) ≡ false
+none-ends true true = refl
+none-ends true false = refl
+none-ends false true = refl
+none-ends false false = refl
+
+torn-marks : (way : Way) (room : ℕ) (s : State) (l : List ℕ) → way .keeps ≡ true → marks (lastWay way) room s l ≡ false
+unfolding marks
+torn-marks way room s l e =
+    let u = s .place .unmarked in
+    ap (λ (t : Bool). cond (way .replays) (u && isMark (requestOf (lastWay way) room (s .place) l)) (u && t)) (last-left way room s l)
+    ∙ ap (λ (r : Request). cond (way .replays) (u && isMark r) (u && false)) (torn-request way room s l e)
+    ∙ none-ends (way .replays) u
+
+last-unmarked : (way : Way) (room : ℕ) (s : State) (l : List ℕ) → (way .keeps && marks (lastWay way) room s l) ≡ false
+last-unmarked way room s l =
+    split (way .keeps)
+    (λ e. ap (λ (t : Bool). t && marks (lastWay way) room s l) e ∙ torn-marks way room s l e)
+    (λ e. ap (λ (t : Bool). t && marks (lastWay way) room s l) e)
 
 module _ (most : ℕ) (way : Way) (room : ℕ) (s : State) where
   -- Nothing of it is in the journal.
@@ -43,6 +69,7 @@ module _ (most : ℕ) (way : Way) (room : ℕ) (s : State) where
       split (ended (lastWay way) (s .place)) (λ e. ended-kept most (lastWay way) room s ((b ∷ r) ∷ []) e)
       (λ e.
       on-kept most (lastWay way) room s (b ∷ r) [] e ∙ append-nil (journalOf (lastWay way) room t (b ∷ r))
+      ∙ ap (λ (z : Bool). cond z markLine [] ++ cond (isKept (lastWay way) room t (b ∷ r)) k []) (last-unmarked way room t (b ∷ r))
       ∙ cond-false (isKept (lastWay way) room t (b ∷ r)) k [] (last-left way room t (b ∷ r)))
 
   -- In the kept way it leaves the book.
@@ -54,4 +81,4 @@ module _ (most : ℕ) (way : Way) (room : ℕ) (s : State) where
       split (ended (lastWay way) (s .place)) (λ e. ap (λ (z : State). z .book) (ended-state most (lastWay way) room s ((b ∷ r) ∷ []) e))
       (λ e.
       ap (λ (z : State). z .book) (on-state most (lastWay way) room s (b ∷ r) [] e)
-      ∙ ap (bookAfter (s .book)) (torn-asks way room t (b ∷ r) keeps))
+      ∙ ap (bookAfter (ruleAt way (s .place)) (s .book)) (torn-asks way room t (b ∷ r) keeps))

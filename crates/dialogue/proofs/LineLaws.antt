@@ -2,7 +2,7 @@
 -- Assumes nothing.
 use Prim.Native.Nat.{ℕ, _+_, _%_, _^_, _≤_}
 use mathlib.Core.Path.{_≡_, refl, sym, ap, subst, _∙_}
-use mathlib.Core.Bool.{Bool, true, false, cond, _&&_}
+use mathlib.Core.Bool.{Bool, true, false, cond, not, _&&_}
 use mathlib.Core.List.{List, [], _∷_, _++_}
 use native.Mathlib.Omega.{arith}
 use lib.IntN.{ℤ}
@@ -11,29 +11,31 @@ use Rattle.laws.specs.Cases.{split, clash, by-test, and-right}
 use Rattle.layout.specs.Book.{Book}
 use Rattle.layout.specs.Words.{bookOfWords}
 use Rattle.layout.specs.WellFormed.{WellFormed}
+use Rattle.book.specs.Rule.{Rule, oldRule, newRule}
 use Rattle.journal.specs.Grammar.{parsed}
 use Rattle.journal.specs.Steps.{ParsedIs}
 use Rattle.journal.specs.declared.Request.{Request}
 use Rattle.journal.proofs.Counts.{IsCall, parsed-counted}
 use Rattle.printing.specs.declared.Answer.{Answer}
 use Rattle.printing.specs.Answers.{answerLine}
-use Rattle.printing.specs.Lines.{printed}
+use Rattle.printing.specs.Decimals.{spaced, joined}
+use Rattle.printing.specs.Lines.{callWords, printed}
 use Rattle.printing.specs.Placed.{Put}
 use Rattle.printing.specs.PlacedLaws.{put-then, put-none}
 use Rattle.printing.proofs.ParsedFits.{parsed-fitting}
 use Rattle.report.specs.Table.{reportText}
 use Rattle.answering.specs.Asked.{Asked, asked, answerTo, bookAfter}
 use Rattle.answering.specs.InWords.{AnsweredWords}
-use Rattle.answering.specs.Kept.{takes, refuses, keptLine}
+use Rattle.answering.specs.Kept.{takes, refuses, isMark, keptLine, markLine}
 use Rattle.answering.specs.Lines.{lineRequest, LineIs}
 use Rattle.answering.proofs.OwnNumbers.{own, asked-cut}
 use Rattle.answering.proofs.ParsedLines.{parsed-own, call-is-parsed}
 use Rattle.dialogue.specs.declared.Way.{Way}
 use Rattle.dialogue.specs.declared.Place.{Place}
-use Rattle.dialogue.specs.Asks.{textOf, heldBack, requestOf, asks, LineAsked}
+use Rattle.dialogue.specs.Asks.{textOf, heldBack, requestOf, asks, ruleAt, LineAsked}
 use Rattle.dialogue.specs.Said.{speaks, Spoken, said, Said, wantsTable, tabled, Tabled, Added}
-use Rattle.dialogue.specs.Turns.{next, counted, further, answerOf, isKept, after, bytesOf, numeric, journalOf}
-use Rattle.dialogue.specs.Answers.{stateOf, LineTaken}
+use Rattle.dialogue.specs.Turns.{next, counted, endsStretch, marks, further, answerOf, isKept, after, bytesOf, numeric, journalOf}
+use Rattle.dialogue.specs.Answers.{stateOf, Turned, LineTaken}
 use Rattle.dialogue.proofs.AskLaws.{held-call}
 use Rattle.dialogue.proofs.KeptLengths.{kept-short}
 use Rattle.dialogue.proofs.Lengths.{said-short}
@@ -90,29 +92,56 @@ pub as-many : (t : Bool) (n : ℕ) → t ≡ false → n ≡ counted t n
 as-many t n h = rw h refl
 
 -- The place behind a line.
-pub place-further : (p : Place) (kept refused : Bool) (a b c : ℕ) → a ≡ next (p .line) → b ≡ counted refused (p .refused) → c ≡ counted kept (p .kept)
-    → record { line = a; refused = b; kept = c; long = false } ≡ further p kept refused
-place-further p kept refused a b c x y z = λ i. record { line = x i; refused = y i; kept = z i; long = false }
+pub place-further : (p : Place) (kept refused marked : Bool) (a b c : ℕ) → a ≡ next (p .line) → b ≡ counted refused (p .refused)
+    → c ≡ counted kept (p .kept)
+    → record { line = a; refused = b; kept = c; long = false; unmarked = p .unmarked && not marked } ≡ further p kept refused marked
+place-further p kept refused marked a b c x y z =
+    λ i. record { line = x i; refused = y i; kept = z i; long = false; unmarked = p .unmarked && not marked }
+
+-- Whether a line ends the first stretch of a journal, by the tests of the code.
+pub ends-replayed : (way : Way) (p : Place) (request : Request) (kept r : Bool) → way .replays ≡ true → r ≡ isMark request
+    → (p .unmarked && r) ≡ endsStretch way p request kept
+ends-replayed way p request kept r e h = rw e (ap (λ (z : Bool). p .unmarked && z) h)
+
+pub ends-kept : (way : Way) (p : Place) (request : Request) (kept : Bool) → way .replays ≡ false
+    → (p .unmarked && kept) ≡ endsStretch way p request kept
+ends-kept way p request kept e = rw e refl
+
+-- The rule that a line's call is made under, by the test of the code.
+pub by-old-rule : (way : Way) (p : Place) (l : List ℕ) (n : ℕ) (a : Asked) (x : Answer) (m : List ℕ) → (way .replays && p .unmarked) ≡ true
+    → AnsweredWords oldRule l n a x m → AnsweredWords (ruleAt way p) l n a x m
+by-old-rule way p l n a x m e g = rw e g
+
+pub by-new-rule : (way : Way) (p : Place) (l : List ℕ) (n : ℕ) (a : Asked) (x : Answer) (m : List ℕ) → (way .replays && p .unmarked) ≡ false
+    → AnsweredWords newRule l n a x m → AnsweredWords (ruleAt way p) l n a x m
+by-new-rule way p l n a x m e g = rw e g
+
+-- The line of the mark.
+pub put-marked : (t : Bool) (ys : List ℤ) (e f : List ℕ) (at r : ℕ) → t ≡ true → Put (keptLine Request.RoleRetired ys) e at r f
+    → Put (cond t markLine []) e at r f
+unfolding keptLine
+put-marked t ys e f at r h x = rw h x
 
 -- ---- the call that is kept
 
 -- What is taken is a call.
-pub is-call : (b : Book) (n : ℕ) (q : Request) (ys : List ℤ) → takes (answerTo b n (asked q ys)) ≡ true → IsCall q
-is-call b n Request.Nothing ys h = tt
-is-call b n (Request.Fresh d) ys h = tt
-is-call b n (Request.Admit p r) ys h = tt
-is-call b n (Request.LodgeCash p q a) ys h = tt
-is-call b n (Request.LodgeLetter p q a f l) ys h = tt
-is-call b n (Request.Release p q a) ys h = tt
-is-call b n (Request.Settle p m k) ys h = tt
-is-call b n (Request.Annual p) ys h = tt
-is-call b n (Request.Advance t k) ys h = tt
-is-call b n (Request.Statement p) ys h = tt
-is-call b n Request.Calls ys h = tt
-is-call b n (Request.Special k) ys h = tt
-is-call b n (Request.Batch k) ys h = tt
-is-call b n Request.Report ys h = tt
-is-call b n (Request.Error e) ys h = clash {t = false} h refl
+pub is-call : (rule : Rule) (b : Book) (n : ℕ) (q : Request) (ys : List ℤ) → takes (answerTo rule b n (asked q ys)) ≡ true → IsCall q
+is-call rule b n Request.Nothing ys h = tt
+is-call rule b n (Request.Fresh d) ys h = tt
+is-call rule b n (Request.Admit p r) ys h = tt
+is-call rule b n (Request.LodgeCash p q a) ys h = tt
+is-call rule b n (Request.LodgeLetter p q a f l) ys h = tt
+is-call rule b n (Request.Release p q a) ys h = tt
+is-call rule b n (Request.Settle p m k) ys h = tt
+is-call rule b n (Request.Annual p) ys h = tt
+is-call rule b n (Request.Advance t k) ys h = tt
+is-call rule b n (Request.Statement p) ys h = tt
+is-call rule b n Request.Calls ys h = tt
+is-call rule b n (Request.Special k) ys h = tt
+is-call rule b n (Request.Batch k) ys h = tt
+is-call rule b n Request.RoleRetired ys h = tt
+is-call rule b n Request.Report ys h = tt
+is-call rule b n (Request.Error e) ys h = clash {t = false} h refl
 
 -- The request of a kept line is the one that was parsed, and its numbers are its own in the lent slice.
 record KeptCall (l : List ℕ) (room : ℕ) (q : Request) (ys : List ℤ) : Type 0 where
@@ -146,15 +175,15 @@ kept-printed l room q ys k =
     ∙ ap (λ (zs : List ℤ). printed (parsed room l .request) zs ++ (10 ∷ [])) (k .mine)
 
 -- It has room.
-room-kept : (b : Book) (n : ℕ) (l : List ℕ) (room : ℕ) (q : Request) (ys : List ℤ) → room ≤ 18446744073709551615 → KeptCall l room q ys
-    → takes (answerTo b n (asked q ys)) ≡ true → length (printed (parsed room l .request) (parsed room l .numbers)) ≤ 20000
-room-kept b n l room q ys h k t =
+room-kept : (rule : Rule) (b : Book) (n : ℕ) (l : List ℕ) (room : ℕ) (q : Request) (ys : List ℤ) → room ≤ 18446744073709551615 → KeptCall l room q ys
+    → takes (answerTo rule b n (asked q ys)) ≡ true → length (printed (parsed room l .request) (parsed room l .numbers)) ≤ 20000
+room-kept rule b n l room q ys h k t =
     let r = parsed room l .request in
     let zs = parsed room l .numbers in
     let e : asked q ys ≡ asked r zs =
     ap (λ (z : Request). asked z ys) (k .same) ∙ sym (asked-cut r ys) ∙ ap (asked r) (k .mine) in
-    let t2 : takes (answerTo b n (asked r zs)) ≡ true = subst (λ (a : Asked). takes (answerTo b n a) ≡ true) e t in
-    kept-short b n r zs (parsed-fitting room l h (k .call)) (parsed-counted room l (k .call)) t2
+    let t2 : takes (answerTo rule b n (asked r zs)) ≡ true = subst (λ (a : Asked). takes (answerTo rule b n a) ≡ true) e t in
+    kept-short rule b n r zs (parsed-fitting room l h (k .call)) (parsed-counted room l (k .call)) t2
 
 -- A kept line's request was not held back.
 held-kept : (way : Way) (p : Place) (l : List ℕ) (zs ys : List ℤ) (request : Request) → LineAsked way p l zs request ys → IsCall request
@@ -168,89 +197,141 @@ held-kept way p l zs ys request x c =
     subst (λ (z : Request). KeptCall text (length zs) z ys) (sym e)
     (line-call (p .long) (p .kept) text zs ys q (subst IsCall e c) (x .line))
 
+-- The mark has 13 bytes.
+mark-few : (t : Bool) → length (cond t markLine []) ≤ 13
+unfolding printed callWords joined spaced
+mark-few true = omega arith
+mark-few false = omega arith
+
 -- ---- the line
 
 module _ (way : Way) (p : Place) (l : List ℕ) (zs ys : List ℤ) (request : Request) (answer : Answer) (words m : List ℕ) (number : ℕ)
-    (is : LineAsked way p l zs request ys) (n : number ≡ next (p .line)) (given : AnsweredWords words number (asked request ys) answer m) where
+    (is : LineAsked way p l zs request ys) (n : number ≡ next (p .line)) (given : AnsweredWords (ruleAt way p) words number (asked request ys) answer m) where
+  abbrev rule : Rule
+  rule = ruleAt way p
+
   room : ℕ
   room = length zs
 
   answered-line : answer ≡ answerOf way (length zs) (stateOf words p) l
   unfolding answerOf
   answered-line =
-      given .given .answered ∙ ap (λ (k : ℕ). answerTo (bookOfWords words) k (asked request ys)) n
-      ∙ ap (answerTo (bookOfWords words) (next (p .line))) (is .same)
+      given .given .answered ∙ ap (λ (k : ℕ). answerTo rule (bookOfWords words) k (asked request ys)) n
+      ∙ ap (answerTo rule (bookOfWords words) (next (p .line))) (is .same)
 
-  left-book : bookOfWords m ≡ bookAfter (bookOfWords words) (asks way (length zs) p l)
-  left-book = given .given .left ∙ ap (bookAfter (bookOfWords words)) (is .same)
+  left-book : bookOfWords m ≡ bookAfter (ruleAt way p) (bookOfWords words) (asks way (length zs) p l)
+  left-book = given .given .left ∙ ap (bookAfter rule (bookOfWords words)) (is .same)
 
   module _ (t : Bool) (kept : t ≡ (way .keeps && takes answer)) where
     kept-line : isKept way (length zs) (stateOf words p) l ≡ t
     unfolding isKept
     kept-line = ap (λ (a : Answer). way .keeps && takes a) (sym answered-line) ∙ sym kept
 
-    left-state : (q : Place) (u : Bool) → u ≡ refuses answer → q ≡ further p t u → stateOf m q ≡ after way (length zs) (stateOf words p) l
-    unfolding after
-    left-state q u r e =
-        let f : q ≡ further p (isKept way (length zs) (stateOf words p) l) (refuses (answerOf way (length zs) (stateOf words p) l)) =
-        e ∙ ap (λ (z : Bool). further p z u) (sym kept-line)
-        ∙ ap (further p (isKept way (length zs) (stateOf words p) l)) (r ∙ ap refuses answered-line) in
-        λ i. record { book = left-book i; place = f i }
-
     taken-call : t ≡ true → KeptCall (textOf (p .line) l) (length zs) request ys
     taken-call h =
         held-kept way p l zs ys request is
-        (is-call (bookOfWords words) number request ys
+        (is-call rule (bookOfWords words) number request ys
         (ap takes (sym (given .given .answered)) ∙ and-right (way .keeps) (takes answer) (sym kept ∙ h)))
 
-    journal-line : cond t (keptLine request ys) [] ≡ journalOf way (length zs) (stateOf words p) l
-    unfolding journalOf numeric
-    journal-line =
+    -- its own line
+    own-line : cond t (keptLine request ys) []
+        ≡ cond (isKept way (length zs) (stateOf words p) l) (numeric (length zs) (p .line) l ++ (10 ∷ [])) []
+    unfolding numeric
+    own-line =
         split t
         (λ h. rw (kept-line, h) (kept-printed (textOf (p .line) l) (length zs) request ys (taken-call h)))
         (λ h. rw (kept-line, h) refl)
 
-    journal-few : length zs ≤ 18446744073709551615 → length (journalOf way (length zs) (stateOf words p) l) ≤ 20480
-    unfolding journalOf numeric
-    journal-few long =
+    own-few : length zs ≤ 18446744073709551615 → length (cond t (keptLine request ys) []) ≤ 20001
+    own-few long =
         split t
         (λ h.
-        rw (kept-line, h)
+        rw (h, kept-printed (textOf (p .line) l) (length zs) request ys (taken-call h))
         (omega (
           arith,
           length-append (printed (parsed (length zs) (textOf (p .line) l) .request) (parsed (length zs) (textOf (p .line) l) .numbers)) (10 ∷ []),
-          room-kept (bookOfWords words) number (textOf (p .line) l) (length zs) request ys long (taken-call h)
+          room-kept rule (bookOfWords words) number (textOf (p .line) l) (length zs) request ys long (taken-call h)
               (ap takes (sym (given .given .answered)) ∙ and-right (way .keeps) (takes answer) (sym kept ∙ h)),
         )))
-        (λ h. rw (kept-line, h) (omega arith))
+        (λ h. rw h (omega arith))
 
-pub added : (request : Request) (answer : Answer) (kept : Bool) (ys : List ℤ) (words j k : List ℕ) (x y : ℕ) (e f g : List ℕ) (at a b : ℕ)
-    → Put (cond kept (keptLine request ys) []) j x y k → Said answer e at a f → Tabled request (bookOfWords words) f a b g
-    → Added request answer kept ys words j x e at y k b g
-added request answer kept ys words j k x y e f g at a b w c d =
+    module _ (v : Bool) (ends : v ≡ endsStretch way p request t) where
+      marked-line : marks way (length zs) (stateOf words p) l ≡ v
+      unfolding marks
+      marked-line =
+          ap (λ (z : Bool). endsStretch way p (requestOf way (length zs) p l) z) kept-line
+          ∙ ap (λ (r : Request). endsStretch way p r t) (sym (is .request))
+          ∙ sym ends
+
+      left-state : (q : Place) (u : Bool) → u ≡ refuses answer → q ≡ further p t u v → stateOf m q ≡ after way (length zs) (stateOf words p) l
+      unfolding after
+      left-state q u r e =
+          let f : q
+          ≡ further p (isKept way (length zs) (stateOf words p) l) (refuses (answerOf way (length zs) (stateOf words p) l))
+          (marks way (length zs) (stateOf words p) l) =
+          e ∙ ap (λ (z : Bool). further p z u v) (sym kept-line)
+          ∙ ap (λ (z : Bool). further p (isKept way (length zs) (stateOf words p) l) z v) (r ∙ ap refuses answered-line)
+          ∙ ap (further p (isKept way (length zs) (stateOf words p) l) (refuses (answerOf way (length zs) (stateOf words p) l))) (sym marked-line) in
+          λ i. record { book = left-book i; place = f i }
+
+      journal-line : cond (way .keeps && v) markLine [] ++ cond t (keptLine request ys) [] ≡ journalOf way (length zs) (stateOf words p) l
+      unfolding journalOf
+      journal-line =
+          ap (λ (z : Bool). cond (way .keeps && z) markLine [] ++ cond t (keptLine request ys) []) (sym marked-line)
+          ∙ ap (λ (z : List ℕ). cond (way .keeps && marks way (length zs) (stateOf words p) l) markLine [] ++ z) own-line
+
+      journal-few : length zs ≤ 18446744073709551615 → length (journalOf way (length zs) (stateOf words p) l) ≤ 20480
+      journal-few long =
+          rw (← journal-line)
+          (omega (
+            arith,
+            length-append (cond (way .keeps && v) markLine []) (cond t (keptLine request ys) []),
+            own-few long,
+            mark-few (way .keeps && v),
+          ))
+
+pub added : (request : Request) (answer : Answer) (kept marked : Bool) (ys : List ℤ) (words j i k : List ℕ) (x o y : ℕ) (e f g : List ℕ)
+    (at a b : ℕ) → Put (cond marked markLine []) j x o i → Put (cond kept (keptLine request ys) []) i o y k → Said answer e at a f
+    → Tabled request (bookOfWords words) f a b g → Added request answer kept marked ys words j x e at y k b g
+added request answer kept marked ys words j i k x o y e f g at a b v w c d =
     record {
-      journal = w;
+      journal = put-then (cond marked markLine []) (cond kept (keptLine request ys) []) j i k x o y v w;
       bytes = put-then (said answer) (tabled request (bookOfWords words)) e f g at a b (c .put) (d .put);
       most = omega (arith, length-append (said answer) (tabled request (bookOfWords words)), c .most, d .most);
     }
 
+-- What a line leaves, by the tests of the code.
+pub turned : (way : Way) (p q : Place) (request : Request) (answer : Answer) (ys : List ℤ) (words : List ℕ) (t t₁ u v : Bool) (j k : List ℕ)
+    (x y : ℕ) (e f : List ℕ) (at r : ℕ) → t₁ ≡ takes answer → t ≡ (way .keeps && t₁) → v ≡ endsStretch way p request t
+    → Added request answer t (way .keeps && v) ys words j x e at y k r f → u ≡ refuses answer → q ≡ further p t u v
+    → Turned way p request answer ys words j x e at q y k r f
+turned way p q request answer ys words t t₁ u v j k x y e f at r h₁ h ends c w d =
+    record {
+      kept = t;
+      whether = h ∙ ap (λ (z : Bool). way .keeps && z) h₁;
+      added = rw (← ends) c;
+      place = d ∙ ap (λ (z : Bool). further p t z v) w ∙ ap (further p t (refuses answer)) ends;
+    }
+
 pub line-taken : (way : Way) (p q : Place) (l : List ℕ) (zs ys : List ℤ) (request : Request) (answer : Answer) (words m : List ℕ)
-    (number : ℕ) (t t₁ u : Bool)
-    (j k : List ℕ) (x y : ℕ) (e f : List ℕ) (at r : ℕ) → LineAsked way p l zs request ys → number ≡ next (p .line)
-    → AnsweredWords words number (asked request ys) answer m → t₁ ≡ takes answer → t ≡ (way .keeps && t₁)
-    → Added request answer t ys m j x e at y k r f
-    → u ≡ refuses answer → q ≡ further p t u → length zs ≤ 18446744073709551615 → LineTaken way (length zs) words p l j x e at m q y k r f
+    (number : ℕ) (j k : List ℕ) (x y : ℕ) (e f : List ℕ) (at r : ℕ) → LineAsked way p l zs request ys → number ≡ next (p .line)
+    → AnsweredWords (ruleAt way p) words number (asked request ys) answer m → Turned way p request answer ys m j x e at q y k r f
+    → length zs ≤ 18446744073709551615 → LineTaken way (length zs) words p l j x e at m q y k r f
 unfolding bytesOf
-line-taken way p q l zs ys request answer words m number t t₁ u j k x y e f at r is n given h₁ h c v d long =
-    let kept : t ≡ (way .keeps && takes answer) = h ∙ ap (λ (z : Bool). way .keeps && z) h₁ in
+line-taken way p q l zs ys request answer words m number j k x y e f at r is n given turn long =
+    let t = turn .kept in
+    let kept = turn .whether in
+    let v = endsStretch way p request t in
+    let c = turn .added in
     let i = answered-line way p l zs ys request answer words m number is n given in
     let o = left-book way p l zs ys request answer words m number is n given in
     record {
-      left = left-state way p l zs ys request answer words m number is n given t kept q u v d;
+      left = left-state way p l zs ys request answer words m number is n given t kept v refl q (refuses answer) refl (turn .place);
       journal =
-          subst (λ (z : List ℕ). Put z j x y k) (journal-line way p l zs ys request answer words m number is n given t kept) (c .journal);
+          subst (λ (z : List ℕ). Put z j x y k) (journal-line way p l zs ys request answer words m number is n given t kept v refl)
+          (c .journal);
       bytes = rw (← i, ← o, ← is .request) (c .bytes);
-      fewKept = journal-few way p l zs ys request answer words m number is n given t kept long;
+      fewKept = journal-few way p l zs ys request answer words m number is n given t kept v refl long;
       fewSaid = rw (← i, ← o, ← is .request) (c .most);
       formed = given .formed;
     }

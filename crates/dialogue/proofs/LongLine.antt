@@ -11,8 +11,8 @@ use Rattle.answering.specs.Asked.{answerTo, bookAfter}
 use Rattle.answering.specs.Kept.{takes, refuses}
 use Rattle.answering.specs.Lines.{lineRequest}
 use Rattle.dialogue.specs.declared.Way.{Way}
-use Rattle.dialogue.specs.Asks.{textOf, requestOf, asks}
-use Rattle.dialogue.specs.Turns.{State, next, further, answerOf, isKept, after}
+use Rattle.dialogue.specs.Asks.{textOf, heldBack, requestOf, asks, ruleAt}
+use Rattle.dialogue.specs.Turns.{State, next, endsStretch, marks, further, answerOf, isKept, after}
 use Rattle.dialogue.specs.Whole.{knownPlace}
 use Rattle.dialogue.proofs.AskLaws.{held-asks}
 
@@ -34,14 +34,15 @@ module _ (way : Way) (room : ℕ) (s : State) where
 
   long-answer : (l m : List ℕ) → answerOf way room (knowing true s) l ≡ answerOf way room (knowing true s) m
   unfolding answerOf
-  long-answer l m = ap (answerTo (s .book) (next (s .place .line))) (long-asks l m)
+  long-answer l m = ap (answerTo (ruleAt way (s .place)) (s .book) (next (s .place .line))) (long-asks l m)
 
   -- The state behind it does not depend on its bytes.
   pub long-after : (l m : List ℕ) → after way room (knowing true s) l ≡ after way room (knowing true s) m
-  unfolding after isKept
+  unfolding after isKept marks requestOf lineRequest
   long-after l m =
       λ i. record {
-        book = bookAfter (s .book) (long-asks l m i);
+        book = bookAfter (ruleAt way (s .place)) (s .book) (long-asks l m i);
         place =
-            further (knownPlace true (s .place)) (way .keeps && takes (long-answer l m i)) (refuses (long-answer l m i));
+            further (knownPlace true (s .place)) (way .keeps && takes (long-answer l m i)) (refuses (long-answer l m i))
+            (endsStretch way (knownPlace true (s .place)) (heldBack way (Request.Error Reason.TooLong)) (way .keeps && takes (long-answer l m i)));
       }

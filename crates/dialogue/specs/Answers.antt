@@ -5,17 +5,21 @@ use mathlib.Core.Path.{_≡_}
 use mathlib.Core.Bool.{Bool, true, not, _&&_, _||_}
 use mathlib.Core.List.{List, [], _∷_}
 use lib.Dec.{eqb, leb}
+use lib.IntN.{ℤ}
 use lib.ListN.{length, take, drop}
 use Rattle.layout.specs.Words.{bookOfWords}
 use Rattle.layout.specs.WellFormed.{WellFormed}
+use Rattle.journal.specs.declared.Request.{Request}
+use Rattle.printing.specs.declared.Answer.{Answer}
 use Rattle.printing.specs.Placed.{Put}
 use Rattle.answering.specs.Asked.{Asked}
-use Rattle.answering.specs.Session.{bookOf}
+use Rattle.answering.specs.Kept.{takes, refuses}
 use Rattle.dialogue.specs.declared.Way.{Way}
 use Rattle.dialogue.specs.declared.Place.{Place}
 use Rattle.dialogue.specs.Split.{linesIn, restIn}
-use Rattle.dialogue.specs.Turns.{State, after, bytesOf, journalOf, ended, afterAll, allBytes, allJournal}
-use Rattle.dialogue.specs.Decided.{decidedBytes}
+use Rattle.dialogue.specs.Said.{Added}
+use Rattle.dialogue.specs.Turns.{State, endsStretch, further, after, bytesOf, journalOf, ended, afterAll, allBytes, allJournal}
+use Rattle.dialogue.specs.Decided.{Led, decidedBytes}
 
 -- The most bytes that one line adds to the journal and to the answers.
 abbrev pub mostKept : ℕ
@@ -27,6 +31,14 @@ mostSaid = 16384
 -- The state of words and a place.
 abbrev pub stateOf : List ℕ → Place → State
 stateOf words p = record { book = bookOfWords words; place = p }
+
+-- A line with a request and an answer, on the words that it left: what it adds, and the place q behind it.
+pub record Turned (way : Way) (p : Place) (request : Request) (answer : Answer) (numbers : List ℤ) (words j : List ℕ) (x : ℕ) (e : List ℕ) (at : ℕ)
+    (q : Place) (y : ℕ) (k : List ℕ) (r : ℕ) (f : List ℕ) : Type 0 where
+  pub kept : Bool
+  pub whether : kept ≡ (way .keeps && takes answer)
+  pub added : Added request answer kept (way .keeps && endsStretch way p request kept) numbers words j x e at y k r f
+  pub place : q ≡ further p kept (refuses answer) (endsStretch way p request kept)
 
 -- One line taken: the words m and the place q that it leaves, the journal's slice, which was j and is k, filled up to x and then up to y, and
 -- the answers', which was e and is f, filled up to `at` and then up to r.
@@ -69,4 +81,4 @@ pub record Taken (way : Way) (room : ℕ) (s : State) (input : List ℕ) (used :
 pub record Answers (way : Way) (room : ℕ) (s : State) (input : List ℕ) (used : ℕ) (t : State) (j : ℕ) (k : List ℕ) (r : ℕ) (f : List ℕ) : Type 0 where
   pub taken : Taken way room s input used t j k r f
   pub all : goesOn way (t .place) j (length k) r (length f) ≡ true → linesIn (drop used input) ≡ []
-  pub decided : (seen : List Asked) → bookOf seen ≡ s .book → take r f ≡ decidedBytes way room (s .place) seen (linesIn (take used input))
+  pub decided : (seen : List Asked) → Led way s seen → take r f ≡ decidedBytes way room (s .place) seen (linesIn (take used input))

@@ -11,22 +11,26 @@ use Rattle.dialogue.specs.Split.{linesIn, restIn}
 use Rattle.dialogue.specs.Turns.{State}
 use Rattle.dialogue.specs.Whole.{streamAfter, streamBytes, streamJournal, streamAsks, lastLine, lastWay, wholeBytes, wholeDecided}
 
--- How a journal is replayed: as the kept way takes an input, up to the first line that is refused or an error.
+-- How a journal is replayed: as the kept way takes an input, up to the first line that is refused or an error, its first stretch by the old
+-- admission rule.
 abbrev pub replaying : Way
-replaying = record { keeps = true; reads = false; torn = false; bails = true; gathers = true }
+replaying = record { keeps = true; reads = false; torn = false; bails = true; gathers = true; replays = true }
 
--- A state t from which a journal may be replayed that was begun at state s: the same book, as many calls kept, and no line refused.
+-- A state t from which a journal may be replayed that was begun at state s: the same book, as many calls kept, no line refused, and the mark there
+-- or not.
 pub record Begins (s t : State) : Type 0 where
   pub book : t .book ≡ s .book
   pub kept : t .place .kept ≡ s .place .kept
   pub refused : t .place .refused ≡ 0
+  pub unmarked : t .place .unmarked ≡ s .place .unmarked
 
 -- "no complete line is ever lost or repeated": the bytes j that a journal has of an input, taken again from t, lead to the book b and the count of
--- kept calls that the input led to; none of their lines is refused, and each is kept again, in the same bytes.
+-- kept calls that the input led to, and to whether the mark is there; none of their lines is refused, and each is kept again, in the same bytes.
 pub record Replayed (most room : ℕ) (t : State) (j : List ℕ) (end : State) : Type 0 where
   pub book : streamAfter most replaying room t (linesIn j) .book ≡ end .book
   pub kept : streamAfter most replaying room t (linesIn j) .place .kept ≡ end .place .kept
   pub refused : streamAfter most replaying room t (linesIn j) .place .refused ≡ 0
+  pub unmarked : streamAfter most replaying room t (linesIn j) .place .unmarked ≡ end .place .unmarked
   pub again : streamJournal most replaying room t (linesIn j) ≡ j
 
 -- An input cut in two at any byte: what is answered, what is kept and the state are those of the first part, and then of what it leaves with the

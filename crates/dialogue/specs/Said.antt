@@ -14,7 +14,7 @@ use Rattle.printing.specs.declared.Answer.{Answer}
 use Rattle.printing.specs.Answers.{answerLine}
 use Rattle.printing.specs.Placed.{Put}
 use Rattle.report.specs.Table.{reportText}
-use Rattle.answering.specs.Kept.{keptLine}
+use Rattle.answering.specs.Kept.{keptLine, markLine}
 
 -- Whether an answer says something: nothing is said to an empty line.
 abbrev pub speaks : Answer → Bool
@@ -78,6 +78,7 @@ wantsTable (Request.Statement p) = false
 wantsTable Request.Calls = false
 wantsTable (Request.Special n) = false
 wantsTable (Request.Batch n) = false
+wantsTable Request.RoleRetired = false
 wantsTable (Request.Error e) = false
 
 -- `report`: the table of the book.
@@ -93,10 +94,11 @@ pub record Tabled (request : Request) (b : Book) (e : List ℕ) (at r : ℕ) (f 
   pub put : Put (tabled request b) e at r f
   pub most : length (tabled request b) ≤ 15000
 
--- What a line with a request and an answer adds, on the words that it left: its line of the journal, where it is kept, and what is said and shown.
-pub record Added (request : Request) (answer : Answer) (kept : Bool) (numbers : List ℤ) (words j : List ℕ) (x : ℕ) (e : List ℕ)
+-- What a line with a request and an answer adds, on the words that it left: the mark where it ends the first stretch of a journal, its line of the
+-- journal, where it is kept, and what is said and shown.
+pub record Added (request : Request) (answer : Answer) (kept marked : Bool) (numbers : List ℤ) (words j : List ℕ) (x : ℕ) (e : List ℕ)
     (at y : ℕ) (k : List ℕ) (r : ℕ)
     (f : List ℕ) : Type 0 where
-  pub journal : Put (cond kept (keptLine request numbers) []) j x y k
+  pub journal : Put (cond marked markLine [] ++ cond kept (keptLine request numbers) []) j x y k
   pub bytes : Put (said answer ++ tabled request (bookOfWords words)) e at r f
   pub most : length (said answer ++ tabled request (bookOfWords words)) ≤ 16384

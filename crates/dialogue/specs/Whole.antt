@@ -15,7 +15,7 @@ use Rattle.dialogue.specs.Decided.{decidedOf, decidedPlace}
 
 -- The place at which a line is known to be too long, or not.
 abbrev pub knownPlace : Bool → Place → Place
-knownPlace long p = record { line = p .line; refused = p .refused; kept = p .kept; long = long }
+knownPlace long p = record { line = p .line; refused = p .refused; kept = p .kept; long = long; unmarked = p .unmarked }
 
 -- "No line is too long to be answered: longer than the buffer is an `error`": before line l of an input, where the buffer has `most` bytes.
 abbrev pub placeBefore : ℕ → Place → List ℕ → Place
@@ -74,7 +74,15 @@ lastLine [] = []
 lastLine (b ∷ r) = (b ∷ r) ∷ []
 
 abbrev pub lastWay : Way → Way
-lastWay way = record { keeps = way .keeps; reads = way .reads; torn = way .keeps; bails = way .bails; gathers = way .gathers }
+lastWay way =
+    record {
+      keeps = way .keeps;
+      reads = way .reads;
+      torn = way .keeps;
+      bails = way .bails;
+      gathers = way .gathers;
+      replays = way .replays;
+    }
 
 -- The whole input: the bytes of its answers, and those by the reading of the history.
 unfoldable pub wholeBytes : ℕ → Way → ℕ → State → List ℕ → List ℕ

@@ -7,23 +7,26 @@ pub use lines::answer_line;
 pub use lines::answer_lines;
 
 // How the lines of an input are taken: whether accepted changes are kept in a journal, whether only questions are answered, whether what stands
-// in the place of a line lacks its newline and is an error, whether the first refusal or error is the last line, and whether lines behind one
-// that is kept are taken before the journal's bytes are written.
+// in the place of a line lacks its newline and is an error, whether the first refusal or error is the last line, whether lines behind one
+// that is kept are taken before the journal's bytes are written, and whether they are those of a journal that is replayed, whose first stretch is
+// taken by the old admission rule (paper 02, Ask 3).
 pub struct Way {
     pub keeps: bool,
     pub reads: bool,
     pub torn: bool,
     pub bails: bool,
     pub gathers: bool,
+    pub replays: bool,
 }
 
-// How far an input is taken: its lines, those of them that were refused or an error, the calls kept in the journal, and whether the line that
-// has begun is too long.
+// How far an input is taken: its lines, those of them that were refused or an error, the calls kept in the journal, whether the line that has
+// begun is too long, and whether the journal has no mark yet that ends its first stretch.
 pub struct Place {
     pub line: u64,
     pub refused: u64,
     pub kept: u64,
     pub long: bool,
+    pub unmarked: bool,
 }
 
 // How far the slices for the journal's bytes and for the answers are filled.

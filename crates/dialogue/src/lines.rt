@@ -3,9 +3,12 @@ ghost use mathlib.Core.Path.{_≡_};
 ghost use Prim.Native.Nat.{_≤_};
 ghost use lib.ListN.{length};
 ghost use Rattle.layout.specs.WellFormed.{WellFormed};
+ghost use Rattle.answering.specs.Asked.{asked};
+ghost use Rattle.answering.specs.InWords.{AnsweredWords};
 ghost use Rattle.dialogue.specs.Split.{EndIs};
-ghost use Rattle.dialogue.specs.Turns.{next, counted, further};
-ghost use Rattle.dialogue.specs.Answers.{stateOf, goesOn, LineTaken, Answers};
+ghost use Rattle.dialogue.specs.Asks.{ruleAt};
+ghost use Rattle.dialogue.specs.Turns.{next, counted, endsStretch, further};
+ghost use Rattle.dialogue.specs.Answers.{stateOf, goesOn, Turned, LineTaken, Answers};
 use crate::Place;
 use crate::Progress;
 use crate::Stepped;
@@ -13,8 +16,12 @@ use crate::Way;
 use crate::asks::ask;
 use crate::said::put_added;
 use answering::apply;
+use answering::apply_by_old_rule;
 use answering::is_kept;
+use answering::is_mark;
 use answering::is_refusal;
+use journal::Request;
+use printing::Answer;
 use std::num::wrapping_add_u64;
 
 // The most bytes that one line adds to the journal and to the answers.
@@ -54,15 +61,82 @@ fn counted_if(holds: bool, n: u64) -> u64
     n
 }
 
+// Whether a line ends the first stretch of a journal: its mark where it is replayed, else the first line that is kept.
+fn ends_stretch(way: Way, place: Place, request: Request, kept: bool) -> bool
+    ensures { λ r. ⌜ r ≡ endsStretch way place request kept ⌝ }
+{
+    if way.replays {
+        return place.unmarked & is_mark(request);
+    }
+    place.unmarked & kept
+}
+
+// The answer to a request, made on the book: by the old admission rule in the first stretch of a journal that is replayed, else by the new one.
+fn apply_at(
+    way: Way,
+    place: Place,
+    book: &mut [u64],
+    request: Request,
+    numbers: &[i64],
+    line: u64,
+) -> Answer
+    requires { ⌜ WellFormed (now book) ⌝ }
+    ensures { λ r. ⌜ AnsweredWords (ruleAt way place) (now (book .entry)) line (asked request (now (numbers .entry))) r (now (book .exit)) ⌝ }
+{
+    if way.replays & place.unmarked {
+        return apply_by_old_rule(book, request, numbers, line);
+    }
+    apply(book, request, numbers, line)
+}
+
 // Where the next line begins.
-fn next_place(place: Place, kept: bool, refused: bool) -> Place
-    ensures { λ r. ⌜ r ≡ further place kept refused ⌝ }
+fn next_place(place: Place, kept: bool, refused: bool, marked: bool) -> Place
+    ensures { λ r. ⌜ r ≡ further place kept refused marked ⌝ }
 {
     Place {
         line: next_number(place.line),
         refused: counted_if(refused, place.refused),
         kept: counted_if(kept, place.kept),
         long: false,
+        unmarked: place.unmarked & !marked,
+    }
+}
+
+// What a line with a request and an answer leaves: its bytes for the journal and for the answers behind those that are there, and the next place.
+fn put_turn(
+    way: Way,
+    place: Place,
+    request: Request,
+    answer: Answer,
+    numbers: &[i64],
+    book: &[u64],
+    journal: &mut [u8],
+    kept: usize,
+    out: &mut [u8],
+    at: usize,
+) -> Stepped
+    requires { ⌜ WellFormed (now book) ⌝ }
+    ensures { λ r. ⌜ Turned way place request answer (now (numbers .entry)) (now (book .entry)) (now (journal .entry)) kept
+        (now (out .entry)) at (r .place) (r .journal) (now (journal .exit)) (r .end) (now (out .exit)) ⌝ }
+{
+    let taken = way.keeps & is_kept(answer);
+    let marked = ends_stretch(way, place, request, taken);
+    let ends = put_added(
+        request,
+        answer,
+        taken,
+        way.keeps & marked,
+        numbers,
+        book,
+        journal,
+        kept,
+        out,
+        at,
+    );
+    Stepped {
+        place: next_place(place, taken, is_refusal(answer), marked),
+        journal: ends.journal,
+        end: ends.end,
     }
 }
 
@@ -83,24 +157,19 @@ pub fn answer_line(
         (now (out .entry)) at (now (book .exit)) (r .place) (r .journal) (now (journal .exit)) (r .end) (now (out .exit)) ⌝ }
 {
     let request = ask(way, place, line, numbers);
-    let answer = apply(book, request, numbers, next_number(place.line));
-    let taken = way.keeps & is_kept(answer);
-    let ends = put_added(
+    let answer = apply_at(way, place, book, request, numbers, next_number(place.line));
+    put_turn(
+        way,
+        place,
         request,
         answer,
-        taken,
         numbers,
         book,
         journal,
         kept,
         out,
         at,
-    );
-    Stepped {
-        place: next_place(place, taken, is_refusal(answer)),
-        journal: ends.journal,
-        end: ends.end,
-    }
+    )
 }
 
 // Whether one more line is taken, where so many bytes for the journal and of the answers are written and there is room for so many.

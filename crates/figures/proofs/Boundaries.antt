@@ -9,6 +9,8 @@ use Rattle.figures.proofs.Decisions.{decisions}
 use Rattle.figures.proofs.Deposits.{deposits}
 use Rattle.figures.proofs.Files.{files}
 use Rattle.figures.proofs.Batches.{batches}
+use Rattle.figures.proofs.Retirement.{retirement}
+use Rattle.figures.proofs.RetirementLaws.{retirement-laws}
 
 pub boundaries : Boundaries
 boundaries =
@@ -21,4 +23,6 @@ boundaries =
       deposits = deposits;
       files = files;
       batches = batches;
+      retirement = retirement;
+      retirementLaws = retirement-laws;
     }

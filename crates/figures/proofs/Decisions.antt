@@ -22,22 +22,23 @@ use Rattle.book.specs.Reading.Decisions.{settlementAnswer, ownCauses, ownAnswer
 use Rattle.book.specs.Reading.Events.{mine, todayOf, withDays, admittedIn, roleIn}
 use Rattle.book.specs.Reading.Holdings.{lastLodged, releasedSince, leftAt, positionIn, lodgedWhere, releasedWhere, coverIn, depositedIn}
 use Rattle.book.specs.Reading.Months.{totalIn, yearsTotals, annualIn, nextIn}
-use Rattle.figures.specs.History.{newestFirst, decides, answers}
+use Rattle.figures.specs.History.{newestFirst, inTurn, decides, answers}
 use Rattle.book.specs.Life.{answersOf, decisionsOf}
 use Rattle.file.specs.Answer.{Answer, done}
 use Rattle.book.specs.Call.{Call}
+use Rattle.book.specs.Rule.{newRule, under}
 use Rattle.book.proofs.History.Life.{life}
 use Rattle.figures.specs.Decisions.{Decisions}
 
 -- The newest of some answers.
-newest : List Answer → Answer
+unfoldable pub newest : List Answer → Answer
 newest [] = done
 newest (x ∷ rest) = x
 
 -- What the reading decides, the book answers: the claim about the list with this call.
 both : (s : ℕ) (calls : List Call) (c : Call) → s ≤ 29219 → answers s calls c ≡ decides s calls c
 unfolding answers decides answersOf decisionsOf newest
-both s calls c h = ap newest (life s (c ∷ newestFirst calls []) h .answers)
+both s calls c h = ap newest (life s (under newRule c ∷ inTurn [] calls) h .answers)
 
 pub decisions : Decisions
 unfolding decide larger sumOf leap lengthIn lengthOf firstDay holding monthOf dayOfMonth isSeptember inAnnualDays isFirstOctober

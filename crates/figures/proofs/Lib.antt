@@ -7,4 +7,6 @@ pub mod Decisions
 pub mod Deposits
 pub mod Files
 pub mod Batches
+pub mod Retirement
+pub mod RetirementLaws
 pub mod Boundaries

@@ -7,6 +7,7 @@ use lib.ListN.{replicate}
 use lib.IntN.{ℤ, pos, negsuc}
 use Rattle.file.specs.Answer.{annual, stated, counted, batched, refusedPair}
 use Rattle.book.specs.Call.{admit, settle, Call, on, statement, callsMade, batch}
+use Rattle.book.specs.Rule.{history}
 use Rattle.book.specs.Account.{run}
 use Rattle.book.specs.Reading.Events.{did, dayOpened, act}
 use Rattle.figures.specs.History.{decides, answers, happened, happenedTo, admits, letter, five, runsAnnual, toDay}
@@ -146,4 +147,4 @@ pub record Batches : Type 0 where
   pub book-firm : answers 60 (admits 3 ∷ batch oneOf100 ∷ toDay 71 ∷ []) (statement 0) ≡ stated 100 0 100 1 100000000
   pub book-recorded : answers 244 (admits 3 ∷ loads 5 (part 0 of243 ∷ []) ∷ []) runsAnnual ≡ annual 243 1
   -- ".. and the book is then as before"
-  pub book-as-before : run 60 (loadsTwo 100 200 ∷ admits 3 ∷ []) ≡ run 60 (admits 3 ∷ [])
+  pub book-as-before : run 60 (history [] (loadsTwo 100 200 ∷ admits 3 ∷ [])) ≡ run 60 (history [] (admits 3 ∷ []))

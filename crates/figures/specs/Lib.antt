@@ -9,4 +9,6 @@ pub mod Deposits
 pub mod Written
 pub mod Files
 pub mod Batches
+pub mod Retirement
+pub mod RetirementLaws
 pub mod Boundaries

@@ -16,8 +16,15 @@ fn day(number: u64) -> Day {
     }
 }
 
-// Plays the first `calls` calls of the words on a fresh book, and prints its answers.
-fn answer(start: Day, words: &[u64; 2400], figures: &[i64; 4096], files: &[u8; 8192], calls: usize)
+// Plays the first `calls` calls of the words on a fresh book, the first `first` of them under the old admission rule, and prints its answers.
+fn answer(
+    start: Day,
+    first: usize,
+    words: &[u64; 2400],
+    figures: &[i64; 4096],
+    files: &[u8; 8192],
+    calls: usize,
+)
     requires { ⌜ calls ≤ 400 ⌝ }
 {
     let end = calls * 6;
@@ -28,6 +35,7 @@ fn answer(start: Day, words: &[u64; 2400], figures: &[i64; 4096], files: &[u8; 8
     let mut book = [0u64; 6147];
     replay::replay(
         start,
+        first,
         &all_words[..end],
         all_figures,
         all_files,
@@ -37,10 +45,11 @@ fn answer(start: Day, words: &[u64; 2400], figures: &[i64; 4096], files: &[u8; 8
     print::print_answers(&out, calls);
 }
 
-// Plays one history and prints its answers.
+// Plays one history and prints its answers: its text begins with the start day, the length of its first stretch, and the number of its calls.
 fn play(text: &[u8]) {
     let start = text::number_at(text, 0);
-    let count = text::number_at(text, start.next);
+    let first = text::number_at(text, start.next);
+    let count = text::number_at(text, first.next);
     print::print_start(start.size);
     let calls = load::played(count.size);
     let mut words = [0u64; 2400];
@@ -54,7 +63,14 @@ fn play(text: &[u8]) {
         &mut files,
         calls,
     );
-    answer(day(start.size), &words, &figures, &files, calls);
+    answer(
+        day(start.size),
+        first.size as usize,
+        &words,
+        &figures,
+        &files,
+        calls,
+    );
 }
 
 // Plays the history with a number, and answers whether there was one.

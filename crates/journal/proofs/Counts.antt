@@ -41,6 +41,7 @@ countOf (Request.Statement p) = 0
 countOf Request.Calls = 0
 countOf (Request.Special n) = total (lengthList n)
 countOf (Request.Batch n) = n
+countOf Request.RoleRetired = 0
 countOf Request.Report = 0
 countOf (Request.Error e) = 0
 
@@ -59,6 +60,7 @@ IsCall (Request.Statement p) = Unit {0}
 IsCall Request.Calls = Unit {0}
 IsCall (Request.Special n) = Unit {0}
 IsCall (Request.Batch n) = Unit {0}
+IsCall Request.RoleRetired = Unit {0}
 IsCall Request.Report = Unit {0}
 IsCall (Request.Error e) = ⊥
 
@@ -183,7 +185,7 @@ call-counted room k l =
     all-default Counted (callsOf room l) k (plain (Request.Error Reason.NoCall)) (λ c. absurd c)
     (fresh-counted l & admit-counted l & lodge-counted l & release-counted l & settle-counted room l & annual-counted l
     & advance-counted l & statement-counted l & plain-counted l Request.Calls refl & special-counted room l
-    & plain-counted l Request.Report refl & batch-counted room l & tt)
+    & plain-counted l Request.Report refl & batch-counted room l & plain-counted l Request.RoleRetired refl & tt)
 
 words-counted : (room : ℕ) (ws : List (List ℕ)) → Counted (wordsOf room ws)
 unfolding wordsOf Counted

@@ -74,3 +74,12 @@ pub batch-examples :
 unfolding parsed wordsOf namedCall callsOf uncommented some control blank words apart onto placeIn same callNames each digit lowerHex upperHex
     hexDigit hexValue hexadecimal bytesOfHex fileOf faulted checkedFile ended filed batchOf
 batch-examples = (refl, refl, refl, refl, refl, refl)
+
+-- The mark that ends the first stretch of a journal: one word, with blanks and a comment; a word too many; no other case.
+pub mark-examples :
+    (parsed 0 (text "role-retired") ≡ plain Request.RoleRetired)
+    × (parsed 0 (text " role-retired # 2024") ≡ plain Request.RoleRetired)
+    × (parsed 0 (text "role-retired 1") ≡ plain (Request.Error Reason.TooManyWords))
+    × (parsed 0 (text "Role-retired") ≡ plain (Request.Error Reason.NoCall))
+unfolding parsed wordsOf namedCall callsOf uncommented some control blank words apart onto placeIn same callNames closed
+mark-examples = (refl, refl, refl, refl)

@@ -114,7 +114,7 @@ call-fits room k l =
     (plain-fits room (freshOf l) & plain-fits room (admitOf l) & plain-fits room (lodgeOf l)
     & plain-fits room (releaseOf l) & settle-fits room l & plain-fits room (annualOf l) & plain-fits room (advanceOf l)
     & plain-fits room (statementOf l) & plain-fits room (closed l Request.Calls) & special-fits room l
-    & plain-fits room (closed l Request.Report) & batch-fits room l & tt)
+    & plain-fits room (closed l Request.Report) & batch-fits room l & plain-fits room (closed l Request.RoleRetired) & tt)
 
 words-fit : (room : ℕ) (ws : List (List ℕ)) → Fits room (wordsOf room ws)
 unfolding wordsOf

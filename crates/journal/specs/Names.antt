@@ -13,7 +13,8 @@ use Rattle.words.specs.declared.numbers.Signed.{Signed}
 use Rattle.journal.specs.declared.Reason.{Reason}
 use Rattle.journal.specs.declared.fields.Kind.{Kind}
 
--- 'The journal': the first words of its lines, in the order in which it lists them.
+-- 'The journal': the first words of its lines, in the order in which it lists them; and paper 02, Ask 3: the mark that ends the first stretch
+-- of a journal.
 unfoldable pub callNames : List (List ℕ)
 callNames =
     text "fresh"
@@ -28,6 +29,7 @@ callNames =
     ∷ text "special"
     ∷ text "report"
     ∷ text "batch"
+    ∷ text "role-retired"
     ∷ []
 
 -- "the role's name in lower case", in the order of their numbers: paper 01, 'One participant's file'.

@@ -50,7 +50,8 @@ pub struct Lengths {
 }
 
 // What a line is: nothing, a call with its arguments, or an error. Participants come first, then positions, then amounts; a settlement has
-// the number of its figures, a special guarantee the lengths of its lists, and a batch the number of its file's bytes.
+// the number of its figures, a special guarantee the lengths of its lists, and a batch the number of its file's bytes. `role-retired` is no
+// call to the book but a mark (paper 02, Ask 3: the mark that ends the first stretch of a journal), and has no arguments.
 pub enum Request {
     Nothing,
     Fresh(Day),
@@ -65,6 +66,7 @@ pub enum Request {
     Calls,
     Special(Lengths),
     Batch(usize),
+    RoleRetired,
     Report,
     Error(Reason),
 }
@@ -87,6 +89,7 @@ fn call(k: usize, s: &[u8], place: Place, numbers: &mut [i64]) -> Request
         9 => lists::special(s, place, numbers),
         10 => closed(s, place, Request::Report),
         11 => batch::batch(s, place, numbers),
+        12 => closed(s, place, Request::RoleRetired),
         _ => Request::Error(Reason::NoCall),
     }
 }
@@ -103,7 +106,7 @@ fn read_words(s: &[u8], numbers: &mut [i64]) -> Request
         return Request::Nothing;
     }
     let names =
-        b"fresh admit lodge release settle annual advance statement calls special report batch";
+        b"fresh admit lodge release settle annual advance statement calls special report batch role-retired";
     let k = place_of(&s[start..end], names);
     call(k, s, Place::At(end), numbers)
 }

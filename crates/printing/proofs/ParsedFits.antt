@@ -248,7 +248,7 @@ call-fits room k l =
     all-default Fits (callsOf room l) k (plain (Request.Error Reason.NoCall)) no-call-fits
     (fresh-fits l & admit-fits l & lodge-fits l & release-fits l & settle-fits room l & annual-fits l & advance-fits l
     & statement-fits l & plain-fits l Request.Calls refl & special-fits room l & plain-fits l Request.Report refl
-    & batch-fits room l & tt)
+    & batch-fits room l & plain-fits l Request.RoleRetired refl & tt)
 
 words-fitting : (room : ℕ) (ws : List (List ℕ)) → Fits (wordsOf room ws)
 unfolding wordsOf Fits

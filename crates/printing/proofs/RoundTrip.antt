@@ -76,6 +76,7 @@ call-words (Request.Statement p) zs = word "statement" tt refl & decimal-word p 
 call-words Request.Calls zs = word "calls" tt refl & tt
 call-words (Request.Special n) zs = word "special" tt refl & lists-words (cut (lengthList n) zs)
 call-words (Request.Batch n) zs = word "batch" tt refl & file-words (take n zs)
+call-words Request.RoleRetired zs = word "role-retired" tt refl & tt
 call-words Request.Report zs = word "report" tt refl & tt
 call-words (Request.Error e) zs = tt
 
@@ -242,6 +243,7 @@ words-back room Request.Calls zs f h = rw f (at-name room 8 tt [] ∙ ap plain (
 words-back room (Request.Special n) zs f h =
     at-name room 9 tt (listWords (cut (lengthList n) zs)) ∙ special-back room n zs (f .0) (f .1) (f .2) h
 words-back room (Request.Batch n) zs f h = at-name room 11 tt (hexWords (take n zs)) ∙ batch-back room n zs (f .0) (f .1) h
+words-back room Request.RoleRetired zs f h = rw f (at-name room 12 tt [] ∙ ap plain (closed-back Request.RoleRetired))
 words-back room Request.Report zs f h = rw f (at-name room 10 tt [] ∙ ap plain (closed-back Request.Report))
 words-back room (Request.Error e) zs f h = absurd f
 

@@ -24,8 +24,8 @@ unfoldable pub listWords : List (List ℤ) → List (List ℕ)
 listWords [] = []
 listWords (zs ∷ rest) = decimal (length zs) ∷ (map integer zs ++ listWords rest)
 
--- 'The journal': the words of a call, its numbers as numbers, with the numbers of its lists in a row, or the bytes of its file. What is no
--- call has none.
+-- 'The journal': the words of a call, its numbers as numbers, with the numbers of its lists in a row, or the bytes of its file; paper 02,
+-- Ask 3: the mark that ends the first stretch of a journal is its one word. What is no call has none.
 unfoldable pub callWords : Request → List ℤ → List (List ℕ)
 callWords Request.Nothing zs = []
 callWords (Request.Fresh d) zs = text "fresh" ∷ decimal (d .0) ∷ []
@@ -41,6 +41,7 @@ callWords (Request.Statement p) zs = text "statement" ∷ decimal p ∷ []
 callWords Request.Calls zs = text "calls" ∷ []
 callWords (Request.Special n) zs = text "special" ∷ listWords (cut (lengthList n) zs)
 callWords (Request.Batch n) zs = text "batch" ∷ hexWords (take n zs)
+callWords Request.RoleRetired zs = text "role-retired" ∷ []
 callWords Request.Report zs = text "report" ∷ []
 callWords (Request.Error e) zs = []
 
@@ -89,5 +90,6 @@ Fitting (Request.Statement p) zs = Natural64 p × (zs ≡ [])
 Fitting Request.Calls zs = zs ≡ []
 Fitting (Request.Special n) zs = Natural64 (length zs) × (total (lengthList n) ≡ length zs) × Hold areMarks (cut (lengthList n) zs)
 Fitting (Request.Batch n) zs = (n ≡ length zs) × All IsByte zs
+Fitting Request.RoleRetired zs = zs ≡ []
 Fitting Request.Report zs = zs ≡ []
 Fitting (Request.Error e) zs = ⊥

@@ -125,6 +125,7 @@ pub fn put_call(out: &mut [u8], at: usize, request: Request, numbers: &[i64]) ->
         Request::Calls => put_text(out, at, b"calls"),
         Request::Special(n) => put_special(out, at, n, numbers),
         Request::Batch(n) => put_batch(out, at, n, numbers),
+        Request::RoleRetired => put_text(out, at, b"role-retired"),
         Request::Report => put_text(out, at, b"report"),
         Request::Error(_) => put_text(out, at, b""),
     }

@@ -3,6 +3,7 @@
 use Prim.Native.Nat.{ℕ, _+_, _-_, _*_, _≤_}
 use native.Mathlib.Omega.{arith}
 use mathlib.Core.Path.{_≡_, sym, ap, subst, _∙_}
+use mathlib.Core.Bool.{_&&_}
 use mathlib.Core.List.{List, [], _∷_}
 use borrow.Author.Tests.{ltb-false}
 use lib.Dec.{ltb}
@@ -15,7 +16,7 @@ use Rattle.calendar.specs.Civil.{monthOf}
 use Rattle.manual.specs.Figures.{sumOf}
 use Rattle.manual.specs.Laws.{summed-total}
 use Rattle.file.specs.declared.File.{File}
-use Rattle.file.specs.Answer.{Answer, refused, done, annual, daysOpened, batched, Cause, decide, statementSays}
+use Rattle.file.specs.Answer.{Answer, refused, done, annual, daysOpened, batched, Cause, decide, accepted, statementSays}
 use Rattle.file.specs.Fields.{shortfallOf}
 use Rattle.file.specs.Totals.{totalAt}
 use Rattle.file.specs.TotalLaws.{totals-length}
@@ -37,7 +38,8 @@ use Rattle.batch.specs.declared.Form.the-variants.{Parts, Refused}
 use Rattle.batch.specs.Batch.{formOf}
 use Rattle.book.specs.Call.{Act, admit, lodge, release, settle, annualRun, Call, on, advance, statement, callsMade, batch}
 use Rattle.book.specs.Call.{firstRefused, batchSays}
-use Rattle.book.specs.Account.{fileAt, ifNumbered, ifAdmitted, fileAnswer, partAnswer, daysToOpen, answer}
+use Rattle.book.specs.Rule.{newRule}
+use Rattle.book.specs.Account.{fileAt, ifNumbered, ifAdmitted, fileAnswer, partAnswer, daysToOpen, admitsRetired, ifRegistered, answer}
 use Rattle.book.proofs.Participant.Lawful.{NoneHolds}
 use Rattle.book.specs.Reached.{Given}
 use Rattle.book.specs.InWords.{GivenWords}
@@ -111,6 +113,10 @@ file-within f t (release k a) s = decide-within _ (releaseAnswer f t k a) (λ n.
 file-within f t (settle m figures) s = decide-within _ (settleAnswer f t m figures) (λ n. settle-within f t m figures)
 file-within f t annualRun s = decide-within _ (annualAnswer f t) (λ n. annual-within f t s)
 
+-- .. also where an admission is refused with 23.
+registered-within : (a : Act) (x : Answer) → WithinSigned x → WithinSigned (ifRegistered newRule a x)
+registered-within a x h = by-test (admitsRetired a && accepted x) (refused 23) x WithinSigned (λ e. tt) (λ e. h)
+
 -- A participant's file in words has eight positions.
 eight : (l : List ℕ) (p : ℕ) → p ≤ 63 → length (fileAt (bookOfWords l) p .slots) ≡ 8
 unfolding fileOfWords slotsOfWords
@@ -127,11 +133,13 @@ batch-within (Parts n) answers =
     by-test (ltb (firstRefused answers n) n) _ (batched n) WithinSigned (λ e. tt) (λ e. tt)
 
 -- The numbers of every answer of a book in well-formed words are within.
-answer-within : (l : List ℕ) (c : Call) → WellFormed l → WithinSigned (answer (bookOfWords l) c)
+answer-within : (l : List ℕ) (c : Call) → WellFormed l → WithinSigned (answer newRule (bookOfWords l) c)
 unfolding answer ifNumbered ifAdmitted
 answer-within l (on p a) w =
     let b = bookOfWords l in
-    decide-within _ (fileAnswer (fileAt b p) (b .today .0) a) (λ n. file-within (fileAt b p) (b .today .0) a (sound-file b p (w .sound)))
+    let x = fileAnswer (fileAt b p) (b .today .0) a in
+    decide-within _ (ifRegistered newRule a x)
+    (λ n. registered-within a x (file-within (fileAt b p) (b .today .0) a (sound-file b p (w .sound))))
 answer-within l (advance day budget) w = decide-within _ (daysOpened (daysToOpen (bookOfWords l) day budget)) (λ n. tt)
 answer-within l (statement p) w =
     let b = bookOfWords l in

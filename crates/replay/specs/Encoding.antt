@@ -1,16 +1,17 @@
--- A list of calls as words in a lent slice, six to a call, and a list of answers as numbers: what `replay` reads and writes. Paper 01 has the
--- calls and the answers; how they are spelled as words and numbers is this crate's own choice.
+-- A list of calls as words in a lent slice, six to a call, and a list of answers as numbers: what `replay` reads and writes. Papers 01 and 02
+-- have the calls and the answers; how they are spelled as words and numbers is this crate's own choice.
 -- Assumes nothing.
-use Prim.Native.Nat.{ℕ, zero, suc, _+_, _*_, _≤_, min}
-use mathlib.Core.Bool.{cond}
+use Prim.Native.Nat.{ℕ, zero, suc, _+_, _-_, _*_, _≤_, min}
+use mathlib.Core.Bool.{Bool, cond}
 use mathlib.Core.List.{List, [], _∷_, _++_}
-use lib.Dec.{eqb}
+use lib.Dec.{eqb, ltb}
 use lib.ListN.{getD, take, drop}
 use lib.IntN.{ℤ, pos}
 use Rattle.file.specs.declared.Position.{Position}
 use Rattle.file.specs.declared.Position.the-variants.{Cash, Letter}
 use Rattle.file.specs.Answer.{Answer, refused, done, called, covered, recorded, annual, daysOpened, stated, counted, batched, refusedPair}
 use Rattle.book.specs.Call.{admit, lodge, release, settle, annualRun, Call, on, advance, statement, callsMade, batch}
+use Rattle.book.specs.Rule.{Rule, oldRule, newRule, Entry, history}
 use Rattle.book.specs.Reading.Decisions.{decision, eventsOf}
 
 -- A day or month number in a word: one too large for the type counts as the type's largest.
@@ -46,10 +47,32 @@ callAt calls figures files n =
     (getD calls (6 * n + 4) 0)
     (getD calls (6 * n + 5) 0)
 
--- The first n calls, the newest first.
-unfoldable pub callsUpTo : List ℕ → List ℤ → List ℕ → ℕ → List Call
-callsUpTo calls figures files zero = []
-callsUpTo calls figures files (suc n) = callAt calls figures files n ∷ callsUpTo calls figures files n
+-- The n calls from a place on, the newest first.
+unfoldable pub callsFrom : (place : ℕ) → List ℕ → List ℤ → List ℕ → (n : ℕ) → List Call
+callsFrom place calls figures files zero = []
+callsFrom place calls figures files (suc n) = callAt calls figures files (place + n) ∷ callsFrom place calls figures files n
+
+-- Paper 02, Ask 3: "a history from a fresh book may still have a first stretch of calls made under the old admission rule". It is the first
+-- `first` calls of a list, all of them where there are fewer. Of the first n calls of the list these are the calls of that stretch ..
+abbrev pub firstCalls : (first : ℕ) → List ℕ → List ℤ → List ℕ → (n : ℕ) → List Call
+firstCalls first calls figures files n = callsFrom 0 calls figures files (min first n)
+
+-- .. and these the calls since, made under the new rule: none where n is at most `first`.
+abbrev pub sinceCalls : (first : ℕ) → List ℕ → List ℤ → List ℕ → (n : ℕ) → List Call
+sinceCalls first calls figures files n = callsFrom first calls figures files (n - first)
+
+-- The history that the first n calls of the list make.
+unfoldable pub historyUpTo : (first : ℕ) → List ℕ → List ℤ → List ℕ → (n : ℕ) → List Entry
+historyUpTo first calls figures files n = history (firstCalls first calls figures files n) (sinceCalls first calls figures files n)
+
+-- The rule of a call, by whether it is one of the first stretch ..
+abbrev pub ruleOf : Bool → Rule
+ruleOf old = cond old oldRule newRule
+
+-- .. and of the call at place n: one of the first stretch where n, counted from 0, is below that stretch's length. The history, too, has it so
+-- (`history-next`).
+abbrev pub ruleAt : (first n : ℕ) → Rule
+ruleAt first n = ruleOf (ltb n first)
 
 -- Six numbers, the first of them natural.
 abbrev pub six : ℕ → ℤ → ℤ → ℤ → ℤ → ℤ → List ℤ
@@ -92,9 +115,10 @@ WithinSigned (counted n) = n ≤ largestSigned
 WithinSigned (batched n) = Unit {0}
 WithinSigned (refusedPair n i) = Unit {0}
 
--- The numbers of the reading's decisions on the first n calls from a fresh book on day s, in the calls' order.
-unfoldable pub decided : ℕ → List ℕ → List ℤ → List ℕ → ℕ → List ℤ
-decided s calls figures files zero = []
-decided s calls figures files (suc n) =
-    decided s calls figures files n
-    ++ sixNumbers (decision s (eventsOf s (callsUpTo calls figures files n)) (callAt calls figures files n))
+-- The numbers of the reading's decisions on the first n calls from a fresh book on day s, in the calls' order, each made under its place's rule.
+unfoldable pub decided : (s first : ℕ) → List ℕ → List ℤ → List ℕ → (n : ℕ) → List ℤ
+decided s first calls figures files zero = []
+decided s first calls figures files (suc n) =
+    decided s first calls figures files n
+    ++ sixNumbers
+    (decision (ruleAt first n) s (eventsOf s (historyUpTo first calls figures files n)) (callAt calls figures files n))

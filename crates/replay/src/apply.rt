@@ -7,7 +7,8 @@ ghost use mathlib.Core.Path.{_≡_};
 ghost use Prim.Native.Nat.{_+_, _*_, _≤_, min};
 ghost use lib.ListN.{length, take, drop};
 ghost use Rattle.layout.specs.WellFormed.{WellFormed};
-ghost use Rattle.replay.specs.Encoding.{number, letterOfNumbers, callOfSix, callAt};
+ghost use Rattle.book.specs.Rule.{newRule};
+ghost use Rattle.replay.specs.Encoding.{number, letterOfNumbers, callOfSix, callAt, ruleOf, ruleAt};
 ghost use Rattle.replay.specs.Replayed.{GivenNumbers};
 
 // A word as a day or month number.
@@ -57,7 +58,7 @@ fn letter(amount: u64, first: u64, last: u64) -> Position
     Position::Letter(amount, Day(clipped(first)), Day(clipped(last)))
 }
 
-// Makes the call on a book, and gives the numbers of its answer.
+// Makes the call on a book by the new admission rule, and gives the numbers of its answer.
 fn apply(
     book: &mut [u64],
     figures: &[i64],
@@ -70,7 +71,8 @@ fn apply(
     e: u64,
 ) -> [i64; 6]
     requires { ⌜ WellFormed (now book) ⌝ }
-    ensures { λ r. ⌜ GivenNumbers (now (book .entry)) (callOfSix (now (figures .entry)) (now (files .entry)) kind a b c d e) r (now (book .exit)) ⌝ }
+    ensures { λ r. ⌜ GivenNumbers newRule (now (book .entry)) (callOfSix (now (figures .entry)) (now (files .entry)) kind a b c d e) r
+        (now (book .exit)) ⌝ }
 {
     match kind {
         0 => encoded::outcome_numbers(book::admit(book, a, b)),
@@ -91,23 +93,50 @@ fn apply(
     }
 }
 
-// Makes the call at a place of a list of calls, and gives the numbers of its answer.
+// Makes the call under the old admission rule, where `old` says so, or under the new one. Only admission differs (paper 02, Ask 3).
+fn apply_under(
+    book: &mut [u64],
+    figures: &[i64],
+    files: &[u8],
+    old: bool,
+    kind: u64,
+    a: u64,
+    b: u64,
+    c: u64,
+    d: u64,
+    e: u64,
+) -> [i64; 6]
+    requires { ⌜ WellFormed (now book) ⌝ }
+    ensures { λ r. ⌜ GivenNumbers (ruleOf old) (now (book .entry)) (callOfSix (now (figures .entry)) (now (files .entry)) kind a b c d e) r
+        (now (book .exit)) ⌝ }
+{
+    if old {
+        if kind == 0 {
+            return encoded::outcome_numbers(book::admit_by_old_rule(book, a, b));
+        }
+    }
+    apply(book, figures, files, kind, a, b, c, d, e)
+}
+
+// Makes the call at a place of a list of calls, whose first stretch is `first` calls long, and gives the numbers of its answer.
 pub fn apply_at(
     book: &mut [u64],
     calls: &[u64],
     figures: &[i64],
     files: &[u8],
     place: usize,
+    first: usize,
 ) -> [i64; 6]
     requires { ⌜ WellFormed (now book) × (6 * place + 6 ≤ length (now calls)) ⌝ }
-    ensures { λ r. ⌜ GivenNumbers (now (book .entry))
+    ensures { λ r. ⌜ GivenNumbers (ruleAt first place) (now (book .entry))
         (callAt (now (calls .entry)) (now (figures .entry)) (now (files .entry)) place) r (now (book .exit)) ⌝ }
 {
     let at = 6 * place;
-    apply(
+    apply_under(
         book,
         figures,
         files,
+        place < first,
         calls[at],
         calls[at + 1],
         calls[at + 2],

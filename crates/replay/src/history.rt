@@ -33,9 +33,11 @@ fn put(out: &mut [i64], at: usize, numbers: [i64; 6])
 
 // Writes a fresh book on a day into lent words, makes the calls in turn on it, and writes the six numbers of each answer; says what the fresh
 // book answered, and leaves the book at the end. Six words are a call; a settlement's figures are a part of `figures`, and a batch's file is a
-// part of `files`.
+// part of `files`. The first `first` calls, or all if there are fewer, are made under the old admission rule (paper 02, Ask 3), the others under
+// the new one.
 pub fn replay(
     start: Day,
+    first: usize,
     calls: &[u64],
     figures: &[i64],
     files: &[u8],
@@ -43,7 +45,7 @@ pub fn replay(
     book: &mut [u64],
 ) -> Outcome
     requires { ⌜ length (now book) ≡ bookLength ⌝ }
-    ensures { λ r. ⌜ ReplayedFrom (start .0) (now (calls .entry)) (now (figures .entry)) (now (files .entry)) (now (out .entry))
+    ensures { λ r. ⌜ ReplayedFrom (start .0) first (now (calls .entry)) (now (figures .entry)) (now (files .entry)) (now (out .entry))
         (now (out .exit)) (outcomeSays r) (now (book .exit)) ⌝ }
 {
     let answer = book::fresh(book, start);
@@ -53,7 +55,7 @@ pub fn replay(
     let count = call_count(calls.len(), out.len());
     let mut i = 0;
     while i < count {
-        let numbers = apply::apply_at(book, calls, figures, files, i);
+        let numbers = apply::apply_at(book, calls, figures, files, i, first);
         put(out, 6 * i, numbers);
         i += 1;
     }

@@ -14,6 +14,7 @@ use Rattle.words.specs.Text.{text}
 use Rattle.file.specs.Answer.{statementSays}
 use Rattle.file.specs.declared.Statement.{Statement}
 use Rattle.layout.specs.Book.{Book}
+use Rattle.book.specs.Rule.{newRule}
 use Rattle.book.specs.Account.{fileAt, answer}
 use Rattle.book.specs.declared.Stated.{Stated}
 use Rattle.book.specs.declared.Stated.the-variants as Statements
@@ -122,7 +123,7 @@ module _ (b : Book) (n : ℕ) (st : Stated) (e g : List ℕ) (at q : ℕ) where
       → Put (lineOf n role (statementSays t)) e at q g → Put (row b n) e at q g
   unfolding row
   row-stated role t x k f y =
-      let a : statementSays t ≡ answer b (statement n) = ap statedSays (sym k) ∙ x .answered in
+      let a : statementSays t ≡ answer newRule b (statement n) = ap statedSays (sym k) ∙ x .answered in
       rw (← a, ← f) y
 
   pub row-refused : (m : ℕ) → Given b (statement n) (statedSays st) b → st ≡ Statements.Refused m → Put (row b n) e at at e

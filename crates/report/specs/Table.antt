@@ -7,6 +7,7 @@ use lib.ListN.{getD}
 use Rattle.words.specs.Text.{text}
 use Rattle.file.specs.Answer.{Answer, refused, done, called, covered, recorded, annual, daysOpened, stated, counted, batched, refusedPair}
 use Rattle.layout.specs.Book.{Book}
+use Rattle.book.specs.Rule.{newRule}
 use Rattle.book.specs.Account.{answer, fileAt}
 use Rattle.book.specs.Call.{statement}
 use Rattle.journal.specs.Names.{roleNames}
@@ -62,7 +63,7 @@ lineOf p r (batched n) = []
 lineOf p r (refusedPair n i) = []
 
 unfoldable pub row : Book → ℕ → List ℕ
-row b p = lineOf p (fileAt b p .role) (answer b (statement p))
+row b p = lineOf p (fileAt b p .role) (answer newRule b (statement p))
 
 -- The lines of the first n participants.
 unfoldable pub rows : ℕ → Book → List ℕ

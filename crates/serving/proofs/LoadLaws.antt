@@ -15,6 +15,7 @@ use lib.Seq.{sets, sets-eq, length-sets, take-all, take-append-seam, drop-cons}
 use Rattle.laws.specs.Cases.{split, clash}
 use Rattle.laws.specs.Lists.{All, all-map}
 use Rattle.book.specs.Call.{batch}
+use Rattle.book.specs.Rule.{Rule, oldRule, newRule}
 use Rattle.book.specs.Account.{answer}
 use Rattle.journal.specs.Grammar.{Parsed, parsed}
 use Rattle.journal.specs.declared.Request.{Request}
@@ -25,14 +26,14 @@ use Rattle.printing.specs.PlacedLaws.{put-end, put-bytes}
 use Rattle.printing.proofs.HexLaws.{batch-short}
 use Rattle.printing.proofs.RoundTrip.{round-trip}
 use Rattle.answering.specs.Asked.{call, byteOf, batchBytes, asked, answerTo, bookAfter}
-use Rattle.answering.specs.Kept.{takes, freshFirst, keptLine}
+use Rattle.answering.specs.Kept.{takes, isMark, freshFirst, keptLine, markLine}
 use Rattle.answering.specs.Lines.{lineRequest}
 use Rattle.answering.specs.Shown.{shown}
 use Rattle.dialogue.specs.declared.Way.{Way}
 use Rattle.dialogue.specs.Split.{linesIn}
-use Rattle.dialogue.specs.Asks.{textOf, heldBack, requestOf, asks}
+use Rattle.dialogue.specs.Asks.{textOf, heldBack, requestOf, asks, ruleAt}
 use Rattle.dialogue.specs.Said.{said, tabled}
-use Rattle.dialogue.specs.Turns.{State, next, answerOf, isKept, after, bytesOf, numeric, journalOf, afterAll, allBytes, allJournal}
+use Rattle.dialogue.specs.Turns.{State, next, marks, answerOf, isKept, after, bytesOf, numeric, journalOf, afterAll, allBytes, allJournal}
 use Rattle.dialogue.proofs.CompleteLines.{line-first}
 use Rattle.dialogue.proofs.KeptForm.{printed-plain, printed-text}
 use Rattle.storage.specs.declared.kept.Journal.{Journal}
@@ -124,6 +125,15 @@ unfolding batchBytes
 file-same bytes a h =
     ap (map byteOf) (take-all (min (length bytes) 32768) (map pos bytes) (omega (arith, length-map bytes pos))) ∙ byte-same bytes (a .all)
 
+-- The mark stands before a kept line, where it wasn't there yet.
+mark-first : (k u t : Bool) (mark line : List ℕ)
+    → cond (k && (u && (k && t))) mark [] ++ cond (k && t) line [] ≡ cond (k && t) (cond u mark [] ++ line) []
+mark-first true true true mark line = refl
+mark-first true true false mark line = refl
+mark-first true false true mark line = refl
+mark-first true false false mark line = refl
+mark-first false u t mark line = refl
+
 -- The line is read as the batch of the bytes: by the round trip of printing and parsing, and as it begins with no byte order mark.
 module _ (way : Way) (room : ℕ) (s : State) (bytes : List ℕ) (a : AreBytes bytes) (m : MayEnter way room s bytes) where
   abbrev line : List ℕ
@@ -153,24 +163,32 @@ module _ (way : Way) (room : ℕ) (s : State) (bytes : List ℕ) (a : AreBytes b
       ∙ ap (λ (file : List ℕ). call (batch file)) (file-same bytes a (m .most))
 
   abbrev reply : Answer
-  reply = shown (answer (s .book) (batch bytes))
+  reply = shown (answer newRule (s .book) (batch bytes))
+
+  -- it is typed, so under the new rule
+  new-rule : ruleAt way (s .place) ≡ newRule
+  new-rule = ap (λ (t : Bool). cond (t && s .place .unmarked) oldRule newRule) (m .typed)
 
   answer-is : answerOf way room s line ≡ reply
   unfolding answerOf
-  answer-is = ap (answerTo (s .book) (next (s .place .line))) asks-batch
+  answer-is =
+      ap (λ (rule : Rule). answerTo rule (s .book) (next (s .place .line)) (asks way room (s .place) line)) new-rule
+      ∙ ap (answerTo newRule (s .book) (next (s .place .line))) asks-batch
 
   numeric-is : numeric room (s .place .line) line ≡ line
   unfolding numeric batchText
   numeric-is = ap (λ (x : Parsed). printed (x .request) (x .numbers)) read-back
 
-  book-is : afterAll way room s (line ∷ []) .book ≡ bookAfter (s .book) (call (batch bytes))
+  book-is : afterAll way room s (line ∷ []) .book ≡ bookAfter newRule (s .book) (call (batch bytes))
   unfolding afterAll after
-  book-is = rw (m .on) (ap (bookAfter (s .book)) asks-batch)
+  book-is =
+      rw (m .on)
+      (ap (λ (rule : Rule). bookAfter rule (s .book) (asks way room (s .place) line)) new-rule ∙ ap (bookAfter newRule (s .book)) asks-batch)
 
   said-is : bytesOf way room s line ≡ said reply
   unfolding bytesOf tabled
   said-is =
-      let b = bookAfter (s .book) (asks way room (s .place) line) in
+      let b = bookAfter (ruleAt way (s .place)) (s .book) (asks way room (s .place) line) in
       ap (λ (r : Request). said (answerOf way room s line) ++ tabled r b) request-is
       ∙ append-nil (said (answerOf way room s line))
       ∙ ap said answer-is
@@ -179,13 +197,22 @@ module _ (way : Way) (room : ℕ) (s : State) (bytes : List ℕ) (a : AreBytes b
   unfolding allBytes
   bytes-are = rw (m .on) (append-nil (bytesOf way room s line) ∙ said-is)
 
-  kept-is-line : journalOf way room s line ≡ cond (way .keeps && takes reply) (line ++ (10 ∷ [])) []
-  unfolding journalOf isKept
+  kept-is-line : journalOf way room s line ≡ cond (way .keeps && takes reply) (cond (s .place .unmarked) markLine [] ++ (line ++ (10 ∷ []))) []
+  unfolding journalOf isKept marks
   kept-is-line =
-      ap (λ (l : List ℕ). cond (way .keeps && takes (answerOf way room s line)) (l ++ (10 ∷ [])) []) numeric-is
-      ∙ ap (λ (x : Answer). cond (way .keeps && takes x) (line ++ (10 ∷ [])) []) answer-is
+      let u = s .place .unmarked in
+      let k = way .keeps in
+      let taken = takes (answerOf way room s line) in
+      ap (λ (l : List ℕ). cond (k && marks way room s line) markLine [] ++ cond (k && taken) (l ++ (10 ∷ [])) []) numeric-is
+      ∙ ap
+      (λ (t : Bool).
+      cond (k && cond t (u && isMark (requestOf way room (s .place) line)) (u && (k && taken))) markLine [] ++ cond (k && taken) (line ++ (10 ∷ [])) [])
+      (m .typed)
+      ∙ mark-first k u taken markLine (line ++ (10 ∷ []))
+      ∙ ap (λ (x : Answer). cond (k && takes x) (cond u markLine [] ++ (line ++ (10 ∷ []))) []) answer-is
 
-  journal-is : allJournal way room s (line ∷ []) ≡ cond (way .keeps && takes reply) (batchLine bytes) []
+  journal-is : allJournal way room s (line ∷ [])
+      ≡ cond (way .keeps && takes reply) (cond (s .place .unmarked) markLine [] ++ batchLine bytes) []
   unfolding allJournal batchLine
   journal-is = rw (m .on) (append-nil (journalOf way room s line) ∙ kept-is-line)
 

@@ -5,14 +5,15 @@ use mathlib.Core.Bool.{Bool, true, false, not}
 use Rattle.dialogue.specs.declared.Way.{Way}
 use Rattle.dialogue.specs.declared.Place.{Place}
 
--- Before the first line, where so many calls are kept.
-abbrev pub atStart : ℕ → Place
-atStart kept = record { line = 0; refused = 0; kept = kept; long = false }
+-- Before the first line, where so many calls are kept and the journal has no mark yet that ends its first stretch, or has it.
+abbrev pub atStart : (kept : ℕ) (unmarked : Bool) → Place
+atStart kept unmarked = record { line = 0; refused = 0; kept = kept; long = false; unmarked = unmarked }
 
--- As a filter nothing is kept.
+-- As a filter nothing is kept, and no journal is replayed, so that the old admission rule is not used.
 abbrev pub filterWay : (bails : Bool) → Way
-filterWay bails = record { keeps = false; reads = false; torn = false; bails = bails; gathers = true }
+filterWay bails = record { keeps = false; reads = false; torn = false; bails = bails; gathers = true; replays = false }
 
--- Behind a replay the journal is kept, or only read.
+-- Behind a replay the journal is kept, or only read; what is typed there is under the new admission rule too.
 abbrev pub behindReplay : (reads bails gathers : Bool) → Way
-behindReplay reads bails gathers = record { keeps = not reads; reads = reads; torn = false; bails = bails; gathers = gathers }
+behindReplay reads bails gathers =
+    record { keeps = not reads; reads = reads; torn = false; bails = bails; gathers = gathers; replays = false }

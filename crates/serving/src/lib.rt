@@ -4,6 +4,7 @@ ghost use Prim.Native.Nat.{_≤_, _<_};
 ghost use lib.ListN.{length};
 ghost use Rattle.layout.specs.WellFormed.{WellFormed};
 use calendar::Day;
+use dialogue::Place;
 
 mod buffers; // buffers.rt: places for lines, numbers, answers and the journal's bytes
 mod delivery; // delivery.rt: what becomes of the bytes of lines
@@ -48,7 +49,7 @@ fn answer_alone(book: &mut [u64], options: Options, bytes: &[u8])
     ensures { λ r. ⌜ WellFormed (now (book .exit)) ⌝ }
 {
     let progress = Progress {
-        place: ways::at_start(0),
+        place: ways::at_start(0, true),
         bytes: 0,
         journal: delivery::no_journal(),
     };
@@ -84,7 +85,7 @@ fn filter(book: &mut [u64], options: Options)
 // Answers standard input to its end behind a replay, or in its place the file that is to be entered, and keeps the changes, or reads only.
 fn answer_behind(
     book: &mut [u64],
-    kept: u64,
+    place: Place,
     journal: Journal,
     options: Options,
     name: &[u8],
@@ -94,7 +95,7 @@ fn answer_behind(
     ensures { λ r. ⌜ WellFormed (now (book .exit)) ⌝ }
 {
     let progress = Progress {
-        place: ways::at_start(kept),
+        place,
         bytes: 0,
         journal,
     };
@@ -126,7 +127,8 @@ fn keep_behind(book: &mut [u64], options: Options, name: &[u8], bytes: &[u8])
         storage::close_kept(name, journal);
         return;
     }
-    answer_behind(book, replayed.kept, journal, options, name, bytes);
+    let place = ways::at_start(replayed.kept, replayed.unmarked);
+    answer_behind(book, place, journal, options, name, bytes);
     storage::close_kept(name, journal);
 }
 
@@ -159,7 +161,8 @@ fn read(book: &mut [u64], options: Options, name: &[u8])
     if !replayed.ok {
         return;
     }
-    answer_behind(book, 0, delivery::no_journal(), options, name, b"");
+    let place = ways::at_start(0, replayed.unmarked);
+    answer_behind(book, place, delivery::no_journal(), options, name, b"");
 }
 
 // The ledger with a journal: the standard streams must be open, or the journal's file would take the place of one.

@@ -17,10 +17,12 @@ use storage::show_dropped;
 // More bytes than any version of the ledger kept in a line, with its newline: what stands behind the last newline and is as long is no rest of one.
 const MOST: usize = 20480;
 
-// How a journal was replayed: whether it may be gone on with, how many calls it has, and the bytes of its complete lines.
+// How a journal was replayed: whether it may be gone on with, how many calls it has, whether it has no mark yet that ends its first stretch, and the
+// bytes of its complete lines.
 pub struct Replayed {
     pub ok: bool,
     pub kept: u64,
+    pub unmarked: bool,
     pub bytes: u64,
 }
 
@@ -65,7 +67,7 @@ pub fn replay(book: &mut [u64], file: i32, name: &[u8], drops: bool) -> Replayed
     let mut kept = io::large_buffer();
     let mut out = [0u8; 16384];
     let progress = Progress {
-        place: ways::at_start(0),
+        place: ways::at_start(0, true),
         bytes: 0,
         journal: no_journal(),
     };
@@ -88,6 +90,7 @@ pub fn replay(book: &mut [u64], file: i32, name: &[u8], drops: bool) -> Replayed
     Replayed {
         ok: journal.ok && is_passed(name, place, &buffer[..n], drops),
         kept: place.kept,
+        unmarked: place.unmarked,
         bytes: ended.bytes,
     }
 }

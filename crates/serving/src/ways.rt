@@ -8,15 +8,16 @@ ghost use Rattle.serving.specs.Ways.{atStart, filterWay, behindReplay};
 use dialogue::Place;
 use dialogue::Way;
 
-// Before the first line, where so many calls are kept.
-pub fn at_start(kept: u64) -> Place
-    ensures { λ r. ⌜ r ≡ atStart kept ⌝ }
+// Before the first line, where so many calls are kept and the journal has no mark yet that ends its first stretch, or has it.
+pub fn at_start(kept: u64, unmarked: bool) -> Place
+    ensures { λ r. ⌜ r ≡ atStart kept unmarked ⌝ }
 {
     Place {
         line: 0,
         refused: 0,
         kept,
         long: false,
+        unmarked,
     }
 }
 
@@ -29,6 +30,7 @@ pub fn known(place: Place, long: bool) -> Place
         refused: place.refused,
         kept: place.kept,
         long,
+        unmarked: place.unmarked,
     }
 }
 
@@ -42,6 +44,7 @@ pub fn filtering(bails: bool) -> Way
         torn: false,
         bails,
         gathers: true,
+        replays: false,
     }
 }
 
@@ -55,6 +58,7 @@ pub fn behind_replay(reads: bool, bails: bool, gathers: bool) -> Way
         torn: false,
         bails,
         gathers,
+        replays: false,
     }
 }
 
@@ -68,6 +72,7 @@ pub fn replaying() -> Way
         torn: false,
         bails: true,
         gathers: true,
+        replays: true,
     }
 }
 
@@ -81,6 +86,7 @@ pub fn last(way: Way) -> Way
         torn: way.keeps,
         bails: way.bails,
         gathers: way.gathers,
+        replays: way.replays,
     }
 }
 

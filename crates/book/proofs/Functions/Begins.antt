@@ -16,7 +16,7 @@ use Rattle.book.proofs.Participant.Decide.{decide-true, decide-false}
 -- A fresh book is reached.
 fresh-reached : (d : ℕ) (b : Book) → d ≤ 29219 → b ≡ freshBook d → Reached b
 unfolding run
-fresh-reached d b h e = record { start = d; within = h; calls = []; leads = sym e }
+fresh-reached d b h e = record { start = d; within = h; first = []; since = []; leads = sym e }
 
 late : (d : ℕ) → 29219 < d → refused 17 ≡ freshAnswer d
 unfolding freshAnswer

@@ -17,6 +17,7 @@ use Rattle.file.specs.Sound.{Sound}
 use Rattle.file.specs.Opening.{openedFile}
 use Rattle.layout.specs.Book.{Book}
 use Rattle.book.specs.Call.{advance}
+use Rattle.book.specs.Rule.{newRule}
 use Rattle.book.specs.Account.{openedIfAdmitted, openDay, openDays, answer, applied, step}
 use Rattle.book.specs.Opened.{filesOpened}
 use Rattle.book.specs.Reached.{Given}
@@ -149,7 +150,8 @@ days-opened (suc n) b =
     next t n = omega arith
 
 -- A refused advance.
-late-answer : (b : Book) (day budget : ℕ) → (ltb 29219 day || ltb day (b .today .0)) ≡ true → refused 17 ≡ answer b (advance day budget)
+late-answer : (b : Book) (day budget : ℕ) → (ltb 29219 day || ltb day (b .today .0)) ≡ true
+    → refused 17 ≡ answer newRule b (advance day budget)
 unfolding answer
 late-answer b day budget e =
     sym (decide-true (record { number = 17; holds = ltb 29219 day || ltb day (b .today .0) }) [] (daysOpened (min budget (day - b .today .0))) e)
@@ -162,7 +164,7 @@ refused-outside b day budget outside e h =
 
 -- An accepted one.
 opened-answer : (b : Book) (day budget : ℕ) → (ltb 29219 day || ltb day (b .today .0)) ≡ false
-    → daysOpened (min budget (day - b .today .0)) ≡ answer b (advance day budget)
+    → daysOpened (min budget (day - b .today .0)) ≡ answer newRule b (advance day budget)
 unfolding answer decide
 opened-answer b day budget e =
     sym (decide-false (record { number = 17; holds = ltb 29219 day || ltb day (b .today .0) }) [] (daysOpened (min budget (day - b .today .0))) e)

@@ -37,6 +37,7 @@ use Rattle.book.specs.declared.Loaded.{Loaded}
 use Rattle.book.specs.declared.Loaded.the-variants as Loads
 use Rattle.book.specs.declared.batches.PartAnswer.{PartAnswer}
 use Rattle.book.specs.Call.{settle, Call, on, batch, partAct, refusalOf, firstRefused, batchSays, loadedSays}
+use Rattle.book.specs.Rule.{newRule}
 use Rattle.book.specs.Account.{fileAt, fileAnswer, answerOn, afterParts, partAnswer, answer, applied, step}
 use Rattle.book.specs.Batches.{judged, madeParts, Judges}
 use Rattle.book.specs.InWords.{GivenWords}
@@ -125,7 +126,7 @@ module _ (b : Book) (file : List ℕ) where
       says-all n (judged b file) (none-refused n answers (judges-all i n answers low high js))
 
 -- To judge the parts on the book before the batch is to judge each behind those before it.
-pub judged-is : (b : Book) (file : List ℕ) (n : ℕ) → formOf file ≡ Parts n → batchSays (Parts n) (judged b file) ≡ answer b (batch file)
+pub judged-is : (b : Book) (file : List ℕ) (n : ℕ) → formOf file ≡ Parts n → batchSays (Parts n) (judged b file) ≡ answer newRule b (batch file)
 unfolding answer
 judged-is b file n e =
     ap (λ (f : Form). batchSays f (judged b file)) (sym e)
@@ -139,16 +140,17 @@ made-is : (b : Book) (file : List ℕ) (k : ℕ) → ((j : ℕ) → j < k → ac
 unfolding madeParts afterParts partAnswer step answer applied
 made-is b file zero each = refl
 made-is b file (suc k) each =
-    ap (λ (z : Book). step z (on (participantAt file k) (partAct file k))) (made-is b file k (λ j h. each j (omega arith)))
-    ∙ cond-true (accepted (answerOn (afterParts b file k) (participantAt file k) (partAct file k))) _ (afterParts b file k)
+    ap (λ (z : Book). step newRule z (on (participantAt file k) (partAct file k))) (made-is b file k (λ j h. each j (omega arith)))
+    ∙ cond-true (accepted (answerOn newRule (afterParts b file k) (participantAt file k) (partAct file k))) _ (afterParts b file k)
     (each k (omega arith))
 
 -- The parts of an accepted batch, settled in turn.
-pub settled-is : (b : Book) (file : List ℕ) → accepted (answer b (batch file)) ≡ true → madeParts b file (countIn file) ≡ step b (batch file)
+pub settled-is : (b : Book) (file : List ℕ) → accepted (answer newRule b (batch file)) ≡ true
+    → madeParts b file (countIn file) ≡ step newRule b (batch file)
 unfolding step applied answer
 settled-is b file e =
     made-is b file (countIn file) (batch-accepted file (partAnswer b file) e .each)
-    ∙ sym (cond-true (accepted (answer b (batch file))) (afterParts b file (countIn file)) b e)
+    ∙ sym (cond-true (accepted (answer newRule b (batch file))) (afterParts b file (countIn file)) b e)
 
 -- ---- a batch of n parts
 
@@ -175,7 +177,7 @@ no-number (Settlements.Refused n) one = absurd (miss (0 ∷ 1 ∷ 2 ∷ []) 3 tt
 pub part-above : (b : Book) (file : List ℕ) (k : ℕ) (part : Part) → PartIs file k part → 63 < part .participant → refused 1 ≡ judged b file k
 unfolding answer
 part-above b file k part is h =
-    above-answer b (participantAt file k) (partAct file k) (lt-ltb 63 (participantAt file k) (omega (arith, is .participant)))
+    above-answer newRule b (participantAt file k) (partAct file k) (lt-ltb 63 (participantAt file k) (omega (arith, is .participant)))
 
 -- What its settlement answers, by the sum of its figures.
 pub part-judged : (file : List ℕ) (k : ℕ) (part : Part) (l : List ℕ) (outside due : Bool) (sum : Sum) (x : Answer)
@@ -186,7 +188,7 @@ unfolding answer bookOfWords figuresAt
 part-judged file k part l outside due sum x is low o d s answers =
     let p = participantAt file k in
     let h : p ≤ 63 = omega (arith, is .participant) in
-    known-answer (bookOfWords l) p (partAct file k) x (le-ltb 63 p h)
+    known-answer (bookOfWords l) p (partAct file k) x (le-ltb 63 p h) refl
     (answers (monthIn file) (figuresAt file k) o d (s ∙ (λ i. summed (figuresBehind file (is .offset i) (is .rows i))))
     ∙ ap (λ (q : ℕ). fileAnswer (fileInWords l q) (todayIn l) (partAct file k)) (is .participant)
     ∙ ap (λ (f : File). fileAnswer f (todayIn l) (partAct file k)) (sym (file-there l p h)))
@@ -211,7 +213,7 @@ pub made-next : (b : Book) (file : List ℕ) (k : ℕ) (l m : List ℕ) (x : Ans
 unfolding madeParts
 made-next b file k l m x e g =
     g .given .left
-    ∙ ap (λ (z : Book). step z (on (participantAt file k) (partAct file k))) e
+    ∙ ap (λ (z : Book). step newRule z (on (participantAt file k) (partAct file k))) e
     ∙ ap (madeParts b file) (sym (add-one k))
 
 -- A part that is no refusal is of a participant up to 63.
@@ -219,7 +221,7 @@ low-participant : (b : Book) (file : List ℕ) (k : ℕ) → accepted (judged b 
 unfolding answer
 low-participant b file k e =
     split (ltb 63 (participantAt file k))
-    (λ h. clash {t = false} (ap accepted (above-answer b (participantAt file k) (partAct file k) h) ∙ e) refl)
+    (λ h. clash {t = false} (ap accepted (above-answer newRule b (participantAt file k) (partAct file k) h) ∙ e) refl)
     (λ h. ltb-false 63 (participantAt file k) h)
 
 module _ (b : Book) (file : List ℕ) (n i : ℕ) (answers : List PartAnswer) (js : Judges b file n answers) (h : i < n) (part : Part)
@@ -247,9 +249,9 @@ module _ (b : Book) (file : List ℕ) (n i : ℕ) (answers : List PartAnswer) (j
         made-is b file i (λ k g. ap accepted (sym (behind k (omega arith))) ∙ js .settled k (omega arith)) in
         js .same i h
         ∙ behind i h
-        ∙ ap (λ (z : Book). answerOn z p (partAct file i)) (sym (so-far ∙ made))
+        ∙ ap (λ (z : Book). answerOn newRule z p (partAct file i)) (sym (so-far ∙ made))
         ∙ sym (known-answer (bookOfWords l) p (partAct file i)
-        (fileAnswer (fileAt (bookOfWords l) p) (todayIn l) (partAct file i)) (le-ltb 63 p low) refl)
+        (fileAnswer (fileAt (bookOfWords l) p) (todayIn l) (partAct file i)) (le-ltb 63 p low) refl refl)
         ∙ ap (λ (f : File). fileAnswer f (todayIn l) (partAct file i)) (file-there l p low)
 
     -- .. so what is written is what its settlement leaves.
@@ -283,20 +285,20 @@ judged-parts b file n k answers r js e = js (ap (λ (x : Loaded). accepted (load
 
 module _ (l : List ℕ) (w : WellFormed l) (file : List ℕ) where
   -- A refused batch leaves every word.
-  left-alone : (n i : ℕ) → refusedPair n i ≡ answer (bookOfWords l) (batch file) → GivenWords l (batch file) (refusedPair n i) l
+  left-alone : (n i : ℕ) → refusedPair n i ≡ answer newRule (bookOfWords l) (batch file) → GivenWords l (batch file) (refusedPair n i) l
   unfolding step
   left-alone n i is =
       let b = bookOfWords l in
       nothing-written l (batch file) (refusedPair n i) w
       (given b (batch file) (refusedPair n i) b is
-      (sym (cond-false (accepted (answer b (batch file))) (applied b (batch file)) b (ap accepted (sym is)))))
+      (sym (cond-false (accepted (answer newRule b (batch file))) (applied b (batch file)) b (ap accepted (sym is)))))
 
   -- A file that is no batch.
   pub load-no-batch : (form : Form) (n i : ℕ) → form ≡ formOf file → form ≡ Refused n i → GivenWords l (batch file) (refusedPair n i) l
   unfolding answer batchSays
   load-no-batch form n i e r =
       let b = bookOfWords l in
-      let is : refusedPair n i ≡ answer b (batch file) = ap (λ (f : Form). batchSays f (partAnswer b file)) (sym r ∙ e) in
+      let is : refusedPair n i ≡ answer newRule b (batch file) = ap (λ (f : Form). batchSays f (partAnswer b file)) (sym r ∙ e) in
       left-alone n i is
 
   -- A batch with a refused part.
@@ -312,7 +314,7 @@ module _ (l : List ℕ) (w : WellFormed l) (file : List ℕ) where
       → bookOfWords m ≡ madeParts (bookOfWords l) file parts → GivenWords l (batch file) (batched n) m
   load-settled m parts r n form e q formed made =
       let b = bookOfWords l in
-      let is : batched n ≡ answer b (batch file) = ap loadedSays (sym q) ∙ e ∙ judged-is b file parts form in
+      let is : batched n ≡ answer newRule b (batch file) = ap loadedSays (sym q) ∙ e ∙ judged-is b file parts form in
       let count : parts ≡ countIn file = ap partsIn (sym form ∙ whole file (ap isBatch form) .form) in
       in-words l m (batch file) (batched n) w
       (given b (batch file) (batched n) (bookOfWords m) is

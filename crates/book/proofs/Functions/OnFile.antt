@@ -4,13 +4,13 @@
 use Prim.Native.Nat.{ℕ}
 use native.Mathlib.Nat.{add-zero}
 use mathlib.Core.Path.{_≡_, refl, sym, ap, ap₂, _∙_}
-use mathlib.Core.Bool.{Bool, true, false, cond, not}
+use mathlib.Core.Bool.{Bool, true, false, cond, not, _&&_}
 use mathlib.Core.List.{List, [], _∷_}
-use lib.Dec.{ltb}
+use lib.Dec.{ltb, eqb}
 use lib.IntN.{ℤ}
 use lib.ListN.{length}
 use lib.Seq.{set-getD}
-use Rattle.laws.specs.Cases.{split, cond-true, cond-false}
+use Rattle.laws.specs.Cases.{split, clash, cond-true, cond-false}
 use Rattle.file.specs.declared.File.{File}
 use Rattle.file.specs.Answer.{Answer, refused, done, called, covered, recorded, annual, daysOpened, stated, counted, batched, refusedPair}
 use Rattle.file.specs.Answer.{decide, accepted}
@@ -22,25 +22,68 @@ use Rattle.manual.specs.Figures.{sumOf}
 use Rattle.file.specs.Annual.{annualAnswer, annualFile}
 use Rattle.layout.specs.Book.{Book}
 use Rattle.book.specs.Call.{Act, admit, settle, annualRun, Call, on, isCalled}
-use Rattle.book.specs.Account.{fileAt, withFile, ifNumbered, ifAdmitted, fileAnswer, fileAfter, callsAdded, answer, applied, step}
+use Rattle.book.specs.Rule.{Rule, oldRule, newRule}
+use Rattle.book.specs.Account.{fileAt, withFile, ifNumbered, ifAdmitted, fileAnswer, fileAfter, callsAdded}
+use Rattle.book.specs.Account.{admitsRetired, ifRegistered, answer, applied, step}
 use Rattle.book.specs.Left.{fileLeft}
 use Rattle.book.proofs.Participant.Decide.{decide-true, decide-false, decide-accepted}
 
 -- A participant above 63: refused with 1, and the book as it was.
-pub above-answer : (b : Book) (p : ℕ) (a : Act) → ltb 63 p ≡ true → refused 1 ≡ answer b (on p a)
+pub above-answer : (rule : Rule) (b : Book) (p : ℕ) (a : Act) → ltb 63 p ≡ true → refused 1 ≡ answer rule b (on p a)
 unfolding answer ifNumbered
-above-answer b p a e = sym (decide-true (record { number = 1; holds = ltb 63 p }) [] (fileAnswer (fileAt b p) (b .today .0) a) e)
+above-answer rule b p a e =
+    sym (decide-true (record { number = 1; holds = ltb 63 p }) [] (ifRegistered rule a (fileAnswer (fileAt b p) (b .today .0) a)) e)
 
 -- A refused call leaves the book.
-pub refused-left : (b : Book) (c : Call) (n : ℕ) → refused n ≡ answer b c → b ≡ step b c
+pub refused-left : (b : Book) (c : Call) (n : ℕ) → refused n ≡ answer newRule b c → b ≡ step newRule b c
 unfolding step
 refused-left b c n e = sym (ap (λ (x : Answer). cond (accepted x) (applied b c) b) (sym e))
 
--- A known participant's answer is that of the call on its file.
-pub known-answer : (b : Book) (p : ℕ) (a : Act) (x : Answer) → ltb 63 p ≡ false → x ≡ fileAnswer (fileAt b p) (b .today .0) a
-    → x ≡ answer b (on p a)
+-- A known participant's answer is that of the call on its file under the old rule ..
+pub known-first : (b : Book) (p : ℕ) (a : Act) (x : Answer) → ltb 63 p ≡ false → x ≡ fileAnswer (fileAt b p) (b .today .0) a
+    → x ≡ answer oldRule b (on p a)
 unfolding answer ifNumbered decide
-known-answer b p a x e h = h ∙ sym (decide-false (record { number = 1; holds = ltb 63 p }) [] (fileAnswer (fileAt b p) (b .today .0) a) e)
+known-first b p a x e h = h ∙ sym (decide-false (record { number = 1; holds = ltb 63 p }) [] (fileAnswer (fileAt b p) (b .today .0) a) e)
+
+-- .. and under the new one, where it doesn't admit the retired role.
+unretired : (a : Act) (x : Answer) → admitsRetired a ≡ false → x ≡ ifRegistered newRule a x
+unretired a x e = rw e refl
+
+pub known-answer : (b : Book) (p : ℕ) (a : Act) (x : Answer) → ltb 63 p ≡ false → admitsRetired a ≡ false
+    → x ≡ fileAnswer (fileAt b p) (b .today .0) a → x ≡ answer newRule b (on p a)
+unfolding answer ifNumbered decide
+known-answer b p a x e other h =
+    h ∙ unretired a (fileAnswer (fileAt b p) (b .today .0) a) other
+    ∙ sym (decide-false (record { number = 1; holds = ltb 63 p }) [] (ifRegistered newRule a (fileAnswer (fileAt b p) (b .today .0) a)) e)
+
+-- What the old rule refuses, the new one refuses alike; what it accepts of another role, the new one accepts; and role 1 is refused with 23.
+refused-both : (t : Bool) (x : Answer) → accepted x ≡ false → x ≡ cond (t && accepted x) (refused 23) x
+refused-both true x e = rw e refl
+refused-both false x e = refl
+
+pub refused-first : (b : Book) (p : ℕ) (a : Act) (x : Answer) → x ≡ answer oldRule b (on p a) → accepted x ≡ false → x ≡ answer newRule b (on p a)
+unfolding answer ifNumbered decide
+refused-first b p a x e bad =
+    split (ltb 63 p)
+    (λ h. e ∙ rw h refl)
+    (λ h.
+    let same : x ≡ fileAnswer (fileAt b p) (b .today .0) a = e ∙ rw h refl in
+    same ∙ refused-both (admitsRetired a) (fileAnswer (fileAt b p) (b .today .0) a) (ap accepted (sym same) ∙ bad) ∙ rw h refl)
+
+pub accepted-first : (b : Book) (p role : ℕ) → accepted (answer oldRule b (on p (admit role))) ≡ true → eqb role 1 ≡ false
+    → answer newRule b (on p (admit role)) ≡ answer oldRule b (on p (admit role))
+unfolding answer
+accepted-first b p role e other = rw other refl
+
+pub retired-first : (b : Book) (p role : ℕ) → accepted (answer oldRule b (on p (admit role))) ≡ true → eqb role 1 ≡ true
+    → refused 23 ≡ answer newRule b (on p (admit role))
+unfolding answer ifNumbered decide
+retired-first b p role e one =
+    let x = fileAnswer (fileAt b p) (b .today .0) (admit role) in
+    split (ltb 63 p)
+    (λ h. clash {t = false} (ap (λ (t : Bool). accepted (cond t (refused 1) x)) (sym h) ∙ e) refl)
+    (λ h.
+    rw (h, one) (sym (cond-true (accepted x) (refused 23) x (ap (λ (t : Bool). accepted (cond t (refused 1) x)) (sym h) ∙ e))))
 
 -- One that isn't admitted is refused with 2.
 pub not-admitted : (f : File) (x : Answer) → f .admitted ≡ false → refused 2 ≡ ifAdmitted f x
@@ -58,25 +101,25 @@ stored-same b p = λ i. record { files = set-getD (b .files) p noFile i; today =
 
 -- The book with the file that a call leaves, f, and the n calls that it made: where the call was refused both are as before.
 pub stored : (b : Book) (p : ℕ) (a : Act) (f : File) (n : ℕ)
-    → (accepted (answer b (on p a)) ≡ true → (f ≡ fileAfter (fileAt b p) (b .today .0) a) × (n ≡ callsAdded (fileAt b p) (b .today .0) a))
-    → (accepted (answer b (on p a)) ≡ false → (f ≡ fileAt b p) × (n ≡ 0))
-    → withFile b p f n ≡ step b (on p a)
+    → (accepted (answer newRule b (on p a)) ≡ true → (f ≡ fileAfter (fileAt b p) (b .today .0) a) × (n ≡ callsAdded (fileAt b p) (b .today .0) a))
+    → (accepted (answer newRule b (on p a)) ≡ false → (f ≡ fileAt b p) × (n ≡ 0))
+    → withFile b p f n ≡ step newRule b (on p a)
 unfolding step applied
 stored b p a f n if-so if-not =
-    split (accepted (answer b (on p a)))
+    split (accepted (answer newRule b (on p a)))
     (λ e.
     ap₂ (withFile b p) (if-so e .0) (if-so e .1)
-    ∙ sym (cond-true (accepted (answer b (on p a))) (applied b (on p a)) b e))
+    ∙ sym (cond-true (accepted (answer newRule b (on p a))) (applied b (on p a)) b e))
     (λ e.
     ap₂ (withFile b p) (if-not e .0) (if-not e .1)
     ∙ stored-same b p
-    ∙ sym (cond-false (accepted (answer b (on p a))) (applied b (on p a)) b e))
+    ∙ sym (cond-false (accepted (answer newRule b (on p a))) (applied b (on p a)) b e))
 
 -- An accepted admission.
-pub admitted-left : (b : Book) (p role : ℕ) → accepted (answer b (on p (admit role))) ≡ true
-    → withFile b p (admittedFile (b .today .0) role) (length (callsOfAdmission (b .today .0) role)) ≡ step b (on p (admit role))
+pub admitted-left : (rule : Rule) (b : Book) (p role : ℕ) → accepted (answer rule b (on p (admit role))) ≡ true
+    → withFile b p (admittedFile (b .today .0) role) (length (callsOfAdmission (b .today .0) role)) ≡ step rule b (on p (admit role))
 unfolding step applied fileAfter callsAdded
-admitted-left b p role e = sym (cond-true (accepted (answer b (on p (admit role)))) (applied b (on p (admit role))) b e)
+admitted-left rule b p role e = sym (cond-true (accepted (answer rule b (on p (admit role)))) (applied b (on p (admit role))) b e)
 
 -- An answer that is no acceptance is no call.
 refused-not-called : (x : Answer) → accepted x ≡ false → isCalled x ≡ false
@@ -151,31 +194,31 @@ module _ (f : File) (t : ℕ) where
 
 -- The book with the file that a call leaves.
 module _ (b : Book) (p : ℕ) (numbered : ltb 63 p ≡ false) where
-  left : (a : Act) (n : ℕ)
+  left : (a : Act) (n : ℕ) → admitsRetired a ≡ false
       → (accepted (fileAnswer (fileAt b p) (b .today .0) a) ≡ true → n ≡ callsAdded (fileAt b p) (b .today .0) a)
       → (accepted (fileAnswer (fileAt b p) (b .today .0) a) ≡ false → n ≡ 0)
-      → withFile b p (fileLeft (fileAt b p) (b .today .0) a) n ≡ step b (on p a)
+      → withFile b p (fileLeft (fileAt b p) (b .today .0) a) n ≡ step newRule b (on p a)
   unfolding fileLeft
-  left a n if-so if-not =
+  left a n other if-so if-not =
       let f = fileAt b p in
       let t = b .today .0 in
-      let same = ap accepted (known-answer b p a (fileAnswer f t a) numbered refl) in
+      let same = ap accepted (known-answer b p a (fileAnswer f t a) numbered other refl) in
       stored b p a (fileLeft f t a) n
       (λ e. (cond-true (accepted (fileAnswer f t a)) (fileAfter f t a) f (same ∙ e), if-so (same ∙ e)))
       (λ e. (cond-false (accepted (fileAnswer f t a)) (fileAfter f t a) f (same ∙ e), if-not (same ∙ e)))
 
   -- a call that makes none
-  pub none-left : (a : Act) → ((f : File) (t : ℕ) → callsAdded f t a ≡ 0)
-      → withFile b p (fileLeft (fileAt b p) (b .today .0) a) 0 ≡ step b (on p a)
-  none-left a none = left a 0 (λ e. sym (none (fileAt b p) (b .today .0))) (λ e. refl)
+  pub none-left : (a : Act) → admitsRetired a ≡ false → ((f : File) (t : ℕ) → callsAdded f t a ≡ 0)
+      → withFile b p (fileLeft (fileAt b p) (b .today .0) a) 0 ≡ step newRule b (on p a)
+  none-left a other none = left a 0 other (λ e. sym (none (fileAt b p) (b .today .0))) (λ e. refl)
 
   pub settle-left : (m : ℕ) (figures : List ℤ)
       → withFile b p (fileLeft (fileAt b p) (b .today .0) (settle m figures))
       (cond (isCalled (fileAnswer (fileAt b p) (b .today .0) (settle m figures))) 1 0)
-      ≡ step b (on p (settle m figures))
+      ≡ step newRule b (on p (settle m figures))
   unfolding callsAdded
   settle-left m figures =
       let x = fileAnswer (fileAt b p) (b .today .0) (settle m figures) in
-      left (settle m figures) (cond (isCalled x) 1 0)
+      left (settle m figures) (cond (isCalled x) 1 0) refl
       (λ e. ap (λ (called : Bool). cond called 1 0) (called-is (fileAt b p) (b .today .0) m figures e))
       (λ e. ap (λ (called : Bool). cond called 1 0) (refused-not-called x e))

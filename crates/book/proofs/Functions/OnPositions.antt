@@ -213,7 +213,7 @@ module _ (l : List ℕ) (p : ℕ) (w : WellFormed l) (low : p ≤ 63) where
       given-none l p w low m (withSlots f (set (f .slots) k (slotOf h)))
       (slot-put l m p (w .canonical) (w .long) low k (slotOf h) (omega (arith, is .0)) back
       (stored ∙ ap (λ (j : ℕ). written l (place p + (9 + 4 * j)) (slotWords (slotOf h))) at))
-      (lodge k h) x (λ f t. refl) b (is .1)
+      (lodge k h) x refl (λ f t. refl) b (is .1)
 
   -- a release is at one of eight places, of which as much is held, and leaves what is left there
   release-is : (k n : ℕ) (x : Answer) (ok : Bool) → x ≡ fileAnswer (fileInWords l p) (todayIn l) (release k n) → ok ≡ accepted x → ok ≡ true
@@ -258,4 +258,4 @@ module _ (l : List ℕ) (p : ℕ) (w : WellFormed l) (low : p ≤ 63) where
       let s = slotOf (lessReleased n (positionAt (f .slots) k)) in
       given-none l p w low m (withSlots f (set (f .slots) k s))
       (slot-put l m p (w .canonical) (w .long) low k s (omega (arith, is .0)) (left .back) (left .stored))
-      (release k n) x (λ f t. refl) b (is .2)
+      (release k n) x refl (λ f t. refl) b (is .2)

@@ -7,7 +7,7 @@ use native.Mathlib.Numerals.{add-one}
 use mathlib.Core.Path.{_≡_, refl, sym, ap, subst, _∙_}
 use mathlib.Core.Bool.{Bool, true, false, cond, not}
 use mathlib.Core.List.{List, [], _∷_, _++_, append-nil}
-use borrow.Author.Tests.{le-ltb}
+use borrow.Author.Tests.{lt-ltb, le-ltb, eq-eqb, ne-eqb}
 use lib.IntN.{ℤ}
 use lib.ListN.{length, getD, set, drop, replicate, length-set, length-replicate, drop-of-length-le, List·getD-eq-default}
 use Rattle.laws.specs.Cases.{cond-true, cond-false}
@@ -32,39 +32,55 @@ use Rattle.layout.proofs.BookLaws.{book-long, book-file, put-book, put-length, 
 use Rattle.layout.proofs.BookLaws.{canonical-fresh}
 use Rattle.layout.proofs.PartLaws.{next-put}
 use Rattle.book.specs.Call.{Act, admit, settle, annualRun, Call, on, statement, callsMade, isCalled}
-use Rattle.book.specs.Account.{fileAt, freshBook, ifAdmitted, fileAnswer, fileAfter, callsAdded, answer, step, applied}
+use Rattle.book.specs.Rule.{Rule, oldRule, newRule}
+use Rattle.book.specs.Account.{fileAt, freshBook, ifAdmitted, admitsRetired, fileAnswer, fileAfter, callsAdded, answer, step, applied}
 use Rattle.book.specs.Reading.Decisions.{cause}
 use Rattle.book.specs.Left.{fileLeft}
-use Rattle.book.specs.Reached.{Given, Begun}
-use Rattle.book.specs.InWords.{GivenWords, BegunWords}
+use Rattle.book.specs.Reached.{Given, GivenFirst, Begun}
+use Rattle.book.specs.InWords.{GivenWords, GivenFirstWords, BegunWords}
+use Rattle.book.specs.Admissions.{PutsAdmission}
 use Rattle.book.proofs.Functions.Answers.{storedIn, above, left-none, left-settle, left-admit}
-use Rattle.book.proofs.Functions.Answers.{gave-admitted-already, gave-no-role, admission-few, count-fits}
+use Rattle.book.proofs.Functions.Answers.{first-already, first-no-role, first-done, accepted-done, admission-few, count-fits}
 use Rattle.book.proofs.Functions.Answers.{above-statement, unknown-statement, gave-statement, gave-count}
 use Rattle.book.proofs.Functions.Begins.{begun-refused, begun-done}
-use Rattle.book.proofs.Functions.OnFile.{known-answer}
-use Rattle.book.proofs.Functions.SoundBook.{sound-file, step-sound, fresh-sound, behind-admitted}
+use Rattle.book.proofs.Functions.OnFile.{above-answer, known-answer, refused-first, accepted-first, retired-first}
+use Rattle.book.proofs.Functions.SoundBook.{sound-file, step-sound, fresh-sound, numbered, behind-admitted}
 use Rattle.book.proofs.Participant.Decide.{decide-accepted}
-use Rattle.book.proofs.History.Life.{given}
+use Rattle.book.proofs.History.Life.{given, given-first}
 
 -- ---- from the book to its words
 
--- Words that are those of their book, after a call on well-formed words.
+-- Words that are those of their book, after a call on well-formed words under either rule, are well formed; after a refused one they are as they
+-- were.
+module _ (rule : Rule) (l m : List ℕ) (c : Call) (w : WellFormed l) (left : bookOfWords m ≡ step rule (bookOfWords l) c)
+    (same : m ≡ bookWords (bookOfWords m)) where
+  formed-after : length m ≡ length l → WellFormed m
+  formed-after long =
+      record { long = long ∙ w .long; canonical = same; sound = subst SoundBook (sym left) (step-sound rule (bookOfWords l) c (w .sound)) }
+
+  unchanged-after : (x : Answer) → x ≡ answer rule (bookOfWords l) c → accepted x ≡ false → m ≡ l
+  unfolding step
+  unchanged-after x e bad =
+      same
+      ∙ ap bookWords (left ∙ ap (λ (t : Bool). cond t (applied (bookOfWords l) c) (bookOfWords l)) (ap accepted (sym e) ∙ bad))
+      ∙ sym (w .canonical)
+
 pub in-words : (l m : List ℕ) (c : Call) (x : Answer) → WellFormed l → Given (bookOfWords l) c x (bookOfWords m) → length m ≡ length l
     → m ≡ bookWords (bookOfWords m) → GivenWords l c x m
-unfolding step
 in-words l m c x w g long same =
     record {
       given = g;
-      formed =
-          record {
-            long = long ∙ w .long;
-            canonical = same;
-            sound = subst SoundBook (sym (g .left)) (step-sound (bookOfWords l) c (w .sound));
-          };
-      unchanged = λ no.
-          same
-          ∙ ap bookWords (g .left ∙ ap (λ (t : Bool). cond t (applied (bookOfWords l) c) (bookOfWords l)) (ap accepted (sym (g .answered)) ∙ no))
-          ∙ sym (w .canonical);
+      formed = formed-after newRule l m c w (g .left) same long;
+      unchanged = unchanged-after newRule l m c w (g .left) same x (g .answered);
+    }
+
+first-in-words : (l m : List ℕ) (c : Call) (x : Answer) → WellFormed l → GivenFirst (bookOfWords l) c x (bookOfWords m) → length m ≡ length l
+    → m ≡ bookWords (bookOfWords m) → GivenFirstWords l c x m
+first-in-words l m c x w g long same =
+    record {
+      given = g;
+      formed = formed-after oldRule l m c w (g .left) same long;
+      unchanged = unchanged-after oldRule l m c w (g .left) same x (g .answered);
     }
 
 -- A call that wrote nothing.
@@ -168,12 +184,12 @@ module _ (l : List ℕ) (p : ℕ) (w : WellFormed l) (low : p ≤ 63) where
         (canonical-made m n (canonical-put l m p g (w .canonical) low put) (omega (arith, put-length l m p g low put, w .long)))
 
     -- a call that makes none
-    pub given-none : (a : Act) (x : Answer) → ((f : File) (t : ℕ) → callsAdded f t a ≡ 0) → x ≡ fileAnswer (fileInWords l p) (todayIn l) a
+    pub given-none : (a : Act) (x : Answer) → admitsRetired a ≡ false → ((f : File) (t : ℕ) → callsAdded f t a ≡ 0) → x ≡ fileAnswer (fileInWords l p) (todayIn l) a
         → g ≡ fileLeft (fileInWords l p) (todayIn l) a → GivenWords l (on p a) x m
     unfolding bookOfWords
-    given-none a x none e h =
+    given-none a x other none e h =
         one a x
-        (left-none (bookOfWords l) p low a x g none
+        (left-none (bookOfWords l) p low a x g other none
         (said (λ z. fileAnswer z (todayIn l) a) x e) (said (λ z. fileLeft z (todayIn l) a) g h))
 
     -- a settlement: one that made no call, and one that made k
@@ -202,14 +218,14 @@ module _ (l : List ℕ) (p : ℕ) (w : WellFormed l) (low : p ≤ 63) where
     abbrev t : ℕ
     t = todayIn l
 
-    pub given-refused : (a : Act) (x : Answer) (ok : Bool) → x ≡ fileAnswer f t a → ok ≡ accepted x → ok ≡ false → GivenWords l (on p a) x l
+    pub given-refused : (a : Act) (x : Answer) (ok : Bool) → admitsRetired a ≡ false → x ≡ fileAnswer f t a → ok ≡ accepted x → ok ≡ false → GivenWords l (on p a) x l
     unfolding bookOfWords step
-    given-refused a x ok b r bad =
-        let is : x ≡ answer (bookOfWords l) (on p a) =
-        known-answer (bookOfWords l) p a x (le-ltb 63 p low) (b ∙ ap (λ (z : File). fileAnswer z t a) (sym (file-there l p low))) in
+    given-refused a x ok other b r bad =
+        let is : x ≡ answer newRule (bookOfWords l) (on p a) =
+        known-answer (bookOfWords l) p a x (le-ltb 63 p low) other (b ∙ ap (λ (z : File). fileAnswer z t a) (sym (file-there l p low))) in
         nothing-written l (on p a) x w
         (given (bookOfWords l) (on p a) x (bookOfWords l) is
-        (sym (cond-false (accepted (answer (bookOfWords l) (on p a))) (applied (bookOfWords l) (on p a)) (bookOfWords l)
+        (sym (cond-false (accepted (answer newRule (bookOfWords l) (on p a))) (applied (bookOfWords l) (on p a)) (bookOfWords l)
         (ap accepted (sym is) ∙ sym r ∙ bad))))
 
     -- the file that an accepted call leaves
@@ -230,7 +246,7 @@ module _ (l : List ℕ) (p : ℕ) (w : WellFormed l) (low : p ≤ 63) where
     -- an annual run leaves the next amount
     pub given-no-run : (r : AnnualRun) (n : ℕ) → annualSays r ≡ fileAnswer f t annualRun → r ≡ AnnualRun.Refused n
         → GivenWords l (on p annualRun) (refused n) l
-    given-no-run r n b e = given-refused annualRun (refused n) false (ap annualSays (sym e) ∙ b) refl refl
+    given-no-run r n b e = given-refused annualRun (refused n) false refl (ap annualSays (sym e) ∙ b) refl refl
 
     pub given-run : (m : List ℕ) (r : AnnualRun) (a n : ℕ) → annualSays r ≡ fileAnswer f t annualRun → r ≡ AnnualRun.Amount a n
         → m ≡ written l (place p + 5) (1 ∷ a ∷ []) → GivenWords l (on p annualRun) (annual a n) m
@@ -240,7 +256,7 @@ module _ (l : List ℕ) (p : ℕ) (w : WellFormed l) (low : p ≤ 63) where
         let go = after annualRun (annual a n) true b refl refl in
         let own = behind-admitted f (annualAnswer f t) (go .0) in
         let amount : a ≡ annualAmountOf f t = ap amountIn (b ∙ is-behind f (annualAnswer f t) (go .0) ∙ decide-accepted _ _ own) in
-        given-none m (withNext f (setTo a)) (next-put l m p (w .canonical) (w .long) low a stored) annualRun (annual a n) (λ f t. refl) b
+        given-none m (withNext f (setTo a)) (next-put l m p (w .canonical) (w .long) low a stored) annualRun (annual a n) refl (λ f t. refl) b
         (ap (λ (y : ℕ). withNext f (setTo y)) amount
         ∙ sym (go .1 ∙ cond-true (accepted (annualAnswer f t)) (withNext f (setTo (annualAmountOf f t))) f own))
 
@@ -249,23 +265,15 @@ module _ (l : List ℕ) (p : ℕ) (w : WellFormed l) (low : p ≤ 63) where
     flag-is : a ≡ fileAt (bookOfWords l) p .admitted
     flag-is = there-admitted l p a low ea
 
-    pub given-already : (role : ℕ) → a ≡ true → GivenWords l (on p (admit role)) (refused 3) l
-    given-already role h =
-        nothing-written l (on p (admit role)) (refused 3) w
-        (gave-admitted-already (bookOfWords l) p low role (sym flag-is ∙ h))
+    -- an admission's answer by the causes that both rules have
+    pub already-admitted : (role : ℕ) → a ≡ true → refused 3 ≡ answer oldRule (bookOfWords l) (on p (admit role))
+    already-admitted role h = first-already (bookOfWords l) p low role (sym flag-is ∙ h)
 
-    pub given-no-role : (role : ℕ) → a ≡ false → 5 < role → GivenWords l (on p (admit role)) (refused 4) l
-    given-no-role role h k =
-        nothing-written l (on p (admit role)) (refused 4) w
-        (gave-no-role (bookOfWords l) p low role (sym flag-is ∙ h) k)
+    pub no-such-role : (role : ℕ) → a ≡ false → 5 < role → refused 4 ≡ answer oldRule (bookOfWords l) (on p (admit role))
+    no-such-role role h k = first-no-role (bookOfWords l) p low role (sym flag-is ∙ h) k
 
-    pub given-admit : (m : List ℕ) (g : File) (t role n : ℕ) → t ≡ todayIn l → Put l (place p) g m → a ≡ false → role ≤ 5
-        → g ≡ admittedFile t role → n ≡ getD l 2 0 + g .count → GivenWords l (on p (admit role)) done (set m 2 n)
-    unfolding bookOfWords
-    given-admit m g t role n q put h k b e =
-        both m g put (admit role) done n
-        (subst (λ (z : ℕ). Given (bookOfWords l) (on p (admit role)) done (storedIn (bookOfWords l) p g z)) (sym e)
-        (left-admit (bookOfWords l) p low role g (sym flag-is ∙ h) k (b ∙ ap (λ (d : ℕ). admittedFile d role) q)))
+    pub may-be-admitted : (role : ℕ) → a ≡ false → role ≤ 5 → done ≡ answer oldRule (bookOfWords l) (on p (admit role))
+    may-be-admitted role h k = first-done (bookOfWords l) p low role (sym flag-is ∙ h) k
 
     -- the statement
     pub given-unknown : a ≡ false → Given (bookOfWords l) (statement p) (refused 2) (bookOfWords l)
@@ -307,6 +315,79 @@ module _ (l : List ℕ) (p : ℕ) (w : WellFormed l) (low : p ≤ 63) where
   pub slots-sound : All (λ (z : Slot). SoundPosition (z .position)) (slotsOfWords (wordsAt l (place p)))
   unfolding fileOfWords
   slots-sound = file-sound (fileInWords l p) (todayIn l) refl refl .slots
+
+-- ---- admissions
+
+pub no-participant : (l : List ℕ) (p role : ℕ) → 63 < p → refused 1 ≡ answer oldRule (bookOfWords l) (on p (admit role))
+no-participant l p role h = above-answer oldRule (bookOfWords l) p (admit role) (lt-ltb 63 p h)
+
+-- By the answer x that the old rule gives: where it refuses, both do; where it accepts role 1, the new one refuses with 23.
+module _ (l : List ℕ) (p role : ℕ) (x : Answer) (w : WellFormed l) (e : x ≡ answer oldRule (bookOfWords l) (on p (admit role))) where
+  pub refused-alike : (ok : Bool) → ok ≡ accepted x → ok ≡ false → GivenWords l (on p (admit role)) x l
+  unfolding step
+  refused-alike ok r bad =
+      let is = refused-first (bookOfWords l) p (admit role) x e (sym r ∙ bad) in
+      nothing-written l (on p (admit role)) x w
+      (given (bookOfWords l) (on p (admit role)) x (bookOfWords l) is
+      (sym (cond-false (accepted (answer newRule (bookOfWords l) (on p (admit role)))) (applied (bookOfWords l) (on p (admit role))) (bookOfWords l)
+      (ap accepted (sym is) ∙ sym r ∙ bad))))
+
+  pub refused-by-old-rule : (ok : Bool) → ok ≡ accepted x → ok ≡ false → GivenFirstWords l (on p (admit role)) x l
+  unfolding step
+  refused-by-old-rule ok r bad =
+      first-in-words l l (on p (admit role)) x w
+      (given-first (bookOfWords l) (on p (admit role)) x (bookOfWords l) e
+      (sym (cond-false (accepted (answer oldRule (bookOfWords l) (on p (admit role)))) (applied (bookOfWords l) (on p (admit role))) (bookOfWords l)
+      (ap accepted (sym e) ∙ sym r ∙ bad))))
+      refl
+      (w .canonical)
+
+  pub retired-role : (ok : Bool) → ok ≡ accepted x → ok ≡ true → role ≡ 1 → GivenWords l (on p (admit role)) (refused 23) l
+  unfolding step
+  retired-role ok r good is-one =
+      let is = retired-first (bookOfWords l) p role (ap accepted (sym e) ∙ sym r ∙ good) (eq-eqb role 1 is-one) in
+      nothing-written l (on p (admit role)) (refused 23) w
+      (given (bookOfWords l) (on p (admit role)) (refused 23) (bookOfWords l) is
+      (sym (cond-false (accepted (answer newRule (bookOfWords l) (on p (admit role)))) (applied (bookOfWords l) (on p (admit role))) (bookOfWords l)
+      (ap accepted (sym is)))))
+
+  pub is-accepted : (ok : Bool) → ok ≡ accepted x → ok ≡ true → accepted (answer oldRule (bookOfWords l) (on p (admit role))) ≡ true
+  is-accepted ok r good = ap accepted (sym e) ∙ sym r ∙ good
+
+  pub is-numbered : (ok : Bool) → ok ≡ accepted x → ok ≡ true → p ≤ 63
+  unfolding answer
+  is-numbered ok r good = numbered p _ (is-accepted ok r good)
+
+-- What an accepted admission writes.
+module _ (l m : List ℕ) (p role : ℕ) (w : WellFormed l) (low : p ≤ 63) (g : File) (put : Put l (place p) g m) where
+  pub put-admission : (day n : ℕ) → day ≡ todayIn l → accepted (answer oldRule (bookOfWords l) (on p (admit role))) ≡ true
+      → g ≡ admittedFile day role → n ≡ getD l 2 0 + g .count → PutsAdmission l p role (set m 2 n)
+  unfolding bookOfWords
+  put-admission day n q good b e =
+      let book = bookOfWords l in
+      let stored : bookOfWords (set m 2 n) ≡ storedIn book p g (getD l 2 0 + g .count)
+      = stored-book l m p g low put n (w .long) ∙ ap (storedIn book p g) e in
+      let file : g ≡ admittedFile (todayIn l) role = b ∙ ap (λ (d : ℕ). admittedFile d role) q in
+      let long = length-set m 2 n ∙ put-length l m p g low put in
+      let is = accepted-done book p role good in
+      let same = canonical-made m n (canonical-put l m p g (w .canonical) low put) (omega (arith, put-length l m p g low put, w .long)) in
+      record {
+        first = first-in-words l (set m 2 n) (on p (admit role)) done w
+            (given-first book (on p (admit role)) done (bookOfWords (set m 2 n)) is
+            (stored ∙ left-admit oldRule book p role g good file))
+            long
+            same;
+        given = λ other.
+            let alike = accepted-first book p role good other in
+            in-words l (set m 2 n) (on p (admit role)) done w
+            (given book (on p (admit role)) done (bookOfWords (set m 2 n)) (is ∙ sym alike)
+            (stored ∙ left-admit newRule book p role g (ap accepted alike ∙ good) file))
+            long
+            same;
+      }
+
+pub other-role : (l m : List ℕ) (p role : ℕ) → PutsAdmission l p role m → (role ≡ 1 → ⊥) → GivenWords l (on p (admit role)) done m
+other-role l m p role x ne = x .given (ne-eqb role 1 ne)
 
 pub above-stated : (l : List ℕ) (p : ℕ) → 63 < p → Given (bookOfWords l) (statement p) (refused 1) (bookOfWords l)
 above-stated l p h = above-statement (bookOfWords l) p h

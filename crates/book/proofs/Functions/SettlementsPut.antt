@@ -301,4 +301,4 @@ module _ (l : List ℕ) (p mo : ℕ) (w : WellFormed l) (low : p ≤ 63) (r : Se
   pub puts-nothing : (n : ℕ) → r ≡ Settlements.Refused n → PutsSettlement l p mo (settledSays r) l
   puts-nothing n e =
       subst (λ (y : Settled). PutsSettlement l p mo (settledSays y) l) (sym e)
-      (λ figures b. given-refused l p w low (settle mo figures) (refused n) false b refl refl)
+      (λ figures b. given-refused l p w low (settle mo figures) (refused n) false refl b refl refl)

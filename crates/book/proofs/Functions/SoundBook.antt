@@ -4,7 +4,7 @@ use Prim.Native.Nat.{ℕ, zero, suc, _+_, _-_, _*_, _≤_, _<_, min}
 use native.Mathlib.Nat.{add-zero}
 use native.Mathlib.Omega.{arith}
 use mathlib.Core.Path.{_≡_, refl, sym, ap, subst, _∙_}
-use mathlib.Core.Bool.{Bool, true, cond, not, _||_}
+use mathlib.Core.Bool.{Bool, true, false, cond, not, _&&_, _||_}
 use mathlib.Core.List.{List, [], _∷_}
 use borrow.Author.Tests.{ltb-false, not-false}
 use lib.Dec.{ltb}
@@ -31,7 +31,8 @@ use Rattle.layout.specs.WellFormed.{openCount, BlankUnlessAdmitted, SoundBook}
 use Rattle.batch.specs.Batch.{countIn, participantAt}
 use Rattle.book.specs.Call.{Act, admit, lodge, release, settle, annualRun, Call, on, advance, statement, callsMade, batch, partAct}
 use Rattle.book.specs.Account.{freshBook, fileAt, withFile, ifNumbered, ifAdmitted, fileAnswer, fileAfter, callsAdded, openedIfAdmitted}
-use Rattle.book.specs.Account.{answerOn, appliedOn, afterParts, partAnswer, openDay, openDays, answer, applied, step, run}
+use Rattle.book.specs.Rule.{Rule, oldRule, newRule, Entry, history}
+use Rattle.book.specs.Account.{admitsRetired, ifRegistered, answerOn, appliedOn, afterParts, partAnswer, openDay, openDays, answer, applied, step, run}
 use Rattle.book.specs.Reading.Decisions.{cause}
 use Rattle.book.specs.Reached.{Reached}
 use Rattle.book.proofs.Participant.Decide.{decide-accepted}
@@ -110,13 +111,21 @@ through : (causes : List Cause) (x : Answer) → accepted (decide refused causes
 through causes x e = ap accepted (sym (decide-accepted causes x e)) ∙ e
 
 -- .. so its participant is numbered, and admitted where it asks that.
-numbered : (p : ℕ) (x : Answer) → accepted (ifNumbered p x) ≡ true → p ≤ 63
+pub numbered : (p : ℕ) (x : Answer) → accepted (ifNumbered p x) ≡ true → p ≤ 63
 unfolding ifNumbered
 numbered p x e = ltb-false 63 p (none-holds (cause 1 (ltb 63 p) ∷ []) x e .0)
 
 behind-number : (p : ℕ) (x : Answer) → accepted (ifNumbered p x) ≡ true → accepted x ≡ true
 unfolding ifNumbered
 behind-number p x e = through (cause 1 (ltb 63 p) ∷ []) x e
+
+-- .. and what is accepted under either rule is under the old one.
+behind-rule : (rule : Rule) (a : Act) (x : Answer) → accepted (ifRegistered rule a x) ≡ true → accepted x ≡ true
+behind-rule oldRule a x e = e
+behind-rule newRule a x e =
+    split (admitsRetired a && accepted x)
+    (λ h. clash {t = false} (ap (λ (t : Bool). accepted (cond t (refused 23) x)) (sym h) ∙ e) refl)
+    (λ h. ap (λ (t : Bool). accepted (cond t (refused 23) x)) (sym h) ∙ e)
 
 is-admitted : (f : File) (x : Answer) → accepted (ifAdmitted f x) ≡ true → f .admitted ≡ true
 unfolding ifAdmitted
@@ -194,22 +203,22 @@ days-sound zero b h s = s
 days-sound (suc n) b h s = days-sound n (openDay b) (omega arith) (day-sound b (omega arith) s)
 
 -- The days that an accepted advance opens.
-within : (b : Book) (day budget : ℕ) → accepted (answer b (advance day budget)) ≡ true
+within : (rule : Rule) (b : Book) (day budget : ℕ) → accepted (answer rule b (advance day budget)) ≡ true
     → b .today .0 + min budget (day - b .today .0) ≤ 29219
 unfolding answer
-within b day budget e =
+within rule b day budget e =
     let t = b .today .0 in
     days-fit day t budget (none-holds (cause 17 (ltb 29219 day || ltb day t) ∷ []) (daysOpened (min budget (day - t))) e .0)
 
 -- The book after an accepted call that names a participant.
-named-sound : (b : Book) (p : ℕ) (a : Act) → accepted (answerOn b p a) ≡ true → SoundBook b → SoundBook (appliedOn b p a)
+named-sound : (rule : Rule) (b : Book) (p : ℕ) (a : Act) → accepted (answerOn rule b p a) ≡ true → SoundBook b → SoundBook (appliedOn b p a)
 unfolding withFile fileAt
-named-sound b p a e s =
+named-sound rule b p a e s =
     let f = fileAt b p in
     let t = b .today .0 in
-    let low = numbered p (fileAnswer f t a) e in
+    let low = numbered p (ifRegistered rule a (fileAnswer f t a)) e in
     let more = grown f t (sound-file b p s) (all-default BlankUnlessAdmitted (b .files) p noFile (λ e. refl) (s .blank)) a
-    (behind-number p (fileAnswer f t a) e) in
+    (behind-rule rule a (fileAnswer f t a) (behind-number p (ifRegistered rule a (fileAnswer f t a)) e)) in
     record {
       day = s .day;
       many = length-set (b .files) p (fileAfter f t a) ∙ s .many;
@@ -224,30 +233,30 @@ parts-sound : (b : Book) (file : List ℕ) (k : ℕ) → ((j : ℕ) → j < k �
 unfolding afterParts partAnswer
 parts-sound b file zero each s = s
 parts-sound b file (suc k) each s =
-    named-sound (afterParts b file k) (participantAt file k) (partAct file k) (each k (omega arith))
+    named-sound newRule (afterParts b file k) (participantAt file k) (partAct file k) (each k (omega arith))
     (parts-sound b file k (λ j h. each j (omega arith)) s)
 
 -- The book after any accepted call.
-applied-sound : (b : Book) (c : Call) → accepted (answer b c) ≡ true → SoundBook b → SoundBook (applied b c)
+applied-sound : (rule : Rule) (b : Book) (c : Call) → accepted (answer rule b c) ≡ true → SoundBook b → SoundBook (applied b c)
 unfolding answer applied
-applied-sound b (on p a) e s = named-sound b p a e s
-applied-sound b (advance day budget) e s =
-    days-sound (min budget (day - b .today .0)) b (within b day budget e) s
-applied-sound b (statement p) e s = s
-applied-sound b callsMade e s = s
-applied-sound b (batch file) e s =
+applied-sound rule b (on p a) e s = named-sound rule b p a e s
+applied-sound rule b (advance day budget) e s =
+    days-sound (min budget (day - b .today .0)) b (within rule b day budget e) s
+applied-sound rule b (statement p) e s = s
+applied-sound rule b callsMade e s = s
+applied-sound rule b (batch file) e s =
     parts-sound b file (countIn file) (batch-accepted file (partAnswer b file) e .each) s
 
-pub step-sound : (b : Book) (c : Call) → SoundBook b → SoundBook (step b c)
+pub step-sound : (rule : Rule) (b : Book) (c : Call) → SoundBook b → SoundBook (step rule b c)
 unfolding step
-step-sound b c s =
-    by-test (accepted (answer b c)) (applied b c) b SoundBook (λ e. applied-sound b c e s) (λ e. s)
+step-sound rule b c s =
+    by-test (accepted (answer rule b c)) (applied b c) b SoundBook (λ e. applied-sound rule b c e s) (λ e. s)
 
-run-sound : (s : ℕ) (calls : List Call) → s ≤ 29219 → SoundBook (run s calls)
+run-sound : (s : ℕ) (calls : List Entry) → s ≤ 29219 → SoundBook (run s calls)
 unfolding run
 run-sound s [] h = fresh-sound s h
-run-sound s (c ∷ calls) h = step-sound (run s calls) c (run-sound s calls h)
+run-sound s (e ∷ before) h = step-sound (e .rule) (run s before) (e .call) (run-sound s before h)
 
 -- A reached book is sound.
 pub reached-sound : (b : Book) → Reached b → SoundBook b
-reached-sound b r = subst SoundBook (r .leads) (run-sound (r .start) (r .calls) (r .within))
+reached-sound b r = subst SoundBook (r .leads) (run-sound (r .start) (history (r .first) (r .since)) (r .within))

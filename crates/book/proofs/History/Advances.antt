@@ -11,6 +11,7 @@ use Rattle.laws.specs.Cases.{split, cond-true, cond-false, or-first, or-second}
 use Rattle.file.specs.Answer.{accepted}
 use Rattle.layout.specs.Book.{Book}
 use Rattle.book.specs.Call.{Call, on, advance, statement, callsMade}
+use Rattle.book.specs.Rule.{newRule}
 use Rattle.book.specs.Account.{openDay, openDays, answer, applied, step}
 use Rattle.book.specs.Life.{afterCalls, Advances, SameDays}
 
@@ -45,12 +46,12 @@ openDays-today zero b = omega arith
 openDays-today (suc n) b = let e = openDays-today n (openDay b) in omega arith
 
 -- An advance, refused or not, opens some days.
-advance-days : (b : Book) (day budget : ℕ) → (n : ℕ) × (step b (advance day budget) ≡ openDays n b)
+advance-days : (b : Book) (day budget : ℕ) → (n : ℕ) × (step newRule b (advance day budget) ≡ openDays n b)
 unfolding step applied openDays
 advance-days b day budget =
-    split (accepted (answer b (advance day budget)))
-    (λ e. (min budget (day - b .today .0), cond-true (accepted (answer b (advance day budget))) (applied b (advance day budget)) b e))
-    (λ e. (0, cond-false (accepted (answer b (advance day budget))) (applied b (advance day budget)) b e))
+    split (accepted (answer newRule b (advance day budget)))
+    (λ e. (min budget (day - b .today .0), cond-true (accepted (answer newRule b (advance day budget))) (applied b (advance day budget)) b e))
+    (λ e. (0, cond-false (accepted (answer newRule b (advance day budget))) (applied b (advance day budget)) b e))
 
 -- So does a list of advances.
 days-of : (b : Book) (calls : List Call) → Advances calls → (n : ℕ) × (afterCalls b calls ≡ openDays n b)
@@ -59,7 +60,7 @@ days-of b [] a = (0, refl)
 days-of b (on p x ∷ calls) a = absurd a
 days-of b (advance day budget ∷ calls) a =
     let first = advance-days b day budget in
-    let rest = days-of (step b (advance day budget)) calls a in
+    let rest = days-of (step newRule b (advance day budget)) calls a in
     (first .0 + rest .0, rest .1 ∙ ap (openDays (rest .0)) (first .1) ∙ openDays-sum (first .0) (rest .0) b)
 days-of b (statement p ∷ calls) a = absurd a
 days-of b (callsMade ∷ calls) a = absurd a

@@ -10,6 +10,7 @@ use lib.Dec.{eqb, ltb}
 use Rattle.laws.specs.Cases.{by-test}
 use Rattle.file.specs.Answer.{daysOpened, accepted}
 use Rattle.book.specs.Call.{Act, advance}
+use Rattle.book.specs.Rule.{Rule}
 use Rattle.book.specs.Reading.Events as E
 use Rattle.book.specs.Reading.Events.{Event, did, Own, act, mine, todayOf, withDays}
 use Rattle.book.specs.Reading.Decisions.{cause, ownCauses, decision}
@@ -76,9 +77,9 @@ lawful-did s q a events lw none p =
     mine-did (λ k own. Lawful s own) (todayOf s events) q p a events (sym (today-mine s q events), none, lw q) (λ ne. lw p)
 
 -- The days that an accepted advance opens stay within the calendar.
-pub days-within : (s day budget : ℕ) (events : List Event) → accepted (decision s events (advance day budget)) ≡ true
+pub days-within : (rule : Rule) (s day budget : ℕ) (events : List Event) → accepted (decision rule s events (advance day budget)) ≡ true
     → todayOf s events + min budget (day - todayOf s events) ≤ 29219
 unfolding decision
-days-within s day budget events e =
+days-within rule s day budget events e =
     let t = todayOf s events in
     days-fit day t budget (none-holds (cause 17 (ltb 29219 day || ltb day t) ∷ []) (daysOpened (min budget (day - t))) e .0)

@@ -16,9 +16,10 @@ use Rattle.batch.specs.Batch.{countIn, participantAt}
 use Rattle.batch.specs.FormLaws.{Whole}
 use Rattle.layout.specs.Book.{Book}
 use Rattle.book.specs.Call.{Act, Call, on, advance, statement, callsMade, batch, partAct}
+use Rattle.book.specs.Rule.{Rule}
 use Rattle.book.specs.Account.{fileAt}
 use Rattle.book.specs.Reading.Events.{Event, did, mine, todayOf, withDays, admittedIn}
-use Rattle.book.specs.Reading.Decisions.{cause, ownCauses, ownAnswer, partDecision, decision, withParts, withCall}
+use Rattle.book.specs.Reading.Decisions.{cause, ownCauses, ownAnswer, behindRetirement, partDecision, decision, withParts, withCall}
 use Rattle.book.specs.Kept.{fileIn, bookIn}
 use Rattle.book.specs.Life.{NoneHigher}
 use Rattle.book.proofs.Participant.Lawful.{NoneHolds}
@@ -119,20 +120,21 @@ parts-higher s events file lw w (suc k) h each =
     (λ q low. admitted-at s q last low ∙ admitted-parts t file k q events ∙ sym (admitted-at s q events low))
 
 -- Any accepted call that opened no day.
-pub call-higher : (s : ℕ) (events : List Event) (c : Call) → LawfulAll s events → accepted (decision s events c) ≡ true
+pub call-higher : (rule : Rule) (s : ℕ) (events : List Event) (c : Call) → LawfulAll s events → accepted (decision rule s events c) ≡ true
     → todayOf s (withCall s events c) ≡ todayOf s events → NoneHigher (bookIn s events) (bookIn s (withCall s events c))
 unfolding withCall withDays decision
-call-higher s events (on p a) lw e same =
+call-higher rule s events (on p a) lw e same =
     let t = todayOf s events in
-    did-higher s p a events lw (none-holds (cause 1 (ltb 63 p) ∷ ownCauses t (mine p events) a) (ownAnswer t (mine p events) a) e .1)
-call-higher s events (advance day budget) lw e same =
+    did-higher s p a events lw
+    (none-holds (cause 1 (ltb 63 p) ∷ ownCauses t (mine p events) a) (behindRetirement rule a (ownAnswer t (mine p events) a)) e .1)
+call-higher rule s events (advance day budget) lw e same =
     let n = min budget (day - todayOf s events) in
     let grown : todayOf s (withDays n (todayOf s events) events) ≡ todayOf s events + n = today-days s n events in
     let none-opened : 0 ≡ n = omega arith in
     subst (λ (k : ℕ). NoneHigher (bookIn s events) (bookIn s (withDays k (todayOf s events) events))) none-opened
     (same-events s events lw)
-call-higher s events (statement p) lw e same = same-events s events lw
-call-higher s events callsMade lw e same = same-events s events lw
-call-higher s events (batch file) lw e same =
+call-higher rule s events (statement p) lw e same = same-events s events lw
+call-higher rule s events callsMade lw e same = same-events s events lw
+call-higher rule s events (batch file) lw e same =
     let all = batch-accepted file (partDecision s events file) e in
     parts-higher s events file lw (all .whole) (countIn file) (le-refl (countIn file)) (all .each)

@@ -8,30 +8,31 @@ use mathlib.Core.Path.{_≡_, refl, sym, ap, ap₂, subst, _∙_}
 use mathlib.Core.Bool.{true, cond, not}
 use mathlib.Core.List.{List, [], _∷_}
 use borrow.Author.Tests.{ltb-false}
-use lib.Dec.{ltb}
+use lib.Dec.{ltb, eqb}
 use lib.ListN.{length}
 use Rattle.laws.specs.Lists.{table}
 use Rattle.laws.specs.Tabulated.{table-ext, getD-table, set-table-as, replicate-table, map-table}
 use Rattle.laws.specs.Cases.{split, cond-true, cond-false}
 use Rattle.file.specs.declared.File.{File}
-use Rattle.file.specs.Answer.{Answer, accepted, statementSays}
+use Rattle.file.specs.Answer.{Answer, refused, done, decide, accepted, statementSays}
 use Rattle.file.specs.Admit.{noFile}
 use Rattle.file.specs.DecideLaws.{none-holds}
 use Rattle.file.specs.Statement.{fileStatement}
 use Rattle.layout.specs.Book.{Book}
 use Rattle.batch.specs.Batch.{countIn, participantAt}
 use Rattle.batch.specs.FormLaws.{Whole}
-use Rattle.book.specs.Call.{Act, Call, on, advance, statement, callsMade, batch, partAct}
+use Rattle.book.specs.Call.{Act, admit, lodge, release, settle, annualRun, Call, on, advance, statement, callsMade, batch, partAct}
 use Rattle.book.specs.Account.{freshBook, fileAt, withFile, ifNumbered, ifAdmitted, fileAnswer, fileAfter, callsAdded, openedIfAdmitted}
-use Rattle.book.specs.Account.{answerOn, appliedOn, afterParts, partAnswer, openDay, openDays, answer, applied, step, run}
+use Rattle.book.specs.Rule.{Rule, oldRule, newRule, Entry}
+use Rattle.book.specs.Account.{ifRegistered, answerOn, appliedOn, afterParts, partAnswer, openDay, openDays, answer, applied, step, run}
 use Rattle.book.specs.Reading.Events as E
 use Rattle.book.specs.Reading.Events.{Event, did, Own, dayOpened, act, mine, todayOf, withDays, admittedIn}
 use Rattle.book.specs.Reading.Calls.{callsIn}
 use Rattle.book.specs.Reading.Decisions.{cause, ownCauses, ownAnswer, ownStatement, callsBelow}
-use Rattle.book.specs.Reading.Decisions.{decisionOn, partDecision, decision, withParts, withCall, eventsOf}
+use Rattle.book.specs.Reading.Decisions.{behindRetirement, decisionOn, partDecision, decision, withParts, withCall, eventsOf}
 use Rattle.book.specs.Kept.{fileIn, bookIn}
 use Rattle.book.proofs.Participant.Lawful.{NoneHolds}
-use Rattle.book.proofs.Participant.Decide.{decide-first}
+use Rattle.book.proofs.Participant.Decide.{decide-first, last-cause}
 use Rattle.book.proofs.Participant.Blank.{blank-file}
 use Rattle.book.proofs.Participant.OnePart.{OnePart, one-part}
 use Rattle.book.proofs.History.Advances.{openDays-last}
@@ -86,6 +87,18 @@ unfolding callsBelow mine callsIn
 made-opened zero d events = refl
 made-opened (suc n) d events = ap (λ (k : ℕ). length (callsIn (mine n events)) + k) (made-opened n d events)
 
+-- Cause 23 behind the others: by the account it refuses what was accepted, by the reading it is the last cause.
+registered : (t : ℕ) (own : List Own) (rule : Rule) (a : Act)
+    → ifRegistered rule a (decide refused (ownCauses t own a) (ownAnswer t own a))
+    ≡ decide refused (ownCauses t own a) (behindRetirement rule a (ownAnswer t own a))
+unfolding ownAnswer
+registered t own oldRule a = refl
+registered t own newRule (admit role) = last-cause 23 (eqb role 1) (ownCauses t own (admit role)) done refl
+registered t own newRule (lodge k h) = refl
+registered t own newRule (release k a) = refl
+registered t own newRule (settle m figures) = refl
+registered t own newRule annualRun = refl
+
 -- What holds of one participant holds of each after lawful events; so one call, or one more day, does to the book what the readings say.
 module _ (s : ℕ) (events : List Event) (lw : LawfulAll s events) where
   abbrev t : ℕ
@@ -102,28 +115,31 @@ module _ (s : ℕ) (events : List Event) (lw : LawfulAll s events) where
       ap (λ (f : File). ifAdmitted f (statementSays (fileStatement f t))) (file-at s p events h)
       ∙ ap (ifAdmitted (fileIn t (mine p events))) (part p .stated)
 
-  -- The answer to a call that names a participant is the reading's decision.
-  named-is : (p : ℕ) (a : Act) → answerOn (bookIn s events) p a ≡ decisionOn s events p a
+  -- The answer to a call that names a participant is the reading's decision, under either rule.
+  named-is : (rule : Rule) (p : ℕ) (a : Act) → answerOn rule (bookIn s events) p a ≡ decisionOn rule s events p a
   unfolding ifNumbered bookIn
-  named-is p a =
-      decide-first (cause 1 (ltb 63 p)) (ownCauses t (mine p events) a) (fileAnswer (fileAt (bookIn s events) p) t a)
-      (ownAnswer t (mine p events) a)
-      (λ e. ap (λ (f : File). fileAnswer f t a) (file-at s p events (omega (arith, ltb-false 63 p e))) ∙ part p .answered a)
+  named-is rule p a =
+      decide-first (cause 1 (ltb 63 p)) (ownCauses t (mine p events) a) (ifRegistered rule a (fileAnswer (fileAt (bookIn s events) p) t a))
+      (behindRetirement rule a (ownAnswer t (mine p events) a))
+      (λ e.
+      ap (λ (f : File). ifRegistered rule a (fileAnswer f t a)) (file-at s p events (omega (arith, ltb-false 63 p e)))
+      ∙ ap (ifRegistered rule a) (part p .answered a)
+      ∙ registered t (mine p events) rule a)
 
   -- Each answer is.
-  pub answer-is : (c : Call) → answer (bookIn s events) c ≡ decision s events c
+  pub answer-is : (rule : Rule) (c : Call) → answer rule (bookIn s events) c ≡ decision rule s events c
   unfolding answer decision partDecision ifNumbered ifAdmitted bookIn fileIn
-  answer-is (on p a) = named-is p a
-  answer-is (advance day budget) = refl
-  answer-is (statement p) =
+  answer-is rule (on p a) = named-is rule p a
+  answer-is rule (advance day budget) = refl
+  answer-is rule (statement p) =
       decide-first (cause 1 (ltb 63 p)) (cause 2 (not (admittedIn (mine p events))) ∷ [])
       (ifAdmitted (fileAt (bookIn s events) p) (statementSays (fileStatement (fileAt (bookIn s events) p) t)))
       (ownStatement t (mine p events))
       (λ e. known-statement p (omega (arith, ltb-false 63 p e)))
-  answer-is callsMade = refl
-  answer-is (batch file) =
+  answer-is rule callsMade = refl
+  answer-is rule (batch file) =
       batch-agree file (partAnswer (bookIn s events) file) (partDecision s events file)
-      (λ w k h. part-alone (bookIn s events) file w k h ∙ named-is (participantAt file k) (partAct file k))
+      (λ w k h. part-alone (bookIn s events) file w k h ∙ named-is newRule (participantAt file k) (partAct file k))
 
   -- The book after an accepted call that names a participant: only that participant's file is another.
   did-is : (p : ℕ) (a : Act) → p < 64 → NoneHolds (ownCauses t (mine p events) a)
@@ -183,40 +199,42 @@ parts-is s events file lw w (suc k) h each =
     ∙ ap (λ (d : ℕ). bookIn s (did d p a ∷ last)) (today-parts s (todayOf s events) file k events)
 
 -- The book after an accepted call; a question leaves it as it is.
-applied-is : (s : ℕ) (events : List Event) → LawfulAll s events → (c : Call) → accepted (decision s events c) ≡ true
-    → applied (bookIn s events) c ≡ bookIn s (withCall s events c)
+applied-is : (s : ℕ) (events : List Event) → LawfulAll s events → (rule : Rule) (c : Call)
+    → accepted (decision rule s events c) ≡ true → applied (bookIn s events) c ≡ bookIn s (withCall s events c)
 unfolding applied bookIn withCall decision
-applied-is s events lw (on p a) e =
+applied-is s events lw rule (on p a) e =
     let t = todayOf s events in
-    let none = none-holds (cause 1 (ltb 63 p) ∷ ownCauses t (mine p events) a) (ownAnswer t (mine p events) a) e in
+    let none = none-holds (cause 1 (ltb 63 p) ∷ ownCauses t (mine p events) a) (behindRetirement rule a (ownAnswer t (mine p events) a)) e in
     did-is s events lw p a (omega (arith, ltb-false 63 p (none .0))) (none .1)
-applied-is s events lw (advance day budget) e =
-    days-is s (min budget (day - todayOf s events)) events lw (days-within s day budget events e)
-applied-is s events lw (statement p) e = refl
-applied-is s events lw callsMade e = refl
-applied-is s events lw (batch file) e =
+applied-is s events lw rule (advance day budget) e =
+    days-is s (min budget (day - todayOf s events)) events lw (days-within rule s day budget events e)
+applied-is s events lw rule (statement p) e = refl
+applied-is s events lw rule callsMade e = refl
+applied-is s events lw rule (batch file) e =
     let all = batch-accepted file (partDecision s events file) e in
     parts-is s events file lw (all .whole) (countIn file) (le-refl (countIn file)) (all .each)
 
 -- The book after any call.
-step-is : (s : ℕ) (events : List Event) → LawfulAll s events → (c : Call)
-    → step (bookIn s events) c ≡ bookIn s (cond (accepted (decision s events c)) (withCall s events c) events)
+step-is : (s : ℕ) (events : List Event) → LawfulAll s events → (rule : Rule) (c : Call)
+    → step rule (bookIn s events) c ≡ bookIn s (cond (accepted (decision rule s events c)) (withCall s events c) events)
 unfolding step
-step-is s events lw c =
-    let yes = accepted (decision s events c) in
-    ap (λ (x : Answer). cond (accepted x) (applied (bookIn s events) c) (bookIn s events)) (answer-is s events lw c)
+step-is s events lw rule c =
+    let yes = accepted (decision rule s events c) in
+    ap (λ (x : Answer). cond (accepted x) (applied (bookIn s events) c) (bookIn s events)) (answer-is s events lw rule c)
     ∙ split yes
-    (λ e. cond-true yes _ _ e ∙ applied-is s events lw c e ∙ ap (bookIn s) (sym (cond-true yes (withCall s events c) events e)))
+    (λ e. cond-true yes _ _ e ∙ applied-is s events lw rule c e ∙ ap (bookIn s) (sym (cond-true yes (withCall s events c) events e)))
     (λ e. cond-false yes _ _ e ∙ ap (bookIn s) (sym (cond-false yes (withCall s events c) events e)))
 
 -- The book that a list of calls leads to is the book of the readings.
-pub run-is : (s : ℕ) (calls : List Call) → s ≤ 29219 → run s calls ≡ bookIn s (eventsOf s calls)
+pub run-is : (s : ℕ) (calls : List Entry) → s ≤ 29219 → run s calls ≡ bookIn s (eventsOf s calls)
 unfolding run eventsOf
 run-is s [] h = fresh-is s h
-run-is s (c ∷ calls) h =
-    ap (λ (b : Book). step b c) (run-is s calls h) ∙ step-is s (eventsOf s calls) (lawful-events s calls h) c
+run-is s (e ∷ before) h =
+    ap (λ (b : Book). step (e .rule) b (e .call)) (run-is s before h)
+    ∙ step-is s (eventsOf s before) (lawful-events s before h) (e .rule) (e .call)
 
 -- Each answer on the way is the reading's decision.
-pub decided : (s : ℕ) (calls : List Call) → s ≤ 29219 → (c : Call) → answer (run s calls) c ≡ decision s (eventsOf s calls) c
-decided s calls h c =
-    ap (λ (b : Book). answer b c) (run-is s calls h) ∙ answer-is s (eventsOf s calls) (lawful-events s calls h) c
+pub decided : (s : ℕ) (calls : List Entry) → s ≤ 29219 → (rule : Rule) (c : Call)
+    → answer rule (run s calls) c ≡ decision rule s (eventsOf s calls) c
+decided s calls h rule c =
+    ap (λ (b : Book). answer rule b c) (run-is s calls h) ∙ answer-is s (eventsOf s calls) (lawful-events s calls h) rule c

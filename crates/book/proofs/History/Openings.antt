@@ -14,7 +14,8 @@ use Rattle.file.specs.Opening.{firmOpened, slotsOpened, shortfallOpened, opened
 use Rattle.file.specs.Position.{coverOn}
 use Rattle.file.specs.Admit.{noFile}
 use Rattle.layout.specs.Book.{Book}
-use Rattle.book.specs.Call.{Call, advance}
+use Rattle.book.specs.Call.{advance}
+use Rattle.book.specs.Rule.{Rule, Entry}
 use Rattle.book.specs.Account.{fileAt, openedIfAdmitted, openDay, openDays, answer, applied, step, run}
 use Rattle.book.specs.Life.{ChargedFile, ChargedBook, Openings, EachOpening}
 use Rattle.book.proofs.Participant.DayCharged.{one-if-short, charge-if-short}
@@ -48,23 +49,23 @@ day-charged b =
     }
 
 -- An advance with a budget of n opens n days, where there are as many to its day.
-opens : (b : Book) (day n : ℕ) → day ≤ 29219 → b .today .0 + n ≤ day → step b (advance day n) ≡ openDays n b
+opens : (rule : Rule) (b : Book) (day n : ℕ) → day ≤ 29219 → b .today .0 + n ≤ day → step rule b (advance day n) ≡ openDays n b
 unfolding step answer decide applied
-opens b day n last h =
+opens rule b day n last h =
     rw (le-ltb 29219 day last, le-ltb day (b .today .0) (omega arith))
     (let e : min n (day - b .today .0) ≡ n = omega arith in ap (λ (k : ℕ). openDays k b) e)
 
 -- One more opened day after a list of calls.
-one-more-day : (s : ℕ) (calls : List Call) → Openings s calls
+one-more-day : (s : ℕ) (calls : List Entry) → Openings s calls
 unfolding run
-one-more-day s calls day n last h =
+one-more-day s calls rule day n last h =
     let b = run s calls in
     subst₂ ChargedBook
-    (sym (opens b day n last (omega arith)))
-    (sym (openDays-last n b) ∙ sym (opens b day (suc n) last h))
+    (sym (opens rule b day n last (omega arith)))
+    (sym (openDays-last n b) ∙ sym (opens rule b day (suc n) last h))
     (day-charged (openDays n b))
 
 -- .. after each of the calls.
-pub each-opening : (s : ℕ) (calls : List Call) → EachOpening s calls
+pub each-opening : (s : ℕ) (calls : List Entry) → EachOpening s calls
 each-opening s [] = one-more-day s []
-each-opening s (c ∷ calls) = (one-more-day s (c ∷ calls), each-opening s calls)
+each-opening s (e ∷ before) = (one-more-day s (e ∷ before), each-opening s before)

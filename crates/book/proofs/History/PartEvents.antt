@@ -11,8 +11,9 @@ use Rattle.batch.specs.FormLaws.{Whole}
 use Rattle.file.specs.Answer.{refused, decide, accepted}
 use Rattle.file.specs.DecideLaws.{none-holds}
 use Rattle.book.specs.Call.{Act, partAct}
+use Rattle.book.specs.Rule.{Rule, newRule}
 use Rattle.book.specs.Reading.Events.{Event, did, mine, todayOf}
-use Rattle.book.specs.Reading.Decisions.{cause, ownCauses, ownAnswer, decisionOn, partDecision, withParts}
+use Rattle.book.specs.Reading.Decisions.{cause, ownCauses, ownAnswer, behindRetirement, decisionOn, partDecision, withParts}
 use Rattle.book.proofs.Participant.Lawful.{NoneHolds}
 use Rattle.book.proofs.History.Parts.{NotAmong, not-among}
 use Rattle.book.proofs.History.Events.{mine-other, LawfulAll, lawful-did}
@@ -32,13 +33,13 @@ mine-parts t file (suc k) p events other =
     ∙ mine-parts t file k p events (λ j h. other j (omega arith))
 
 -- So is what is decided of its calls.
-pub decided-parts : (s t : ℕ) (file : List ℕ) (k p : ℕ) (a : Act) (events : List Event) → NotAmong file k p
-    → decisionOn s (withParts t file k events) p a ≡ decisionOn s events p a
-decided-parts s t file k p a events other =
+pub decided-parts : (rule : Rule) (s t : ℕ) (file : List ℕ) (k p : ℕ) (a : Act) (events : List Event) → NotAmong file k p
+    → decisionOn rule s (withParts t file k events) p a ≡ decisionOn rule s events p a
+decided-parts rule s t file k p a events other =
     λ i.
     decide refused
     (cause 1 (ltb 63 p) ∷ ownCauses (today-parts s t file k events i) (mine-parts t file k p events other i) a)
-    (ownAnswer (today-parts s t file k events i) (mine-parts t file k p events other i) a)
+    (behindRetirement rule a (ownAnswer (today-parts s t file k events i) (mine-parts t file k p events other i) a))
 
 -- Each settlement of an accepted batch has no cause of refusal behind those before it.
 module _ (s : ℕ) (events : List Event) (file : List ℕ) where
@@ -55,7 +56,7 @@ module _ (s : ℕ) (events : List Event) (file : List ℕ) where
   none-of-part w k h e =
       let p = participantAt file k in
       let a = partAct file k in
-      let same = decided-parts s t file k p a events (not-among file w k h) in
+      let same = decided-parts newRule s t file k p a events (not-among file w k h) in
       none-holds (cause 1 (ltb 63 p) ∷ ownCauses (todayOf s (behind k)) (mine p (behind k)) a)
       (ownAnswer (todayOf s (behind k)) (mine p (behind k)) a)
       (ap accepted same ∙ e)

@@ -18,7 +18,8 @@ use Rattle.file.specs.Admit.{noFile}
 use Rattle.file.specs.Answer.{Answer, refusedPair, batched, accepted}
 use Rattle.layout.specs.Book.{Book}
 use Rattle.book.specs.Call.{Act, partAct, refusalOf, firstRefused, batchSays}
-use Rattle.book.specs.Account.{fileAt, withFile, ifNumbered, fileAnswer, answerOn, afterParts, partAnswer}
+use Rattle.book.specs.Rule.{Rule, newRule}
+use Rattle.book.specs.Account.{fileAt, withFile, ifNumbered, ifRegistered, fileAnswer, answerOn, afterParts, partAnswer}
 
 -- ---- what a batch answers
 
@@ -116,13 +117,13 @@ file-after b file (suc k) p other =
     ∙ file-after b file k p (λ j h. other j (omega arith))
 
 -- So what the book answers such a participant is what it answered before.
-pub answer-after : (b : Book) (file : List ℕ) (k p : ℕ) (a : Act) → NotAmong file k p
-    → answerOn (afterParts b file k) p a ≡ answerOn b p a
-answer-after b file k p a other =
-    λ i. ifNumbered p (fileAnswer (file-after b file k p other i) (today-after b file k i .0) a)
+pub answer-after : (rule : Rule) (b : Book) (file : List ℕ) (k p : ℕ) (a : Act) → NotAmong file k p
+    → answerOn rule (afterParts b file k) p a ≡ answerOn rule b p a
+answer-after rule b file k p a other =
+    λ i. ifNumbered p (ifRegistered rule a (fileAnswer (file-after b file k p other i) (today-after b file k i .0) a))
 
 -- A law of the batch: to judge each part by the book before the batch is to judge it where the parts before it are settled.
 pub part-alone : (b : Book) (file : List ℕ) → Whole file → (k : ℕ) → k < countIn file
-    → partAnswer b file k ≡ answerOn b (participantAt file k) (partAct file k)
+    → partAnswer b file k ≡ answerOn newRule b (participantAt file k) (partAct file k)
 unfolding partAnswer
-part-alone b file w k h = answer-after b file k (participantAt file k) (partAct file k) (not-among file w k h)
+part-alone b file w k h = answer-after newRule b file k (participantAt file k) (partAct file k) (not-among file w k h)

@@ -1,7 +1,8 @@
 -- A decision that accepts had no cause, and one with no cause gives the answer.
 -- Assumes nothing.
+use Prim.Native.Nat.{ℕ}
 use mathlib.Core.Path.{_≡_, refl, sym, _∙_}
-use mathlib.Core.Bool.{true, false}
+use mathlib.Core.Bool.{Bool, true, false, cond, _&&_}
 use mathlib.Core.List.{List, [], _∷_}
 use Rattle.laws.specs.Cases.{split, cond-true, cond-false}
 use Rattle.file.specs.Answer.{Answer, refused, Cause, decide, accepted}
@@ -44,3 +45,17 @@ decide-same c causes others x y rest =
     split (c .holds)
     (λ e. decide-true c causes x e ∙ sym (decide-true c others y e))
     (λ e. decide-false c causes x e ∙ rest e ∙ sym (decide-false c others y e))
+
+-- A last cause refuses what the causes before it would accept.
+refuse-last : (n : ℕ) (causes : List Cause) (x : Answer) → accepted x ≡ true
+    → cond (accepted (decide refused causes x)) (refused n) (decide refused causes x) ≡ decide refused causes (refused n)
+unfolding decide
+refuse-last n [] x e = rw e refl
+refuse-last n (c ∷ causes) x e = split (c .holds) (λ h. rw h refl) (λ h. rw h (refuse-last n causes x e))
+
+pub last-cause : (n : ℕ) (t : Bool) (causes : List Cause) (x : Answer) → accepted x ≡ true
+    → cond (t && accepted (decide refused causes x)) (refused n) (decide refused causes x)
+    ≡ decide refused causes (decide refused (record { number = n; holds = t } ∷ []) x)
+unfolding decide
+last-cause n true causes x e = refuse-last n causes x e
+last-cause n false causes x e = refl

@@ -4,7 +4,7 @@
 use Prim.Native.Nat.{ℕ, zero, suc, _+_, _-_, min}
 use mathlib.Core.Bool.{Bool, cond, not, _&&_, _||_}
 use mathlib.Core.List.{List, [], _∷_}
-use lib.Dec.{leb, ltb}
+use lib.Dec.{leb, ltb, eqb}
 use lib.ListN.{length}
 use lib.IntN.{ℤ}
 use Rattle.calendar.specs.Civil.{monthOf, inAnnualDays}
@@ -17,6 +17,7 @@ use Rattle.file.specs.Settle.{outsideMonths, checkDue, checkSays}
 use Rattle.batch.specs.Batch.{countIn, participantAt, formOf}
 use Rattle.book.specs.Call.{Act, admit, lodge, release, settle, annualRun, Call, on, advance, statement, callsMade, batch}
 use Rattle.book.specs.Call.{partAct, batchSays}
+use Rattle.book.specs.Rule.{Rule, oldRule, newRule, Entry}
 use Rattle.book.specs.Reading.Events.{Event, Own, did, act, mine, todayOf, withDays, admittedIn}
 use Rattle.book.specs.Reading.Holdings.{positionIn, coverIn, depositedIn}
 use Rattle.book.specs.Reading.Months.{nextIn, annualIn, yearsTotals}
@@ -88,31 +89,40 @@ unfoldable pub callsBelow : ℕ → List Event → ℕ
 callsBelow zero events = 0
 callsBelow (suc n) events = length (callsIn (mine n events)) + callsBelow n events
 
--- What a call that names participant p is decided to answer, after these events from a fresh book on day s.
-abbrev pub decisionOn : ℕ → List Event → ℕ → Act → Answer
-decisionOn s events p a =
+-- Paper 02, Ask 3: "Answers: 23 role 1 at admission, after 4", the last cause of an admission under the new rule; "Only admission changes".
+abbrev pub behindRetirement : Rule → Act → Answer → Answer
+behindRetirement oldRule a x = x
+behindRetirement newRule (admit role) x = decide refused (cause 23 (eqb role 1) ∷ []) x
+behindRetirement newRule (lodge k h) x = x
+behindRetirement newRule (release k a) x = x
+behindRetirement newRule (settle m figures) x = x
+behindRetirement newRule annualRun x = x
+
+-- What a call that names participant p is decided to answer, made under a rule after these events from a fresh book on day s.
+abbrev pub decisionOn : Rule → ℕ → List Event → ℕ → Act → Answer
+decisionOn rule s events p a =
     decide refused
     (cause 1 (ltb 63 p) ∷ ownCauses (todayOf s events) (mine p events) a)
-    (ownAnswer (todayOf s events) (mine p events) a)
+    (behindRetirement rule a (ownAnswer (todayOf s events) (mine p events) a))
 
 -- Paper 02, Ask 1: what is decided of part k of a batch. Its participant stands in no other part, so that its figures are read from the calls
--- before the batch.
+-- before the batch; a settlement is decided alike under both rules.
 unfoldable pub partDecision : ℕ → List Event → List ℕ → ℕ → Answer
-partDecision s events file k = decisionOn s events (participantAt file k) (partAct file k)
+partDecision s events file k = decisionOn newRule s events (participantAt file k) (partAct file k)
 
--- What a call is decided to answer, after these events from a fresh book on day s.
-unfoldable pub decision : ℕ → List Event → Call → Answer
-decision s events (on p a) = decisionOn s events p a
-decision s events (advance day budget) =
+-- What a call is decided to answer, made under a rule after these events from a fresh book on day s.
+unfoldable pub decision : Rule → ℕ → List Event → Call → Answer
+decision rule s events (on p a) = decisionOn rule s events p a
+decision rule s events (advance day budget) =
     decide refused
     (cause 17 (ltb 29219 day || ltb day (todayOf s events)) ∷ [])
     (daysOpened (min budget (day - todayOf s events)))
-decision s events (statement p) =
+decision rule s events (statement p) =
     decide refused
     (cause 1 (ltb 63 p) ∷ cause 2 (not (admittedIn (mine p events))) ∷ [])
     (ownStatement (todayOf s events) (mine p events))
-decision s events callsMade = counted (callsBelow 64 events)
-decision s events (batch file) = batchSays (formOf file) (partDecision s events file)
+decision rule s events callsMade = counted (callsBelow 64 events)
+decision rule s events (batch file) = batchSays (formOf file) (partDecision s events file)
 
 -- "A batch counts in the history as its settlements, all or none": the events with those of its first k parts added, made on day t.
 unfoldable pub withParts : ℕ → List ℕ → ℕ → List Event → List Event
@@ -128,8 +138,9 @@ withCall s events (statement p) = events
 withCall s events callsMade = events
 withCall s events (batch file) = withParts (todayOf s events) file (countIn file) events
 
--- The events of a list of calls, the newest first, from a fresh book on day s: each accepted call's, and nothing of a refused one.
-unfoldable pub eventsOf : ℕ → List Call → List Event
+-- The events of a list of calls, the newest first, each made under its rule, from a fresh book on day s: each accepted call's, and nothing of a
+-- refused one. The events don't tell the rule: "its figures are read as ever".
+unfoldable pub eventsOf : ℕ → List Entry → List Event
 eventsOf s [] = []
-eventsOf s (c ∷ calls) =
-    cond (accepted (decision s (eventsOf s calls) c)) (withCall s (eventsOf s calls) c) (eventsOf s calls)
+eventsOf s (e ∷ before) =
+    cond (accepted (decision (e .rule) s (eventsOf s before) (e .call))) (withCall s (eventsOf s before) (e .call)) (eventsOf s before)

@@ -24,6 +24,7 @@ call-spec =
     (λ c κs. search needs)
     (λ c κs. search needs)
     (λ c κs. search needs)
+    (λ c κs. search needs)
     (λ c. search (call-at, needs))
     (λ c. search (call-at, needs))
     (λ c. search (call-at, needs))
@@ -36,4 +37,5 @@ call-spec =
     (λ c. search needs) (λ c. search (call-at, needs))
     (λ c. search (call-at, needs))
     (λ c. search needs) (λ c. search (call-at, needs))
+    (λ c. search (call-at, needs))
     (λ c. search (none-of-them, needs)))

@@ -34,9 +34,12 @@ same-length-2 c = search needs
 returns-3 : tie.Need-returns-3
 returns-3 c = search needs
 
+at-start-requires : tie.Need-at-start-requires
+at-start-requires c κs = search needs
+
 answer-behind-requires : tie.Need-answer-behind-requires
 answer-behind-requires c κs =
-    let replayed = c .before .before .before .before .before .before .before .before in
+    let replayed = c .before .before .before .before .before .before .before .before .before in
     let start = replayed .before .before .before .before .before .before .before .before .before .before in
     (replayed .replay .ensures, start .pre .1)
 
@@ -63,6 +66,7 @@ keep-behind-spec =
     close-kept-requires-2
     same-length-2
     returns-3
+    at-start-requires
     answer-behind-requires
     close-kept-requires-3
     same-length-3

@@ -1,7 +1,8 @@
 -- `answering::calls::apply` meets its contract: each arm makes the call that its request asks, and shows what the call gives.
 -- Assumes nothing.
 use Rattle.answering.proofs.CallLaws.{as-nothing, as-fresh, as-admit, as-cash, as-letter, as-release}
-use Rattle.answering.proofs.CallLaws.{as-settle, as-annual, as-advance, as-statement, as-calls, as-special, as-batch, as-report, as-error}
+use Rattle.answering.proofs.CallLaws.{as-settle, as-annual, as-advance, as-statement, as-calls, as-special, as-batch, as-mark}
+use Rattle.answering.proofs.CallLaws.{as-report, as-error}
 use borrow.Author.Needs.{needs}
 use Rattle.answering.proofs.calls.apply.Statement.{statement}
 use Rattle.answering.proofs.calls.apply.Tie as tie
@@ -114,6 +115,9 @@ loaded-shown-requires c κs = search needs
 enum-told-3 : tie.Need-enum-told-3
 enum-told-3 c = search needs
 
+enum-told-4 : tie.Need-enum-told-4
+enum-told-4 c = search needs
+
 enum-known-request-12 : tie.Need-enum-known-request-12
 enum-known-request-12 c = search needs
 
@@ -190,10 +194,13 @@ returns-13 : tie.Need-returns-13
 returns-13 c = search (as-batch, needs)
 
 returns-14 : tie.Need-returns-14
-returns-14 c = search (as-report, needs)
+returns-14 c = search (as-mark, needs)
 
 returns-15 : tie.Need-returns-15
-returns-15 c = search (as-error, needs)
+returns-15 c = search (as-report, needs)
+
+returns-16 : tie.Need-returns-16
+returns-16 c = search (as-error, needs)
 
 pub apply-spec : {M : Type 1} → statement M
 apply-spec =
@@ -235,6 +242,7 @@ apply-spec =
     load-file-requires
     loaded-shown-requires
     enum-told-3
+    enum-told-4
     enum-known-request-12
     returns
     same-length
@@ -261,4 +269,5 @@ apply-spec =
     same-length-11
     returns-13
     returns-14
-    returns-15)
+    returns-15
+    returns-16)

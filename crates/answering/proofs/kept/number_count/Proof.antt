@@ -59,6 +59,9 @@ enum-told-11 c = search needs
 enum-told-12 : tie.Need-enum-told-12
 enum-told-12 c = search needs
 
+enum-told-13 : tie.Need-enum-told-13
+enum-told-13 c = search needs
+
 returns : tie.Need-returns
 returns c = search needs
 
@@ -104,6 +107,9 @@ returns-14 c = search needs
 returns-15 : tie.Need-returns-15
 returns-15 c = search needs
 
+returns-16 : tie.Need-returns-16
+returns-16 c = search needs
+
 pub number-count-spec : {M : Type 1} → statement M
 number-count-spec =
     tie.close
@@ -126,6 +132,7 @@ number-count-spec =
     smaller-requires-2
     enum-told-11
     enum-told-12
+    enum-told-13
     returns
     returns-2
     returns-3
@@ -140,4 +147,5 @@ number-count-spec =
     returns-12
     returns-13
     returns-14
-    returns-15)
+    returns-15
+    returns-16)

@@ -18,6 +18,9 @@ fresh-requires c κs = search needs
 loop-holds : tie.Need-loop-holds Inv-loop μ-loop
 loop-holds c = search needs
 
+role-of-requires : tie.Need-role-of-requires Inv-loop μ-loop
+role-of-requires c κs = search needs
+
 admit-requires : tie.Need-admit-requires Inv-loop μ-loop
 admit-requires c κs = search needs
 
@@ -47,6 +50,7 @@ admit-all-spec =
     μ-loop
     fresh-requires
     loop-holds
+    role-of-requires
     admit-requires
     lodge-letters-requires
     add-participant

@@ -2,7 +2,6 @@
 -- Assumes nothing.
 use Rattle.dialogue.proofs.LineLaws.{line-taken}
 use Prim.Native.Nat.{_≤_}
-use mathlib.Core.Path.{refl}
 use native.Mathlib.Omega.{arith}
 use lib.ListN.{length}
 use borrow.Author.Needs.{needs}
@@ -15,20 +14,11 @@ ask-requires c κs = search needs
 next-number-requires : tie.Need-next-number-requires
 next-number-requires c κs = search needs
 
-apply-requires : tie.Need-apply-requires
-apply-requires c κs = search needs
+apply-at-requires : tie.Need-apply-at-requires
+apply-at-requires c κs = search needs
 
-is-kept-requires : tie.Need-is-kept-requires
-is-kept-requires c κs = search needs
-
-put-added-requires : tie.Need-put-added-requires
-put-added-requires c κs = search needs
-
-is-refusal-requires : tie.Need-is-refusal-requires
-is-refusal-requires c κs = search needs
-
-next-place-requires : tie.Need-next-place-requires
-next-place-requires c κs = search needs
+put-turn-requires : tie.Need-put-turn-requires
+put-turn-requires c κs = search needs
 
 same-length : tie.Need-same-length
 same-length c = search needs
@@ -44,14 +34,13 @@ same-length-4 c = search needs
 
 returns : tie.Need-returns
 returns c =
-    let added = c .before .before .before .before .before .before in
-    let kept = added .before .before .before .before .before .before in
-    let applied = kept .before .before .before in
+    let put = c .before .before .before .before in
+    let applied = put .before .before .before .before .before .before .before in
     let asked = applied .before .before .before .before .before in
     let start = asked .before .before .before .before .before .before in
     let fits : length (start .args .numbers .now) ≤ 18446744073709551615 = omega (arith, start .good) in
-    line-taken _ _ _ _ _ _ _ _ _ _ _ _ _ _ _ _ _ _ _ _ _ _ (asked .ask .ensures) (applied .before .next-number .ensures) (applied .apply .ensures)
-    (kept .is-kept .ensures) refl (added .put-added .ensures) (c .before .is-refusal .ensures) (c .next-place .ensures) fits
+    line-taken _ _ _ _ _ _ _ _ _ _ _ _ _ _ _ _ _ _ _ (asked .ask .ensures) (applied .before .next-number .ensures) (applied .apply-at .ensures)
+    (put .put-turn .ensures) fits
 
 pub answer-line-spec : {M : Type 1} → statement M
 answer-line-spec =
@@ -59,11 +48,8 @@ answer-line-spec =
     (tie.spec
     ask-requires
     next-number-requires
-    apply-requires
-    is-kept-requires
-    put-added-requires
-    is-refusal-requires
-    next-place-requires
+    apply-at-requires
+    put-turn-requires
     same-length
     same-length-2
     same-length-3

@@ -1,9 +1,12 @@
--- `dialogue::said::put_added` meets its contract: the three are put one after the other.
+-- `dialogue::said::put_added` meets its contract: the mark and the line are put one after the other, and so are what is said and the table.
 -- Assumes nothing.
 use Rattle.dialogue.proofs.LineLaws.{added}
 use borrow.Author.Needs.{needs}
 use Rattle.dialogue.proofs.said.put_added.Statement.{statement}
 use Rattle.dialogue.proofs.said.put_added.Tie as tie
+
+put-mark-requires : tie.Need-put-mark-requires
+put-mark-requires c κs = search needs
 
 put-journal-requires : tie.Need-put-journal-requires
 put-journal-requires c κs = search needs
@@ -27,6 +30,7 @@ pub put-added-spec : {M : Type 1} → statement M
 put-added-spec =
     tie.close
     (tie.spec
+    put-mark-requires
     put-journal-requires
     put-said-requires
     put-tabled-requires

@@ -9,10 +9,10 @@ use Rattle.replay.proofs.history.replay.Statement.{statement}
 use Rattle.replay.proofs.history.replay.Tie as tie
 
 abbrev Inv-loop : tie.InvT-loop
-Inv-loop calls figures files out₀ book₀ answer count i₀ out book i = Turn calls figures files out₀ (firstDay book₀) count i out book
+Inv-loop first calls figures files out₀ book₀ answer count i₀ out book i = Turn calls figures files out₀ (firstDay book₀) first count i out book
 
 abbrev μ-loop : tie.MeasureT-loop
-μ-loop calls figures files out₀ book₀ answer count i₀ out book i = count - i
+μ-loop first calls figures files out₀ book₀ answer count i₀ out book i = count - i
 
 fresh-requires : tie.Need-fresh-requires Inv-loop μ-loop
 fresh-requires c κs = search needs
@@ -46,7 +46,7 @@ loop-less c = search needs
 
 loop-again : tie.Need-loop-again Inv-loop μ-loop
 loop-again c =
-    turn-next _ _ _ _ _ _ _ _ _ (c .before .before .before .before .before .before .before .before .loop .inv) _ _ _
+    turn-next _ _ _ _ _ _ _ _ _ _ (c .before .before .before .before .before .before .before .before .loop .inv) _ _ _
     (c .before .before .before .before .before .before .before .loop-test .taken)
     (c .before .before .before .before .before .apply-at .ensures)
     (c .before .put .ensures)

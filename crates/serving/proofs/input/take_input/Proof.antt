@@ -1,5 +1,6 @@
 -- `serving::input::take_input` meets its contract: what the parts left is well-formed and within the buffer, as the last line asks.
 -- Assumes nothing.
+use mathlib.Core.Path.{sym, _∙_}
 use native.Mathlib.Omega.{arith}
 use borrow.Author.Needs.{needs}
 use Rattle.serving.proofs.input.take_input.Statement.{statement}
@@ -44,7 +45,11 @@ take-last-requires c κs =
     )
 
 same-length-6 : tie.Need-same-length-6
-same-length-6 c = search needs
+same-length-6 c =
+    let last = c .before .before .before .before .before .before .before .before .before in
+    let parts = last .before .before .before .before .before .before .before .before .before .before .before .before .before .before .before .before .before in
+    let start = parts .before .before .before .before .before .before .before .before .before .before .before .before in
+    last .take-last .ensures .long ∙ sym (start .pre .0 .long)
 
 same-length-7 : tie.Need-same-length-7
 same-length-7 c = search needs
