@@ -376,9 +376,10 @@ class Kept(Filter):
         self.any |= call[0] not in QUESTIONS
 
     def found(self, data):
-        """The same for a journal that is to be kept: a rest is given to be dropped only behind a kept call, and if it is not too long."""
+        """The same for a journal that is to be kept: a rest is given to be dropped only behind a kept call or the line `role-retired`, and if it is
+        not too long."""
         rest, lines = self.replay(data), data.count(b'\n')
-        if rest and (not self.any or len(rest) > DROPPED):
+        if rest and (not (self.any or self.marked) or len(rest) > DROPPED):
             raise Stop(f'line {lines + 1}: line without newline')
         return rest
 

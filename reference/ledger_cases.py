@@ -710,12 +710,12 @@ def torn_journal(place):
 
 @case
 def rest_that_is_not_dropped(place):
-    """A rest with no kept call before it, or of more bytes than are dropped, stops the ledger with nothing changed."""
+    """A rest with neither a kept call nor `role-retired` before it, or of more bytes than are dropped, stops the ledger with nothing changed."""
     more = ledger.DROPPED + 1
     for journal, rest in ((b'', b'admit 0 0'), (b'', b'a'), (b'', b'x' * 200000), (b'admit 0 0\n', b'x' * more), (b'admit 0 0\n', b'y' * 65536),
                           (b'admit 0 0\nadmit 1 0\n', b'z' * 200000), (b'', ledger.MARK + b'admit 0 0'), (b'\n', b'admit 0 0'),
-                          (b'# a comment\n', b'admit 0 0'), (b' \r\n\n', b'a'), (b'calls\nreport\n', b'admit 0 0'), (b'role-retired\n', b'fre'),
-                          (b'role-retired\n', b'fresh 366'), (b'', b'role-ret'), (b'', b'role-retired'), (b'\nrole-retired\n#\n', b'a')):
+                          (b'# a comment\n', b'admit 0 0'), (b' \r\n\n', b'a'), (b'calls\nreport\n', b'admit 0 0'),
+                          (b'role-retired\n', b'x' * more), (b'', b'role-ret'), (b'', b'role-retired'), (b'\n#\n', b'role-retired')):
         place.put(journal + rest)
         refuses(place, place.path, texts=[f'ledger: {place.path}: line {journal.count(10) + 1}: '.encode()])
 
@@ -1448,7 +1448,7 @@ def read_a_torn_journal(place):
         same('the answers', place.run('--read', place.path, data=b'report\n')[0], due(b'report\n', b'admit 0 0\n')[0])
         same('the files', snapshot(place.folder), before)
     for journal in (b'admit 0 0\n' + b'x' * (ledger.DROPPED + 1), b'admit 0 0\n' + b'x' * 200000, b'no journal', b'# a comment\nadm',
-                    b'role-retired\nfre', b'role-retired'):
+                    b'role-retired\n' + b'x' * (ledger.DROPPED + 1), b'role-retired'):
         place.put(journal)
         refuses(place, '--read', place.path, texts=[f'ledger: {place.path}: line {journal.count(10) + 1}: '.encode()])
 
@@ -1723,10 +1723,11 @@ def end_of_the_first_stretch_in_a_journal(place):
 @case
 def torn_end_of_the_first_stretch(place):
     """A part of `role-retired` behind an old journal is dropped like any rest, and the line is written with the next change; behind the whole line
-    the rest alone is dropped."""
+    the rest alone is dropped, also where a new journal has no call yet."""
     data = b'report\nadmit 9 1\nadmit 9 2\nreport\n'
     for journal, rest in ((OLD_BOOK, b'r'), (OLD_BOOK, b'role-ret'), (OLD_BOOK, b'role-retired'), (OLD_BOOK + b'role-retired\n', b'lodge 0 0 ca'),
-                          (OLD_BOOK + b'role-retired\n', b'role-ret'), (b'role-retired\nadmit 0 0\n', b'role-retired')):
+                          (OLD_BOOK + b'role-retired\n', b'role-ret'), (b'role-retired\nadmit 0 0\n', b'role-retired'), (b'role-retired\n', b'fre'),
+                          (b'\nrole-retired\n#\n', b'fresh 366')):
         for words in ((), ('--batch',)):
             place.put(journal + rest)
             answers, left = due(data, journal)

@@ -26,13 +26,13 @@ use Rattle.book.specs.Call.{Call, Act, on, admit, lodge, release, settle, annua
 use Rattle.book.specs.Call.{firstRefused, batchSays}
 use Rattle.book.specs.Rule.{Rule, oldRule, newRule, history}
 use Rattle.book.specs.Account.{freshBook, freshAnswer, fileAt, ifNumbered, ifAdmitted, fileAnswer, partAnswer, answer, applied, step, run}
-use Rattle.book.specs.Account.{admitsRetired, ifRegistered}
+use Rattle.book.specs.Account.{admitsRetired, unlessRetired}
 use Rattle.book.proofs.History.Life.{life}
 use Rattle.book.proofs.History.Lift.{decided}
 use Rattle.answering.specs.Shown.{shown}
 use Rattle.answering.specs.Asked.{Asked, call, fresh, guarantee, nothing, roleRetired, fault, answerTo, bookAfter}
 use Rattle.answering.specs.Kept.{takes}
-use Rattle.answering.specs.Session.{ruleOf, bookOf, Since, historyOf, withCall, since, eventsSince, Session}
+use Rattle.answering.specs.Session.{ruleBehind, bookOf, Since, historyOf, sinceWith, since, eventsSince, Session}
 
 -- ---- a fresh book's answer
 
@@ -64,7 +64,7 @@ not-old e = clash {t = true} refl (ap isNew e)
     isNew oldRule = false
     isNew newRule = true
 
-leads-call : (rule : Rule) (c : Call) (s : Since) (b : Book) → Leads rule s b → Leads rule (withCall rule c s) (step rule b c)
+leads-call : (rule : Rule) (c : Call) (s : Since) (b : Book) → Leads rule s b → Leads rule (sinceWith rule c s) (step rule b c)
 unfolding run
 leads-call oldRule c s b l =
     let none : s .calls ≡ [] = l .first refl in
@@ -78,11 +78,11 @@ leads-call oldRule c s b l =
 leads-call newRule c s b l =
     record { within = l .within; book = ap (λ (k : Book). step newRule k c) (l .book); first = λ old. absurd (not-old old) }
 
-leads : (lines : List Asked) → Leads (ruleOf lines) (since lines) (bookOf lines)
-unfolding since bookOf ruleOf run
+leads : (lines : List Asked) → Leads (ruleBehind lines) (since lines) (bookOf lines)
+unfolding since bookOf ruleBehind run
 leads [] = record { within = omega arith; book = refl; first = λ old. refl }
-leads (call c ∷ before) = leads-call (ruleOf before) c (since before) (bookOf before) (leads before)
-leads (fresh d ∷ before) = leads-fresh (ruleOf before) d (since before) (bookOf before) (leads before)
+leads (call c ∷ before) = leads-call (ruleBehind before) c (since before) (bookOf before) (leads before)
+leads (fresh d ∷ before) = leads-fresh (ruleBehind before) d (since before) (bookOf before) (leads before)
 leads (guarantee x ∷ before) = leads before
 leads (nothing ∷ before) = leads before
 leads (roleRetired ∷ before) =
@@ -101,7 +101,7 @@ session lines =
       book = l .book;
       life = life s calls (l .within);
       answered = λ n c.
-          ap shown (ap (λ (b : Book). answer (ruleOf lines) b c) (l .book) ∙ decided s calls (l .within) (ruleOf lines) c);
+          ap shown (ap (λ (b : Book). answer (ruleBehind lines) b c) (l .book) ∙ decided s calls (l .within) (ruleBehind lines) c);
     }
 
 -- ---- what is not kept
@@ -154,7 +154,7 @@ file-untold f t (release k a) = decided-untold _ _ (decided-untold _ Said.done r
 file-untold f t (settle m figures) = decided-untold _ _ (decided-untold _ _ (settled-untold f t m figures))
 file-untold f t annualRun = decided-untold _ _ (decided-untold _ _ refl)
 
-registered-untold : (rule : Rule) (a : Act) (x : Said.Answer) → tells x ≡ false → tells (ifRegistered rule a x) ≡ false
+registered-untold : (rule : Rule) (a : Act) (x : Said.Answer) → tells x ≡ false → tells (unlessRetired rule a x) ≡ false
 registered-untold oldRule a x h = h
 registered-untold newRule a x h = split (admitsRetired a && accepted x) (λ e. rw e refl) (λ e. rw e h)
 

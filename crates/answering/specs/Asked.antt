@@ -31,7 +31,7 @@ pub data Asked : Type 0 where
   guarantee : Special → Asked
   -- nothing of the book: an empty line, or the table for people
   nothing : Asked
-  -- paper 02, Ask 3: the mark that ends the first stretch of a journal
+  -- paper 02, Ask 3: the end of the first stretch of a journal
   roleRetired : Asked
   -- no call
   fault : Reason → Asked

@@ -47,7 +47,7 @@ refuses (Answer.Special c) = false
 refuses (Answer.Batch n) = false
 refuses (Answer.RefusedPair n i) = true
 
--- Whether a request is a call that may change the book: all but the questions, an empty line and an error.
+-- Whether a request is a call that may change the book: all but the questions, an empty line, the line that ends a first stretch and an error.
 abbrev pub changes : Request → Bool
 changes Request.Nothing = false
 changes (Request.Fresh d) = true
@@ -85,24 +85,24 @@ isFresh Request.RoleRetired = false
 isFresh Request.Report = false
 isFresh (Request.Error e) = false
 
--- Whether a request is the mark that ends the first stretch of a journal (paper 02, Ask 3).
-abbrev pub isMark : Request → Bool
-isMark Request.Nothing = false
-isMark (Request.Fresh d) = false
-isMark (Request.Admit p r) = false
-isMark (Request.LodgeCash p q a) = false
-isMark (Request.LodgeLetter p q a f l) = false
-isMark (Request.Release p q a) = false
-isMark (Request.Settle p m n) = false
-isMark (Request.Annual p) = false
-isMark (Request.Advance t b) = false
-isMark (Request.Statement p) = false
-isMark Request.Calls = false
-isMark (Request.Special n) = false
-isMark (Request.Batch n) = false
-isMark Request.RoleRetired = true
-isMark Request.Report = false
-isMark (Request.Error e) = false
+-- Whether a request is the line that ends the first stretch of a journal (paper 02, Ask 3).
+abbrev pub isRoleRetired : Request → Bool
+isRoleRetired Request.Nothing = false
+isRoleRetired (Request.Fresh d) = false
+isRoleRetired (Request.Admit p r) = false
+isRoleRetired (Request.LodgeCash p q a) = false
+isRoleRetired (Request.LodgeLetter p q a f l) = false
+isRoleRetired (Request.Release p q a) = false
+isRoleRetired (Request.Settle p m n) = false
+isRoleRetired (Request.Annual p) = false
+isRoleRetired (Request.Advance t b) = false
+isRoleRetired (Request.Statement p) = false
+isRoleRetired Request.Calls = false
+isRoleRetired (Request.Special n) = false
+isRoleRetired (Request.Batch n) = false
+isRoleRetired Request.RoleRetired = true
+isRoleRetired Request.Report = false
+isRoleRetired (Request.Error e) = false
 
 -- "In a kept journal `fresh` stands only as the first call; a later one is an error": a request where so many calls are kept.
 unfoldable pub freshFirst : ℕ → Request → Request
@@ -132,6 +132,6 @@ numbersIn (Request.Error e) most = 0
 unfoldable pub keptLine : Request → List ℤ → List ℕ
 keptLine r zs = printed r (take (numbersIn r (length zs)) zs) ++ (10 ∷ [])
 
--- The mark as a line of the journal.
-abbrev pub markLine : List ℕ
-markLine = printed Request.RoleRetired [] ++ (10 ∷ [])
+-- That line, with its newline.
+abbrev pub retiredLine : List ℕ
+retiredLine = printed Request.RoleRetired [] ++ (10 ∷ [])

@@ -3,7 +3,7 @@ ghost use mathlib.Core.Path.{_≡_};
 ghost use Prim.Native.Nat.{min};
 ghost use Rattle.journal.specs.Grammar.{lengthList, total};
 ghost use Rattle.printing.specs.Placed.{Put};
-ghost use Rattle.answering.specs.Kept.{takes, refuses, changes, isFresh, isMark, freshFirst, numbersIn, keptLine};
+ghost use Rattle.answering.specs.Kept.{takes, refuses, changes, isFresh, isRoleRetired, freshFirst, numbersIn, keptLine};
 use crate::guarantee::front;
 use crate::guarantee::smaller;
 use journal::Lengths;
@@ -106,9 +106,9 @@ fn is_fresh(request: Request) -> bool
     }
 }
 
-// Whether a request is the mark that ends the first stretch of a journal.
-pub fn is_mark(request: Request) -> bool
-    ensures { λ r. ⌜ r ≡ isMark request ⌝ }
+// Whether a request is the line that ends the first stretch of a journal.
+pub fn is_role_retired(request: Request) -> bool
+    ensures { λ r. ⌜ r ≡ isRoleRetired request ⌝ }
 {
     match request {
         Request::Nothing => false,

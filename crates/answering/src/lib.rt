@@ -11,7 +11,7 @@ pub use calls::apply;
 pub use calls::apply_by_old_rule;
 pub use kept::is_change;
 pub use kept::is_kept;
-pub use kept::is_mark;
 pub use kept::is_refusal;
+pub use kept::is_role_retired;
 pub use kept::put_kept;
 pub use requests::request_of;

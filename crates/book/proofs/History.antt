@@ -8,3 +8,4 @@ pub mod Lift
 pub mod Higher
 pub mod Openings
 pub mod Life
+pub mod Retired

@@ -18,7 +18,7 @@ use Rattle.layout.specs.Book.{Book}
 use Rattle.batch.specs.Batch.{countIn, participantAt, formOf}
 use Rattle.book.specs.Call.{Act, admit, lodge, release, settle, annualRun, Call, on, advance, statement, callsMade, batch}
 use Rattle.book.specs.Call.{partAct, batchSays}
-use Rattle.book.specs.Rule.{Rule, oldRule, newRule, Entry}
+use Rattle.book.specs.Rule.{Rule, oldRule, newRule, MadeCall}
 
 -- "Fresh book on a day: no participants."
 unfoldable pub freshBook : ℕ → Book
@@ -81,14 +81,14 @@ admitsRetired (release k a) = false
 admitsRetired (settle m figures) = false
 admitsRetired annualRun = false
 
--- "Answers: 23 role 1 at admission, after 4": under the new rule such a call is refused where it was accepted under the old one.
-abbrev pub ifRegistered : Rule → Act → Answer → Answer
-ifRegistered oldRule a answer = answer
-ifRegistered newRule a answer = cond (admitsRetired a && accepted answer) (refused 23) answer
+-- "Answers: 23 role 1 at admission, after 4": under the new rule such a call is refused where the old one accepts it.
+abbrev pub unlessRetired : Rule → Act → Answer → Answer
+unlessRetired oldRule a answer = answer
+unlessRetired newRule a answer = cond (admitsRetired a && accepted answer) (refused 23) answer
 
 -- What a call that names participant p answers, and the book that it leaves where it is accepted.
 abbrev pub answerOn : Rule → Book → ℕ → Act → Answer
-answerOn rule b p a = ifNumbered p (ifRegistered rule a (fileAnswer (fileAt b p) (b .today .0) a))
+answerOn rule b p a = ifNumbered p (unlessRetired rule a (fileAnswer (fileAt b p) (b .today .0) a))
 
 abbrev pub appliedOn : Book → ℕ → Act → Book
 appliedOn b p a = withFile b p (fileAfter (fileAt b p) (b .today .0) a) (callsAdded (fileAt b p) (b .today .0) a)
@@ -149,6 +149,6 @@ unfoldable pub step : Rule → Book → Call → Book
 step rule b c = cond (accepted (answer rule b c)) (applied b c) b
 
 -- The book that a list of calls, the newest first, each made under its rule, leads to from a fresh book on day s.
-unfoldable pub run : ℕ → List Entry → Book
+unfoldable pub run : ℕ → List MadeCall → Book
 run s [] = freshBook s
 run s (e ∷ before) = step (e .rule) (run s before) (e .call)

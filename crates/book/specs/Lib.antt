@@ -12,3 +12,4 @@ pub mod Left
 pub mod Settlements
 pub mod Batches
 pub mod Admissions
+pub mod Retired

@@ -12,7 +12,7 @@ use Rattle.file.specs.Answer.{Answer}
 use Rattle.file.specs.Fields.{coverOf, shortfallOf}
 use Rattle.layout.specs.Book.{Book}
 use Rattle.book.specs.Call.{Call, on, advance, statement, callsMade, batch}
-use Rattle.book.specs.Rule.{Rule, newRule, Entry, under}
+use Rattle.book.specs.Rule.{Rule, newRule, MadeCall, under}
 use Rattle.book.specs.Account.{fileAt, answer, step, run}
 use Rattle.book.specs.Reading.Events.{Own, dayOpened, act, mine, todayOf, admittedIn, roleIn}
 use Rattle.book.specs.Reading.Holdings.{coverIn}
@@ -22,12 +22,12 @@ use Rattle.book.specs.Reading.Decisions.{callsBelow, decision, eventsOf}
 use Rattle.book.specs.Kept.{bookIn}
 
 -- What the book answered to each call of a list, the newest first.
-unfoldable pub answersOf : ℕ → List Entry → List Answer
+unfoldable pub answersOf : ℕ → List MadeCall → List Answer
 answersOf s [] = []
 answersOf s (e ∷ before) = answer (e .rule) (run s before) (e .call) ∷ answersOf s before
 
 -- What the reading decides of each, "from the arguments, the fresh day and the calls before".
-unfoldable pub decisionsOf : ℕ → List Entry → List Answer
+unfoldable pub decisionsOf : ℕ → List MadeCall → List Answer
 decisionsOf s [] = []
 decisionsOf s (e ∷ before) = decision (e .rule) s (eventsOf s before) (e .call) ∷ decisionsOf s before
 
@@ -72,13 +72,13 @@ pub record ChargedBook (before after : Book) : Type 0 where
 
 -- Every opening after a list of calls, under either rule: what an advance that opens n days leaves, and one that opens one more, as far as there
 -- are days to T.
-abbrev pub Openings : ℕ → List Entry → Type 0
+abbrev pub Openings : ℕ → List MadeCall → Type 0
 Openings s calls =
     (rule : Rule) (day n : ℕ) → day ≤ 29219 → run s calls .today .0 + suc n ≤ day
     → ChargedBook (run s (under rule (advance day n) ∷ calls)) (run s (under rule (advance day (suc n)) ∷ calls))
 
 -- .. after each of the calls of a list, so those inside its own advances too.
-abbrev pub EachOpening : ℕ → List Entry → Type 0
+abbrev pub EachOpening : ℕ → List MadeCall → Type 0
 EachOpening s [] = Openings s []
 EachOpening s (e ∷ before) = Openings s (e ∷ before) × EachOpening s before
 
@@ -91,13 +91,13 @@ pub record NoneHigher (before after : Book) : Type 0 where
       → shortfallOf (fileAt after p) (after .today .0) ≡ 0
 
 -- .. each call of a list.
-abbrev pub EachCall : ℕ → List Entry → Type 0
+abbrev pub EachCall : ℕ → List MadeCall → Type 0
 EachCall s [] = Unit {0}
 EachCall s (e ∷ before) =
     (run s (e ∷ before) .today .0 ≡ run s before .today .0 → NoneHigher (run s before) (run s (e ∷ before))) × EachCall s before
 
 -- The claim about the list of calls as a whole, the newest first. A history with its first stretch (`history`) is such a list.
-pub record Life (s : ℕ) (calls : List Entry) : Type 0 where
+pub record Life (s : ℕ) (calls : List MadeCall) : Type 0 where
   -- "each answer is what paper 01 decides from the arguments, the fresh day and the calls before"
   pub answers : answersOf s calls ≡ decisionsOf s calls
   -- the book is that of the readings, field by field

@@ -11,7 +11,7 @@ use Rattle.book.specs.Account.{freshAnswer, freshBookBeside, answer, ste
 use Rattle.book.specs.Reading.Decisions.{decision, eventsOf}
 use Rattle.book.specs.Kept.{bookIn}
 
--- "a book being any that a fresh book and the calls lead to", of which the first may have been made under the old admission rule.
+-- "a book being any that a fresh book and the calls lead to", those of a first stretch, made under the old admission rule, and those since.
 pub record Reached (b : Book) : Type 0 where
   pub start : ℕ
   pub within : start ≤ 29219
@@ -57,3 +57,5 @@ pub record Begun (d : ℕ) (x : Answer) (b : Book) : Type 0 where
   pub answered : x ≡ freshAnswer d
   pub left : b ≡ freshBookBeside d
   pub reached : Reached b
+  -- a first stretch may begin
+  pub first : ReachedFirst b

@@ -8,15 +8,15 @@ pub data Rule : Type 0 where
   oldRule : Rule
   newRule : Rule
 
--- A call of a history, with the rule that it was made under.
-pub record Entry : Type 0 where
+-- A call that was made, with the rule that it was made under.
+pub record MadeCall : Type 0 where
   pub rule : Rule
   pub call : Call
 
-abbrev pub under : Rule → Call → Entry
+abbrev pub under : Rule → Call → MadeCall
 under rule c = record { rule = rule; call = c }
 
 -- "a history from a fresh book may still have a first stretch of calls made under the old admission rule": the calls of the first stretch and
 -- those since, each list the newest first, as one list, the newest first. The two are told apart by their place in it, not by a day.
-abbrev pub history : (first since : List Call) → List Entry
+abbrev pub history : (first since : List Call) → List MadeCall
 history first since = map (under newRule) since ++ map (under oldRule) first

@@ -1,4 +1,4 @@
-// Admissions and annual runs (paper 01, 'The calls'): an admission puts a new file, an annual run takes the file out of the words, calls its method,
+// Admissions and annual runs (paper 01, 'The calls'; paper 02, Ask 3): an admission puts a new file, an annual run takes the file out of the words, calls its method,
 // and writes the next amount.
 use crate::positions::is_done;
 use calendar::Day;

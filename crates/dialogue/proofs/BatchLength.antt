@@ -20,7 +20,7 @@ use Rattle.file.specs.DecideLaws.{none-holds}
 use Rattle.file.specs.Settle.{settleAnswer}
 use Rattle.layout.specs.Book.{Book}
 use Rattle.book.specs.Rule.{Rule, oldRule, newRule}
-use Rattle.book.specs.Account.{answer, fileAt, fileAnswer, ifNumbered, ifAdmitted, ifRegistered, afterParts, partAnswer}
+use Rattle.book.specs.Account.{answer, fileAt, fileAnswer, ifNumbered, ifAdmitted, unlessRetired, afterParts, partAnswer}
 use Rattle.book.specs.Call.{on, settle, batch}
 use Rattle.book.proofs.History.Parts.{Accepted, batch-accepted}
 
@@ -35,7 +35,7 @@ behind-causes (c ∷ causes) x e =
     (λ h. behind-causes causes x (sym (ap accepted (cond-false _ (Said.refused (c .number)) (decide Said.refused causes x) h)) ∙ e))
 
 -- A settlement is answered alike under both rules.
-either-rule : (rule : Rule) (m : ℕ) (figures : List ℤ) (x : Said.Answer) → ifRegistered rule (settle m figures) x ≡ x
+either-rule : (rule : Rule) (m : ℕ) (figures : List ℤ) (x : Said.Answer) → unlessRetired rule (settle m figures) x ≡ x
 either-rule oldRule m figures x = refl
 either-rule newRule m figures x = refl
 
@@ -47,7 +47,7 @@ settle-few rule b p m figures e =
     let f = fileAt b p in
     let t = b .today .0 in
     let x = ap accepted (sym (either-rule rule m figures (fileAnswer f t (settle m figures))))
-    ∙ behind-causes _ (ifRegistered rule (settle m figures) (fileAnswer f t (settle m figures))) e in
+    ∙ behind-causes _ (unlessRetired rule (settle m figures) (fileAnswer f t (settle m figures))) e in
     let y = behind-causes _ (settleAnswer f t m figures) x in
     let h = none-holds _ _ y in
     omega (arith, ltb-false 16 (length figures) (or-second (ltb (length figures) 5) (ltb 16 (length figures)) (h .1 .0)))

@@ -11,18 +11,18 @@ use Rattle.journal.specs.Grammar.{parsed}
 use Rattle.journal.specs.declared.Request.{Request}
 use Rattle.printing.specs.declared.Answer.{Answer}
 use Rattle.answering.specs.Asked.{Asked, call, fresh, guarantee, nothing, roleRetired, fault, asked, answerTo, bookAfter}
-use Rattle.answering.specs.Kept.{takes, refuses, isMark}
-use Rattle.answering.specs.Session.{ruleOf, bookOf, eventsSince}
+use Rattle.answering.specs.Kept.{takes, refuses, isRoleRetired}
+use Rattle.answering.specs.Session.{ruleBehind, bookOf, eventsSince}
 use Rattle.answering.proofs.Session.{session}
 use Rattle.dialogue.specs.declared.Way.{Way}
 use Rattle.dialogue.specs.declared.Place.{Place}
 use Rattle.dialogue.specs.Asks.{textOf, requestOf, asks, ruleAt}
 use Rattle.dialogue.specs.Said.{said, tabled}
-use Rattle.dialogue.specs.Turns.{State, next, endsStretch, marks, further, answerOf, isKept, after, bytesOf, ended, allBytes}
+use Rattle.dialogue.specs.Turns.{State, next, endsStretch, endsAt, further, answerOf, isKept, after, bytesOf, ended, allBytes}
 use Rattle.dialogue.specs.Decided.{Led, decidedAnswer, readBook, decidedTo, decidedOf, decidedPlace, decidedBytes}
 
 -- An answer is the decided one.
-decided-answer : (seen : List Asked) (n : ℕ) (a : Asked) → answerTo (ruleOf seen) (bookOf seen) n a ≡ decidedAnswer seen n a
+decided-answer : (seen : List Asked) (n : ℕ) (a : Asked) → answerTo (ruleBehind seen) (bookOf seen) n a ≡ decidedAnswer seen n a
 decided-answer seen n (call c) = session seen .answered n c
 decided-answer seen n (fresh d) = refl
 decided-answer seen n (guarantee x) = refl
@@ -35,13 +35,13 @@ decided-book : (lines : List Asked) → bookOf lines ≡ readBook lines
 unfolding eventsSince
 decided-book lines = session lines .book ∙ session lines .life .kept
 
-book-more : (seen : List Asked) (a : Asked) → bookOf (a ∷ seen) ≡ bookAfter (ruleOf seen) (bookOf seen) a
+book-more : (seen : List Asked) (a : Asked) → bookOf (a ∷ seen) ≡ bookAfter (ruleBehind seen) (bookOf seen) a
 unfolding bookOf
 book-more seen a = refl
 
 -- The rule behind a line: the new one behind the mark, and behind any other line what it was.
-rule-more : (seen : List Asked) (r : Request) (zs : List ℤ) → ruleOf (asked r zs ∷ seen) ≡ cond (isMark r) newRule (ruleOf seen)
-unfolding ruleOf
+rule-more : (seen : List Asked) (r : Request) (zs : List ℤ) → ruleBehind (asked r zs ∷ seen) ≡ cond (isRoleRetired r) newRule (ruleBehind seen)
+unfolding ruleBehind
 rule-more seen Request.Nothing zs = refl
 rule-more seen (Request.Fresh d) zs = refl
 rule-more seen (Request.Admit p r) zs = refl
@@ -60,11 +60,11 @@ rule-more seen Request.Report zs = refl
 rule-more seen (Request.Error e) zs = refl
 
 -- .. as the place has it: where a journal is replayed the mark ends the first stretch, and elsewhere the rule is the new one.
-rule-behind : (replays unmarked mark kept : Bool)
-    → cond mark newRule (cond (replays && unmarked) oldRule newRule)
-    ≡ cond (replays && (unmarked && not (cond replays (unmarked && mark) (unmarked && kept)))) oldRule newRule
-rule-behind false unmarked true kept = refl
-rule-behind false unmarked false kept = refl
+rule-behind : (replays early mark kept : Bool)
+    → cond mark newRule (cond (replays && early) oldRule newRule)
+    ≡ cond (replays && (early && not (cond replays (early && mark) (early && kept)))) oldRule newRule
+rule-behind false early true kept = refl
+rule-behind false early false kept = refl
 rule-behind true false true kept = refl
 rule-behind true false false kept = refl
 rule-behind true true true kept = refl
@@ -79,7 +79,7 @@ module _ (way : Way) (room : ℕ) (s : State) (l : List ℕ) (seen : List Asked)
       let n = next (s .place .line) in
       let a = asks way room (s .place) l in
       ap (λ (rule : Rule). answerTo rule (s .book) n a) (sym (e .rule))
-      ∙ ap (λ (b : Book). answerTo (ruleOf seen) b n a) (sym (e .book))
+      ∙ ap (λ (b : Book). answerTo (ruleBehind seen) b n a) (sym (e .book))
       ∙ decided-answer seen n a
 
   after-book : bookOf (asks way room (s .place) l ∷ seen) ≡ after way room s l .book
@@ -87,16 +87,16 @@ module _ (way : Way) (room : ℕ) (s : State) (l : List ℕ) (seen : List Asked)
   after-book =
       let a = asks way room (s .place) l in
       book-more seen a
-      ∙ ap (λ (b : Book). bookAfter (ruleOf seen) b a) (e .book)
+      ∙ ap (λ (b : Book). bookAfter (ruleBehind seen) b a) (e .book)
       ∙ ap (λ (rule : Rule). bookAfter rule (s .book) a) (e .rule)
 
-  after-rule : ruleOf (asks way room (s .place) l ∷ seen) ≡ ruleAt way (after way room s l .place)
-  unfolding after asks marks
+  after-rule : ruleBehind (asks way room (s .place) l ∷ seen) ≡ ruleAt way (after way room s l .place)
+  unfolding after asks endsAt
   after-rule =
       let r = requestOf way room (s .place) l in
       rule-more seen r (parsed room (textOf (s .place .line) l) .numbers)
-      ∙ ap (cond (isMark r) newRule) (e .rule)
-      ∙ rule-behind (way .replays) (s .place .unmarked) (isMark r) (isKept way room s l)
+      ∙ ap (cond (isRoleRetired r) newRule) (e .rule)
+      ∙ rule-behind (way .replays) (s .place .early) (isRoleRetired r) (isKept way room s l)
 
   pub decided-seen : Led way (after way room s l) (asks way room (s .place) l ∷ seen)
   decided-seen = record { book = after-book; rule = after-rule }
@@ -110,7 +110,7 @@ module _ (way : Way) (room : ℕ) (s : State) (l : List ℕ) (seen : List Asked)
       ∙ ap (λ (b : Book). said (decidedTo way room (s .place) seen l) ++ tabled r b) (sym after-book ∙ decided-book (a ∷ seen))
 
   pub decided-place : after way room s l .place ≡ decidedPlace way room (s .place) seen l
-  unfolding after isKept marks decidedPlace
+  unfolding after isKept endsAt decidedPlace
   decided-place =
       ap
       (λ (z : Answer).

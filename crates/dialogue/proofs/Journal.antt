@@ -14,19 +14,19 @@ use Rattle.journal.specs.declared.Request.{Request}
 use Rattle.printing.specs.Decimals.{spaced, joined}
 use Rattle.printing.specs.Lines.{callWords, printed}
 use Rattle.answering.specs.Asked.{answerTo}
-use Rattle.answering.specs.Kept.{takes, isMark, markLine}
+use Rattle.answering.specs.Kept.{takes, isRoleRetired, retiredLine}
 use Rattle.answering.proofs.Session.{not-taken}
 use Rattle.dialogue.specs.declared.Way.{Way}
 use Rattle.dialogue.specs.Split.{linesIn, restIn}
 use Rattle.dialogue.specs.Asks.{requestOf, asks, ruleAt}
-use Rattle.dialogue.specs.Turns.{State, next, counted, marks, answerOf, isKept, after, numeric, journalOf, ended}
+use Rattle.dialogue.specs.Turns.{State, next, counted, endsAt, answerOf, isKept, after, numeric, journalOf, ended}
 use Rattle.dialogue.specs.Whole.{stateBefore, streamAfter, streamJournal}
 use Rattle.dialogue.specs.Dialogue.{replaying, Begins, Replayed}
 use Rattle.dialogue.proofs.CompleteLines.{Plain, line-first, rest-first}
 use Rattle.dialogue.proofs.SplitLaws.{lines-behind, rest-behind}
 use Rattle.dialogue.proofs.KeptForm.{printed-plain, numeric-plain}
 use Rattle.dialogue.proofs.KeptAgain.{numeric-short, kept-no-mark, book-again, count-again, none-refused, mark-stays, line-again}
-use Rattle.dialogue.proofs.KeptAgain.{markText, mark-book, mark-kept, mark-refused, mark-ends, mark-journal}
+use Rattle.dialogue.proofs.KeptAgain.{retiredText, mark-book, mark-kept, mark-refused, mark-ends, mark-journal}
 use Rattle.dialogue.proofs.Streams.{ended-state, ended-kept, on-state, on-kept, state-append, kept-append}
 
 -- ---- its bytes are complete lines
@@ -41,8 +41,8 @@ line-or-none false k p = refl
 one-whole : (way : Way) (room : ℕ) (s : State) (l : List ℕ) → restIn (journalOf way room s l) ≡ []
 unfolding journalOf
 one-whole way room s l =
-    rest-behind (cond (way .keeps && marks way room s l) markLine []) (cond (isKept way room s l) (numeric room (s .place .line) l ++ (10 ∷ [])) [])
-    (line-or-none (way .keeps && marks way room s l) markText (printed-plain Request.RoleRetired []))
+    rest-behind (cond (way .keeps && endsAt way room s l) retiredLine []) (cond (isKept way room s l) (numeric room (s .place .line) l ++ (10 ∷ [])) [])
+    (line-or-none (way .keeps && endsAt way room s l) retiredText (printed-plain Request.RoleRetired []))
     ∙ line-or-none (isKept way room s l) (numeric room (s .place .line) l) (numeric-plain room (s .place .line) l)
 
 pub journal-whole : (most : ℕ) (way : Way) (room : ℕ) (s : State) (ls : List (List ℕ)) → restIn (streamJournal most way room s ls) ≡ []
@@ -62,13 +62,13 @@ journal-whole most way room s (l ∷ ls) =
 -- The mark, the line and the others, one behind the other.
 journal-parts : (most : ℕ) (way : Way) (room : ℕ) (s : State) (l : List ℕ) (ls : List (List ℕ)) → ended way (s .place) ≡ false
     → streamJournal most way room s (l ∷ ls)
-    ≡ cond (way .keeps && marks way room (stateBefore most s l) l) markLine []
+    ≡ cond (way .keeps && endsAt way room (stateBefore most s l) l) retiredLine []
     ++ (cond (isKept way room (stateBefore most s l) l) (numeric room (s .place .line) l ++ (10 ∷ [])) []
     ++ streamJournal most way room (after way room (stateBefore most s l) l) ls)
 unfolding journalOf
 journal-parts most way room s l ls e =
     on-kept most way room s l ls e
-    ∙ append-assoc (cond (way .keeps && marks way room (stateBefore most s l) l) markLine [])
+    ∙ append-assoc (cond (way .keeps && endsAt way room (stateBefore most s l) l) retiredLine [])
     (cond (isKept way room (stateBefore most s l) l) (numeric room (s .place .line) l ++ (10 ∷ [])) [])
     (streamJournal most way room (after way room (stateBefore most s l) l) ls)
 
@@ -139,20 +139,20 @@ module _ (most : ℕ) (way : Way) (room : ℕ) (enough : 20480 ≤ most) (small 
     s₁ = stateBefore most s l
 
     abbrev marked : Bool
-    marked = marks way room s₁ l
+    marked = endsAt way room s₁ l
 
     -- The state u behind the mark, if the line writes it: the book and the count are the same, and the mark is there.
     record Between (u : State) : Type 0 where
       book : u .book ≡ s .book
       kept : u .place .kept ≡ s .place .kept
       refused : u .place .refused ≡ 0
-      unmarked : u .place .unmarked ≡ (s .place .unmarked && not marked)
+      early : u .place .early ≡ (s .place .early && not marked)
 
     -- Only where the mark is not there a line writes it.
-    marks-unmarked : marked ≡ true → s .place .unmarked ≡ true
-    unfolding marks
-    marks-unmarked e =
-        first (way .replays) (s .place .unmarked) (isMark (requestOf way room (s₁ .place) l)) (isKept way room s₁ l) e
+    marks-early : marked ≡ true → s .place .early ≡ true
+    unfolding endsAt
+    marks-early e =
+        first (way .replays) (s .place .early) (isRoleRetired (requestOf way room (s₁ .place) l)) (isKept way room s₁ l) e
       where
         first : (r u m k : Bool) → cond r (u && m) (u && k) ≡ true → u ≡ true
         first true true m k h = refl
@@ -160,40 +160,40 @@ module _ (most : ℕ) (way : Way) (room : ℕ) (enough : 20480 ≤ most) (small 
         first false true m k h = refl
         first false false m k h = h
 
-    mark-short : stateBefore most t markText .place .long ≡ false
+    mark-short : stateBefore most t retiredText .place .long ≡ false
     unfolding printed callWords joined spaced
-    mark-short = lt-leb most (length markText) (omega arith)
+    mark-short = lt-leb most (length retiredText) (omega arith)
 
     abbrev behindMark : State
-    behindMark = after replaying room (stateBefore most t markText) markText
+    behindMark = after replaying room (stateBefore most t retiredText) retiredText
 
-    mark-step : (u : State) × Passes t (cond (way .keeps && marked) markLine []) u × Between u
+    mark-step : (u : State) × Passes t (cond (way .keeps && marked) retiredLine []) u × Between u
     mark-step =
         split marked
         (λ e.
-        let t₁ = stateBefore most t markText in
-        let unmarked : t .place .unmarked ≡ true = b .unmarked ∙ marks-unmarked e in (
+        let t₁ = stateBefore most t retiredText in
+        let early : t .place .early ≡ true = b .early ∙ marks-early e in (
           behindMark,
-          passes-by t behindMark (cond (way .keeps && marked) markLine []) markLine
-              (cond-true (way .keeps && marked) markLine [] (ap (λ (z : Bool). z && marked) keeps ∙ e))
-              (one-passes t markText (b .refused) (printed-plain Request.RoleRetired []) (mark-journal room t₁ mark-short unmarked)),
+          passes-by t behindMark (cond (way .keeps && marked) retiredLine []) retiredLine
+              (cond-true (way .keeps && marked) retiredLine [] (ap (λ (z : Bool). z && marked) keeps ∙ e))
+              (one-passes t retiredText (b .refused) (printed-plain Request.RoleRetired []) (mark-journal room t₁ mark-short early)),
           record {
             book = mark-book room t₁ mark-short ∙ b .book;
             kept = mark-kept room t₁ mark-short ∙ b .kept;
             refused = mark-refused room t₁ mark-short ∙ b .refused;
-            unmarked = mark-ends room t₁ mark-short ∙ sym (ap (λ (z : Bool). s .place .unmarked && not z) e ∙ and-false (s .place .unmarked));
+            early = mark-ends room t₁ mark-short ∙ sym (ap (λ (z : Bool). s .place .early && not z) e ∙ and-false (s .place .early));
           },
         ))
         (λ e. (
           t,
-          passes-by t t (cond (way .keeps && marked) markLine []) []
-              (cond-false (way .keeps && marked) markLine [] (ap (λ (z : Bool). z && marked) keeps ∙ e))
+          passes-by t t (cond (way .keeps && marked) retiredLine []) []
+              (cond-false (way .keeps && marked) retiredLine [] (ap (λ (z : Bool). z && marked) keeps ∙ e))
               (none-passes t),
           record {
             book = b .book;
             kept = b .kept;
             refused = b .refused;
-            unmarked = b .unmarked ∙ sym (ap (λ (z : Bool). s .place .unmarked && not z) e ∙ and-true (s .place .unmarked));
+            early = b .early ∙ sym (ap (λ (z : Bool). s .place .early && not z) e ∙ and-true (s .place .early));
           },
         ))
 
@@ -202,16 +202,16 @@ module _ (most : ℕ) (way : Way) (room : ℕ) (enough : 20480 ≤ most) (small 
 
     -- The kept line is taken again under the rule that it was taken under.
     same-rule : (u : State) → Between u → isKept way room s₁ l ≡ true → ruleAt replaying (u .place) ≡ ruleAt way (s .place)
-    unfolding marks
+    unfolding endsAt
     same-rule u x e =
-        ap (λ (z : Bool). cond z oldRule newRule) (x .unmarked)
-        ∙ ap (λ (k : Bool). behind (isMark (requestOf way room (s₁ .place) l)) k) e
+        ap (λ (z : Bool). cond z oldRule newRule) (x .early)
+        ∙ ap (λ (k : Bool). behind (isRoleRetired (requestOf way room (s₁ .place) l)) k) e
         ∙ ap (λ (m : Bool). behind m true) (kept-no-mark way room s₁ l e)
-        ∙ agrees (way .replays) (s .place .unmarked)
+        ∙ agrees (way .replays) (s .place .early)
       where
         behind : (m k : Bool) → Rule
         behind m k =
-            cond (s .place .unmarked && not (cond (way .replays) (s .place .unmarked && m) (s .place .unmarked && k))) oldRule newRule
+            cond (s .place .early && not (cond (way .replays) (s .place .early && m) (s .place .early && k))) oldRule newRule
 
         agrees : (r u : Bool) → cond (u && not (cond r (u && false) (u && true))) oldRule newRule ≡ cond (r && u) oldRule newRule
         agrees true true = refl
@@ -231,7 +231,7 @@ module _ (most : ℕ) (way : Way) (room : ℕ) (enough : 20480 ≤ most) (small 
           book = x .book ∙ sym (not-taken rule (s .book) n a f);
           kept = x .kept ∙ sym (ap (λ (z : Bool). counted z (s .place .kept)) e);
           refused = x .refused;
-          unmarked = x .unmarked;
+          early = x .early;
         }
 
     line-step : (u : State) → Between u
@@ -252,7 +252,7 @@ module _ (most : ℕ) (way : Way) (room : ℕ) (enough : 20480 ≤ most) (small 
             book = book-again way room s₁ u₁ l small e (x .book) (x .kept) short rule;
             kept = count-again way room s₁ u₁ l small e (x .book) (x .kept) short rule;
             refused = none-refused way room s₁ u₁ l small e (x .book) (x .kept) short rule ∙ x .refused;
-            unmarked = mark-stays way room s₁ u₁ l small e (x .book) (x .kept) short rule ∙ x .unmarked;
+            early = mark-stays way room s₁ u₁ l small e (x .book) (x .kept) short rule ∙ x .early;
           },
         ))
         (λ e. (
@@ -278,7 +278,7 @@ module _ (most : ℕ) (way : Way) (room : ℕ) (enough : 20480 ≤ most) (small 
       (λ e. again-by t end s j [] (ended-kept most way room s (l ∷ ls) e) (ended-state most way room s (l ∷ ls) e) (none-again s t b))
       (λ e.
       again-by t end end₁ j
-      (cond (way .keeps && marks way room s₁ l) markLine []
+      (cond (way .keeps && endsAt way room s₁ l) retiredLine []
       ++ (cond (isKept way room s₁ l) (numeric room (s .place .line) l ++ (10 ∷ [])) [] ++ j₁))
       (journal-parts most way room s l ls e)
       (on-state most way room s l ls e)
@@ -294,6 +294,6 @@ module _ (most : ℕ) (way : Way) (room : ℕ) (enough : 20480 ≤ most) (small 
         book = w .agree .book;
         kept = w .agree .kept;
         refused = w .agree .refused;
-        unmarked = w .agree .unmarked;
+        early = w .agree .early;
         again = w .same;
       }

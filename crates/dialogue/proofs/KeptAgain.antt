@@ -19,13 +19,13 @@ use Rattle.printing.specs.Lines.{printed}
 use Rattle.printing.proofs.ParsedFits.{parsed-fitting, parsed-again}
 use Rattle.printing.proofs.RoundTrip.{round-trip}
 use Rattle.answering.specs.Asked.{Asked, call, fresh, guarantee, nothing, roleRetired, fault, asked, answerTo, bookAfter}
-use Rattle.answering.specs.Kept.{takes, refuses, isMark, freshFirst, markLine}
+use Rattle.answering.specs.Kept.{takes, refuses, isRoleRetired, freshFirst, retiredLine}
 use Rattle.answering.specs.Lines.{lineRequest}
 use Rattle.answering.proofs.ParsedLines.{call-is-parsed}
 use Rattle.dialogue.specs.declared.Way.{Way}
 use Rattle.dialogue.specs.declared.Place.{Place}
 use Rattle.dialogue.specs.Asks.{textOf, heldBack, requestOf, asks, ruleAt}
-use Rattle.dialogue.specs.Turns.{State, next, counted, marks, answerOf, isKept, after, numeric, journalOf}
+use Rattle.dialogue.specs.Turns.{State, next, counted, endsAt, answerOf, isKept, after, numeric, journalOf}
 use Rattle.dialogue.specs.Dialogue.{replaying}
 use Rattle.dialogue.proofs.AskLaws.{held-call}
 use Rattle.dialogue.proofs.KeptForm.{printed-text}
@@ -44,7 +44,7 @@ takes-any rule b n m roleRetired = refl
 takes-any rule b n m (fault e) = refl
 
 -- What is taken is not the mark.
-no-mark : (rule : Rule) (b : Book) (n : ℕ) (r : Request) (zs : List ℤ) → takes (answerTo rule b n (asked r zs)) ≡ true → isMark r ≡ false
+no-mark : (rule : Rule) (b : Book) (n : ℕ) (r : Request) (zs : List ℤ) → takes (answerTo rule b n (asked r zs)) ≡ true → isRoleRetired r ≡ false
 no-mark rule b n Request.Nothing zs h = refl
 no-mark rule b n (Request.Fresh d) zs h = refl
 no-mark rule b n (Request.Admit p r) zs h = refl
@@ -177,11 +177,11 @@ numeric-short way room s l h e =
     form-short room (textOf (s .place .line) l) h (k .call) (ruleAt way (s .place)) (s .book) (next (s .place .line)) (k .taken)
 
 -- A kept line is not the mark.
-pub kept-no-mark : (way : Way) (room : ℕ) (s : State) (l : List ℕ) → isKept way room s l ≡ true → isMark (requestOf way room (s .place) l) ≡ false
+pub kept-no-mark : (way : Way) (room : ℕ) (s : State) (l : List ℕ) → isKept way room s l ≡ true → isRoleRetired (requestOf way room (s .place) l) ≡ false
 kept-no-mark way room s l e =
     let k = kept-is way room s l e in
     let text = textOf (s .place .line) l in
-    ap isMark (k .request)
+    ap isRoleRetired (k .request)
     ∙ no-mark (ruleAt way (s .place)) (s .book) (next (s .place .line)) (parsed room text .request) (parsed room text .numbers) (k .taken)
 
 module _ (way : Way) (room : ℕ) (s t : State) (l : List ℕ) (h : room ≤ 18446744073709551615) (kept : isKept way room s l ≡ true)
@@ -217,16 +217,16 @@ module _ (way : Way) (room : ℕ) (s t : State) (l : List ℕ) (h : room ≤ 184
   kept-again = taken-again
 
   -- It is not the mark there either.
-  unmarked-line : marks replaying room t line ≡ false
-  unfolding marks numeric
+  unmarked-line : endsAt replaying room t line ≡ false
+  unfolding endsAt numeric
   unmarked-line =
       let text = textOf (s .place .line) l in
       let k = kept-is way room s l kept in
-      ap (λ (r : Request). t .place .unmarked && isMark r)
+      ap (λ (r : Request). t .place .early && isRoleRetired r)
       (request-again room text h (k .call) (t .place) short
       (ap (λ (n : ℕ). freshFirst n (parsed room text .request)) same-kept ∙ k .first))
-      ∙ ap (λ (z : Bool). t .place .unmarked && z) (ap isMark (sym (k .request)) ∙ kept-no-mark way room s l kept)
-      ∙ and-false (t .place .unmarked)
+      ∙ ap (λ (z : Bool). t .place .early && z) (ap isRoleRetired (sym (k .request)) ∙ kept-no-mark way room s l kept)
+      ∙ and-false (t .place .early)
 
   pub book-again : after replaying room t line .book ≡ after way room s l .book
   unfolding after
@@ -245,77 +245,77 @@ module _ (way : Way) (room : ℕ) (s t : State) (l : List ℕ) (h : room ≤ 184
   unfolding after
   none-refused = ap (λ (z : Bool). counted z (t .place .refused)) (unrefused (answerOf replaying room t line) taken-again)
 
-  pub mark-stays : after replaying room t line .place .unmarked ≡ t .place .unmarked
+  pub mark-stays : after replaying room t line .place .early ≡ t .place .early
   unfolding after
-  mark-stays = ap (λ (z : Bool). t .place .unmarked && not z) unmarked-line ∙ and-true (t .place .unmarked)
+  mark-stays = ap (λ (z : Bool). t .place .early && not z) unmarked-line ∙ and-true (t .place .early)
 
   pub line-again : journalOf replaying room t line ≡ line ++ (10 ∷ [])
   unfolding journalOf numeric
   line-again =
       let k = cond (isKept replaying room t line) (numeric room (t .place .line) line ++ (10 ∷ [])) [] in
-      ap (λ (z : Bool). cond z markLine [] ++ k) unmarked-line
+      ap (λ (z : Bool). cond z retiredLine [] ++ k) unmarked-line
       ∙ cond-true (isKept replaying room t line) (numeric room (t .place .line) line ++ (10 ∷ [])) [] kept-again
       ∙ ap (λ (z : List ℕ). z ++ (10 ∷ [])) (form-again room (textOf (s .place .line) l) h (kept-is way room s l kept .call) (t .place .line))
 
 -- ---- the mark taken again
 
 -- The mark without its newline.
-abbrev pub markText : List ℕ
-markText = printed Request.RoleRetired []
+abbrev pub retiredText : List ℕ
+retiredText = printed Request.RoleRetired []
 
 module _ (room : ℕ) (t : State) (short : t .place .long ≡ false) where
-  mark-parsed : parsed room (textOf (t .place .line) markText) ≡ record { request = Request.RoleRetired; numbers = [] }
+  mark-parsed : parsed room (textOf (t .place .line) retiredText) ≡ record { request = Request.RoleRetired; numbers = [] }
   mark-parsed = ap (parsed room) (printed-text (t .place .line) Request.RoleRetired []) ∙ round-trip room Request.RoleRetired [] refl (omega arith)
 
-  mark-request : requestOf replaying room (t .place) markText ≡ Request.RoleRetired
+  mark-request : requestOf replaying room (t .place) retiredText ≡ Request.RoleRetired
   unfolding requestOf heldBack lineRequest freshFirst
   mark-request =
       ap
       (λ (z : Bool).
-      cond z (Request.Error Reason.TooLong) (freshFirst (t .place .kept) (parsed room (textOf (t .place .line) markText) .request)))
+      cond z (Request.Error Reason.TooLong) (freshFirst (t .place .kept) (parsed room (textOf (t .place .line) retiredText) .request)))
       short
       ∙ ap (λ (x : Parsed). freshFirst (t .place .kept) (x .request)) mark-parsed
 
-  mark-asks : asks replaying room (t .place) markText ≡ roleRetired
+  mark-asks : asks replaying room (t .place) retiredText ≡ roleRetired
   unfolding asks
-  mark-asks = ap (λ (r : Request). asked r (parsed room (textOf (t .place .line) markText) .numbers)) mark-request
+  mark-asks = ap (λ (r : Request). asked r (parsed room (textOf (t .place .line) retiredText) .numbers)) mark-request
 
-  mark-answer : answerOf replaying room t markText ≡ Answer.Nothing
+  mark-answer : answerOf replaying room t retiredText ≡ Answer.Nothing
   unfolding answerOf
   mark-answer = ap (answerTo (ruleAt replaying (t .place)) (t .book) (next (t .place .line))) mark-asks
 
-  mark-unkept : isKept replaying room t markText ≡ false
+  mark-unkept : isKept replaying room t retiredText ≡ false
   unfolding isKept
   mark-unkept = ap takes mark-answer
 
-  mark-marks : marks replaying room t markText ≡ t .place .unmarked
-  unfolding marks
-  mark-marks = ap (λ (r : Request). t .place .unmarked && isMark r) mark-request ∙ and-true (t .place .unmarked)
+  mark-marks : endsAt replaying room t retiredText ≡ t .place .early
+  unfolding endsAt
+  mark-marks = ap (λ (r : Request). t .place .early && isRoleRetired r) mark-request ∙ and-true (t .place .early)
 
-  pub mark-book : after replaying room t markText .book ≡ t .book
+  pub mark-book : after replaying room t retiredText .book ≡ t .book
   unfolding after
   mark-book = ap (bookAfter (ruleAt replaying (t .place)) (t .book)) mark-asks
 
-  pub mark-kept : after replaying room t markText .place .kept ≡ t .place .kept
+  pub mark-kept : after replaying room t retiredText .place .kept ≡ t .place .kept
   unfolding after
   mark-kept = ap (λ (z : Bool). counted z (t .place .kept)) mark-unkept
 
-  pub mark-refused : after replaying room t markText .place .refused ≡ t .place .refused
+  pub mark-refused : after replaying room t retiredText .place .refused ≡ t .place .refused
   unfolding after
   mark-refused = ap (λ (z : Answer). counted (refuses z) (t .place .refused)) mark-answer
 
-  pub mark-ends : after replaying room t markText .place .unmarked ≡ false
+  pub mark-ends : after replaying room t retiredText .place .early ≡ false
   unfolding after
-  mark-ends = ap (λ (z : Bool). t .place .unmarked && not z) mark-marks ∙ never (t .place .unmarked)
+  mark-ends = ap (λ (z : Bool). t .place .early && not z) mark-marks ∙ never (t .place .early)
     where
       never : (u : Bool) → (u && not u) ≡ false
       never true = refl
       never false = refl
 
-  pub mark-journal : t .place .unmarked ≡ true → journalOf replaying room t markText ≡ markLine
+  pub mark-journal : t .place .early ≡ true → journalOf replaying room t retiredText ≡ retiredLine
   unfolding journalOf
   mark-journal e =
-      ap (λ (z : Bool). cond z markLine [] ++ cond (isKept replaying room t markText) (numeric room (t .place .line) markText ++ (10 ∷ [])) [])
+      ap (λ (z : Bool). cond z retiredLine [] ++ cond (isKept replaying room t retiredText) (numeric room (t .place .line) retiredText ++ (10 ∷ [])) [])
       (mark-marks ∙ e)
-      ∙ ap (λ (z : Bool). markLine ++ cond z (numeric room (t .place .line) markText ++ (10 ∷ [])) []) mark-unkept
-      ∙ append-nil markLine
+      ∙ ap (λ (z : Bool). retiredLine ++ cond z (numeric room (t .place .line) retiredText ++ (10 ∷ [])) []) mark-unkept
+      ∙ append-nil retiredLine

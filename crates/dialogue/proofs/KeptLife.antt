@@ -15,9 +15,9 @@ use Rattle.dialogue.proofs.Streams.{state-append, kept-append}
 module _ (most room : ℕ) where
   -- Behind a journal that led to a state's book and count, another that was begun there may be replayed.
   pub begins-then : (t end s : State) (j : List ℕ) → Replayed most room t j end → s .book ≡ end .book → s .place .kept ≡ end .place .kept
-      → s .place .unmarked ≡ end .place .unmarked → Begins s (streamAfter most replaying room t (linesIn j))
+      → s .place .early ≡ end .place .early → Begins s (streamAfter most replaying room t (linesIn j))
   begins-then t end s j x b k u =
-      record { book = x .book ∙ sym b; kept = x .kept ∙ sym k; refused = x .refused; unmarked = x .unmarked ∙ sym u }
+      record { book = x .book ∙ sym b; kept = x .kept ∙ sym k; refused = x .refused; early = x .early ∙ sym u }
 
   pub replayed-then : (t end end₁ : State) (j k : List ℕ) → restIn j ≡ [] → Replayed most room t j end
       → Replayed most room (streamAfter most replaying room t (linesIn j)) k end₁ → Replayed most room t (j ++ k) end₁
@@ -29,7 +29,7 @@ module _ (most room : ℕ) where
         book = ap (λ (z : State). z .book) state ∙ y .book;
         kept = ap (λ (z : State). z .place .kept) state ∙ y .kept;
         refused = ap (λ (z : State). z .place .refused) state ∙ y .refused;
-        unmarked = ap (λ (z : State). z .place .unmarked) state ∙ y .unmarked;
+        early = ap (λ (z : State). z .place .early) state ∙ y .early;
         again =
             ap (streamJournal most replaying room t) (lines-behind j k whole) ∙ kept-append most replaying room t (linesIn j) (linesIn k)
             ∙ ap (λ (z : List ℕ). z ++ streamJournal most replaying room u (linesIn k)) (x .again)
@@ -40,7 +40,7 @@ module _ (most room : ℕ) where
   none-kept : (s t : State) → Begins s t → KeptLife most room s t []
   unfolding sittingsJournal sittingsEnd linesIn restIn streamAfter streamJournal
   none-kept s t b =
-      record { whole = refl; replayed = record { book = b .book; kept = b .kept; refused = b .refused; unmarked = b .unmarked; again = refl } }
+      record { whole = refl; replayed = record { book = b .book; kept = b .kept; refused = b .refused; early = b .early; again = refl } }
 
   -- For every list of sessions that keep.
   pub kept-life : 20480 ≤ most → room ≤ 18446744073709551615 → (s t : State) → Begins s t → (sittings : List Sitting) → AllKeep sittings

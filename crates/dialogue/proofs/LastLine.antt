@@ -7,12 +7,12 @@ use mathlib.Core.List.{List, [], _∷_, _++_, append-nil}
 use Rattle.laws.specs.Cases.{split, cond-false}
 use Rattle.journal.specs.Grammar.{parsed}
 use Rattle.answering.specs.Asked.{Asked, asked, answerTo, bookAfter}
-use Rattle.answering.specs.Kept.{takes, isMark, markLine}
+use Rattle.answering.specs.Kept.{takes, isRoleRetired, retiredLine}
 use Rattle.journal.specs.declared.Reason.{Reason}
 use Rattle.journal.specs.declared.Request.{Request}
 use Rattle.dialogue.specs.declared.Way.{Way}
 use Rattle.dialogue.specs.Asks.{textOf, heldBack, requestOf, asks, ruleAt}
-use Rattle.dialogue.specs.Turns.{State, next, marks, answerOf, isKept, after, numeric, journalOf, ended}
+use Rattle.dialogue.specs.Turns.{State, next, endsAt, answerOf, isKept, after, numeric, journalOf, ended}
 use Rattle.dialogue.specs.Whole.{stateBefore, streamAfter, streamJournal, lastLine, lastWay}
 use Rattle.dialogue.proofs.Streams.{ended-state, ended-kept, on-state, on-kept}
 
@@ -44,19 +44,19 @@ none-ends true false = refl
 none-ends false true = refl
 none-ends false false = refl
 
-torn-marks : (way : Way) (room : ℕ) (s : State) (l : List ℕ) → way .keeps ≡ true → marks (lastWay way) room s l ≡ false
-unfolding marks
+torn-marks : (way : Way) (room : ℕ) (s : State) (l : List ℕ) → way .keeps ≡ true → endsAt (lastWay way) room s l ≡ false
+unfolding endsAt
 torn-marks way room s l e =
-    let u = s .place .unmarked in
-    ap (λ (t : Bool). cond (way .replays) (u && isMark (requestOf (lastWay way) room (s .place) l)) (u && t)) (last-left way room s l)
-    ∙ ap (λ (r : Request). cond (way .replays) (u && isMark r) (u && false)) (torn-request way room s l e)
+    let u = s .place .early in
+    ap (λ (t : Bool). cond (way .replays) (u && isRoleRetired (requestOf (lastWay way) room (s .place) l)) (u && t)) (last-left way room s l)
+    ∙ ap (λ (r : Request). cond (way .replays) (u && isRoleRetired r) (u && false)) (torn-request way room s l e)
     ∙ none-ends (way .replays) u
 
-last-unmarked : (way : Way) (room : ℕ) (s : State) (l : List ℕ) → (way .keeps && marks (lastWay way) room s l) ≡ false
-last-unmarked way room s l =
+last-early : (way : Way) (room : ℕ) (s : State) (l : List ℕ) → (way .keeps && endsAt (lastWay way) room s l) ≡ false
+last-early way room s l =
     split (way .keeps)
-    (λ e. ap (λ (t : Bool). t && marks (lastWay way) room s l) e ∙ torn-marks way room s l e)
-    (λ e. ap (λ (t : Bool). t && marks (lastWay way) room s l) e)
+    (λ e. ap (λ (t : Bool). t && endsAt (lastWay way) room s l) e ∙ torn-marks way room s l e)
+    (λ e. ap (λ (t : Bool). t && endsAt (lastWay way) room s l) e)
 
 module _ (most : ℕ) (way : Way) (room : ℕ) (s : State) where
   -- Nothing of it is in the journal.
@@ -69,7 +69,7 @@ module _ (most : ℕ) (way : Way) (room : ℕ) (s : State) where
       split (ended (lastWay way) (s .place)) (λ e. ended-kept most (lastWay way) room s ((b ∷ r) ∷ []) e)
       (λ e.
       on-kept most (lastWay way) room s (b ∷ r) [] e ∙ append-nil (journalOf (lastWay way) room t (b ∷ r))
-      ∙ ap (λ (z : Bool). cond z markLine [] ++ cond (isKept (lastWay way) room t (b ∷ r)) k []) (last-unmarked way room t (b ∷ r))
+      ∙ ap (λ (z : Bool). cond z retiredLine [] ++ cond (isKept (lastWay way) room t (b ∷ r)) k []) (last-early way room t (b ∷ r))
       ∙ cond-false (isKept (lastWay way) room t (b ∷ r)) k [] (last-left way room t (b ∷ r)))
 
   -- In the kept way it leaves the book.

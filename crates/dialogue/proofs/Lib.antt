@@ -19,4 +19,5 @@ pub mod KeptAgain
 pub mod Journal
 pub mod LastLine
 pub mod KeptLife
+pub mod RetiredRole
 pub mod Dialogue

@@ -26,7 +26,7 @@ use Rattle.printing.proofs.ParsedFits.{parsed-fitting}
 use Rattle.report.specs.Table.{reportText}
 use Rattle.answering.specs.Asked.{Asked, asked, answerTo, bookAfter}
 use Rattle.answering.specs.InWords.{AnsweredWords}
-use Rattle.answering.specs.Kept.{takes, refuses, isMark, keptLine, markLine}
+use Rattle.answering.specs.Kept.{takes, refuses, isRoleRetired, keptLine, retiredLine}
 use Rattle.answering.specs.Lines.{lineRequest, LineIs}
 use Rattle.answering.proofs.OwnNumbers.{own, asked-cut}
 use Rattle.answering.proofs.ParsedLines.{parsed-own, call-is-parsed}
@@ -34,7 +34,7 @@ use Rattle.dialogue.specs.declared.Way.{Way}
 use Rattle.dialogue.specs.declared.Place.{Place}
 use Rattle.dialogue.specs.Asks.{textOf, heldBack, requestOf, asks, ruleAt, LineAsked}
 use Rattle.dialogue.specs.Said.{speaks, Spoken, said, Said, wantsTable, tabled, Tabled, Added}
-use Rattle.dialogue.specs.Turns.{next, counted, endsStretch, marks, further, answerOf, isKept, after, bytesOf, numeric, journalOf}
+use Rattle.dialogue.specs.Turns.{next, counted, endsStretch, endsAt, further, answerOf, isKept, after, bytesOf, numeric, journalOf}
 use Rattle.dialogue.specs.Answers.{stateOf, Turned, LineTaken}
 use Rattle.dialogue.proofs.AskLaws.{held-call}
 use Rattle.dialogue.proofs.KeptLengths.{kept-short}
@@ -94,31 +94,31 @@ as-many t n h = rw h refl
 -- The place behind a line.
 pub place-further : (p : Place) (kept refused marked : Bool) (a b c : ℕ) → a ≡ next (p .line) → b ≡ counted refused (p .refused)
     → c ≡ counted kept (p .kept)
-    → record { line = a; refused = b; kept = c; long = false; unmarked = p .unmarked && not marked } ≡ further p kept refused marked
+    → record { line = a; refused = b; kept = c; long = false; early = p .early && not marked } ≡ further p kept refused marked
 place-further p kept refused marked a b c x y z =
-    λ i. record { line = x i; refused = y i; kept = z i; long = false; unmarked = p .unmarked && not marked }
+    λ i. record { line = x i; refused = y i; kept = z i; long = false; early = p .early && not marked }
 
 -- Whether a line ends the first stretch of a journal, by the tests of the code.
-pub ends-replayed : (way : Way) (p : Place) (request : Request) (kept r : Bool) → way .replays ≡ true → r ≡ isMark request
-    → (p .unmarked && r) ≡ endsStretch way p request kept
-ends-replayed way p request kept r e h = rw e (ap (λ (z : Bool). p .unmarked && z) h)
+pub ends-replayed : (way : Way) (p : Place) (request : Request) (kept r : Bool) → way .replays ≡ true → r ≡ isRoleRetired request
+    → (p .early && r) ≡ endsStretch way p request kept
+ends-replayed way p request kept r e h = rw e (ap (λ (z : Bool). p .early && z) h)
 
 pub ends-kept : (way : Way) (p : Place) (request : Request) (kept : Bool) → way .replays ≡ false
-    → (p .unmarked && kept) ≡ endsStretch way p request kept
+    → (p .early && kept) ≡ endsStretch way p request kept
 ends-kept way p request kept e = rw e refl
 
 -- The rule that a line's call is made under, by the test of the code.
-pub by-old-rule : (way : Way) (p : Place) (l : List ℕ) (n : ℕ) (a : Asked) (x : Answer) (m : List ℕ) → (way .replays && p .unmarked) ≡ true
+pub by-old-rule : (way : Way) (p : Place) (l : List ℕ) (n : ℕ) (a : Asked) (x : Answer) (m : List ℕ) → (way .replays && p .early) ≡ true
     → AnsweredWords oldRule l n a x m → AnsweredWords (ruleAt way p) l n a x m
 by-old-rule way p l n a x m e g = rw e g
 
-pub by-new-rule : (way : Way) (p : Place) (l : List ℕ) (n : ℕ) (a : Asked) (x : Answer) (m : List ℕ) → (way .replays && p .unmarked) ≡ false
+pub by-new-rule : (way : Way) (p : Place) (l : List ℕ) (n : ℕ) (a : Asked) (x : Answer) (m : List ℕ) → (way .replays && p .early) ≡ false
     → AnsweredWords newRule l n a x m → AnsweredWords (ruleAt way p) l n a x m
 by-new-rule way p l n a x m e g = rw e g
 
 -- The line of the mark.
 pub put-marked : (t : Bool) (ys : List ℤ) (e f : List ℕ) (at r : ℕ) → t ≡ true → Put (keptLine Request.RoleRetired ys) e at r f
-    → Put (cond t markLine []) e at r f
+    → Put (cond t retiredLine []) e at r f
 unfolding keptLine
 put-marked t ys e f at r h x = rw h x
 
@@ -198,7 +198,7 @@ held-kept way p l zs ys request x c =
     (line-call (p .long) (p .kept) text zs ys q (subst IsCall e c) (x .line))
 
 -- The mark has 13 bytes.
-mark-few : (t : Bool) → length (cond t markLine []) ≤ 13
+mark-few : (t : Bool) → length (cond t retiredLine []) ≤ 13
 unfolding printed callWords joined spaced
 mark-few true = omega arith
 mark-few false = omega arith
@@ -256,8 +256,8 @@ module _ (way : Way) (p : Place) (l : List ℕ) (zs ys : List ℤ) (request : Re
         (λ h. rw h (omega arith))
 
     module _ (v : Bool) (ends : v ≡ endsStretch way p request t) where
-      marked-line : marks way (length zs) (stateOf words p) l ≡ v
-      unfolding marks
+      marked-line : endsAt way (length zs) (stateOf words p) l ≡ v
+      unfolding endsAt
       marked-line =
           ap (λ (z : Bool). endsStretch way p (requestOf way (length zs) p l) z) kept-line
           ∙ ap (λ (r : Request). endsStretch way p r t) (sym (is .request))
@@ -268,34 +268,34 @@ module _ (way : Way) (p : Place) (l : List ℕ) (zs ys : List ℤ) (request : Re
       left-state q u r e =
           let f : q
           ≡ further p (isKept way (length zs) (stateOf words p) l) (refuses (answerOf way (length zs) (stateOf words p) l))
-          (marks way (length zs) (stateOf words p) l) =
+          (endsAt way (length zs) (stateOf words p) l) =
           e ∙ ap (λ (z : Bool). further p z u v) (sym kept-line)
           ∙ ap (λ (z : Bool). further p (isKept way (length zs) (stateOf words p) l) z v) (r ∙ ap refuses answered-line)
           ∙ ap (further p (isKept way (length zs) (stateOf words p) l) (refuses (answerOf way (length zs) (stateOf words p) l))) (sym marked-line) in
           λ i. record { book = left-book i; place = f i }
 
-      journal-line : cond (way .keeps && v) markLine [] ++ cond t (keptLine request ys) [] ≡ journalOf way (length zs) (stateOf words p) l
+      journal-line : cond (way .keeps && v) retiredLine [] ++ cond t (keptLine request ys) [] ≡ journalOf way (length zs) (stateOf words p) l
       unfolding journalOf
       journal-line =
-          ap (λ (z : Bool). cond (way .keeps && z) markLine [] ++ cond t (keptLine request ys) []) (sym marked-line)
-          ∙ ap (λ (z : List ℕ). cond (way .keeps && marks way (length zs) (stateOf words p) l) markLine [] ++ z) own-line
+          ap (λ (z : Bool). cond (way .keeps && z) retiredLine [] ++ cond t (keptLine request ys) []) (sym marked-line)
+          ∙ ap (λ (z : List ℕ). cond (way .keeps && endsAt way (length zs) (stateOf words p) l) retiredLine [] ++ z) own-line
 
       journal-few : length zs ≤ 18446744073709551615 → length (journalOf way (length zs) (stateOf words p) l) ≤ 20480
       journal-few long =
           rw (← journal-line)
           (omega (
             arith,
-            length-append (cond (way .keeps && v) markLine []) (cond t (keptLine request ys) []),
+            length-append (cond (way .keeps && v) retiredLine []) (cond t (keptLine request ys) []),
             own-few long,
             mark-few (way .keeps && v),
           ))
 
 pub added : (request : Request) (answer : Answer) (kept marked : Bool) (ys : List ℤ) (words j i k : List ℕ) (x o y : ℕ) (e f g : List ℕ)
-    (at a b : ℕ) → Put (cond marked markLine []) j x o i → Put (cond kept (keptLine request ys) []) i o y k → Said answer e at a f
+    (at a b : ℕ) → Put (cond marked retiredLine []) j x o i → Put (cond kept (keptLine request ys) []) i o y k → Said answer e at a f
     → Tabled request (bookOfWords words) f a b g → Added request answer kept marked ys words j x e at y k b g
 added request answer kept marked ys words j i k x o y e f g at a b v w c d =
     record {
-      journal = put-then (cond marked markLine []) (cond kept (keptLine request ys) []) j i k x o y v w;
+      journal = put-then (cond marked retiredLine []) (cond kept (keptLine request ys) []) j i k x o y v w;
       bytes = put-then (said answer) (tabled request (bookOfWords words)) e f g at a b (c .put) (d .put);
       most = omega (arith, length-append (said answer) (tabled request (bookOfWords words)), c .most, d .most);
     }

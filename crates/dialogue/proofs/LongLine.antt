@@ -12,7 +12,7 @@ use Rattle.answering.specs.Kept.{takes, refuses}
 use Rattle.answering.specs.Lines.{lineRequest}
 use Rattle.dialogue.specs.declared.Way.{Way}
 use Rattle.dialogue.specs.Asks.{textOf, heldBack, requestOf, asks, ruleAt}
-use Rattle.dialogue.specs.Turns.{State, next, endsStretch, marks, further, answerOf, isKept, after}
+use Rattle.dialogue.specs.Turns.{State, next, endsStretch, endsAt, further, answerOf, isKept, after}
 use Rattle.dialogue.specs.Whole.{knownPlace}
 use Rattle.dialogue.proofs.AskLaws.{held-asks}
 
@@ -38,7 +38,7 @@ module _ (way : Way) (room : ℕ) (s : State) where
 
   -- The state behind it does not depend on its bytes.
   pub long-after : (l m : List ℕ) → after way room (knowing true s) l ≡ after way room (knowing true s) m
-  unfolding after isKept marks requestOf lineRequest
+  unfolding after isKept endsAt requestOf lineRequest
   long-after l m =
       λ i. record {
         book = bookAfter (ruleAt way (s .place)) (s .book) (long-asks l m i);

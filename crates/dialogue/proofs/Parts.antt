@@ -44,7 +44,7 @@ pub known : (long : Bool) (s : State) → s .place .long ≡ long → knowing lo
 known long s e =
     λ i. record {
       book = s .book;
-      place = record { line = s .place .line; refused = s .place .refused; kept = s .place .kept; long = sym e i; unmarked = s .place .unmarked };
+      place = record { line = s .place .line; refused = s .place .refused; kept = s .place .kept; long = sym e i; early = s .place .early };
     }
 
 before-short : (most : ℕ) (s : State) (l : List ℕ) → length l < most → s .place .long ≡ false → stateBefore most s l ≡ s

@@ -76,8 +76,8 @@ pub record Taken (way : Way) (room : ℕ) (s : State) (input : List ℕ) (used :
   pub inAnswers : r ≤ length f
   pub went : WentOn way room (length k) (length f) s 0 0 (linesIn (take used input))
 
--- What `answer_lines` ensures: the lines of the first `used` bytes are taken, as long as one more is; and whatever lines led to the book, the
--- bytes of the answers are those that the reading of the history decides.
+-- What `answer_lines` ensures: the lines of the first `used` bytes are taken, as long as one more is; and whatever lines led to the book and
+-- to the rule, the bytes of the answers are those that the reading of the history decides.
 pub record Answers (way : Way) (room : ℕ) (s : State) (input : List ℕ) (used : ℕ) (t : State) (j : ℕ) (k : List ℕ) (r : ℕ) (f : List ℕ) : Type 0 where
   pub taken : Taken way room s input used t j k r f
   pub all : goesOn way (t .place) j (length k) r (length f) ≡ true → linesIn (drop used input) ≡ []

@@ -45,9 +45,9 @@ unfoldable pub asks : Way → ℕ → Place → List ℕ → Asked
 asks way room p l = asked (requestOf way room p l) (parsed room (textOf (p .line) l) .numbers)
 
 -- Paper 02, Ask 3: the admission rule that a line's call is made under. In a journal that is replayed "a first stretch of calls made under the old
--- admission rule" lasts until its mark; whoever types is under the new one.
+-- admission rule" lasts until the line that ends it; whoever types is under the new one.
 abbrev pub ruleAt : Way → Place → Rule
-ruleAt way p = cond (way .replays && p .unmarked) oldRule newRule
+ruleAt way p = cond (way .replays && p .early) oldRule newRule
 
 -- The request r of a line, lent a slice e for the numbers, which it leaves as f.
 pub record LineAsked (way : Way) (p : Place) (l : List ℕ) (e : List ℤ) (r : Request) (f : List ℤ) : Type 0 where

@@ -11,7 +11,7 @@ use Rattle.book.specs.Reading.Decisions.{decision}
 use Rattle.printing.specs.declared.Answer.{Answer}
 use Rattle.answering.specs.Asked.{Asked, call, fresh, guarantee, nothing, roleRetired, fault}
 use Rattle.answering.specs.Kept.{takes, refuses}
-use Rattle.answering.specs.Session.{ruleOf, bookOf, since, eventsSince}
+use Rattle.answering.specs.Session.{ruleBehind, bookOf, since, eventsSince}
 use Rattle.answering.specs.Shown.{shown, guaranteeShown}
 use Rattle.dialogue.specs.declared.Way.{Way}
 use Rattle.dialogue.specs.declared.Place.{Place}
@@ -22,12 +22,12 @@ use Rattle.dialogue.specs.Turns.{State, next, endsStretch, further, ende
 -- Lines led to a state in which others are taken in a way: to its book, and to the rule that the next call is made under.
 pub record Led (way : Way) (s : State) (seen : List Asked) : Type 0 where
   pub book : bookOf seen ≡ s .book
-  pub rule : ruleOf seen ≡ ruleAt way (s .place)
+  pub rule : ruleBehind seen ≡ ruleAt way (s .place)
 
 -- The answer that the reading decides to line number n, where the lines before, the newest first, asked these: a call's is the reading's
 -- decision on the calls since the latest fresh book.
 abbrev pub decidedAnswer : List Asked → ℕ → Asked → Answer
-decidedAnswer seen n (call c) = shown (decision (ruleOf seen) (since seen .start) (eventsSince seen) c)
+decidedAnswer seen n (call c) = shown (decision (ruleBehind seen) (since seen .start) (eventsSince seen) c)
 decidedAnswer seen n (fresh d) = shown (freshAnswer d)
 decidedAnswer seen n (guarantee x) = guaranteeShown x
 decidedAnswer seen n nothing = Answer.Nothing

@@ -14,9 +14,9 @@ use Rattle.printing.specs.declared.Answer.{Answer}
 use Rattle.printing.specs.Answers.{answerLine}
 use Rattle.printing.specs.Placed.{Put}
 use Rattle.report.specs.Table.{reportText}
-use Rattle.answering.specs.Kept.{keptLine, markLine}
+use Rattle.answering.specs.Kept.{keptLine, retiredLine}
 
--- Whether an answer says something: nothing is said to an empty line.
+-- Whether an answer says something: nothing is said to an empty line, nor to the line that ends a first stretch.
 abbrev pub speaks : Answer → Bool
 speaks Answer.Nothing = false
 speaks Answer.Done = true
@@ -94,11 +94,11 @@ pub record Tabled (request : Request) (b : Book) (e : List ℕ) (at r : ℕ) (f 
   pub put : Put (tabled request b) e at r f
   pub most : length (tabled request b) ≤ 15000
 
--- What a line with a request and an answer adds, on the words that it left: the mark where it ends the first stretch of a journal, its line of the
+-- What a line with a request and an answer adds, on the words that it left: `role-retired` where it ends the first stretch of a journal, its line of the
 -- journal, where it is kept, and what is said and shown.
-pub record Added (request : Request) (answer : Answer) (kept marked : Bool) (numbers : List ℤ) (words j : List ℕ) (x : ℕ) (e : List ℕ)
+pub record Added (request : Request) (answer : Answer) (kept ends : Bool) (numbers : List ℤ) (words j : List ℕ) (x : ℕ) (e : List ℕ)
     (at y : ℕ) (k : List ℕ) (r : ℕ)
     (f : List ℕ) : Type 0 where
-  pub journal : Put (cond marked markLine [] ++ cond kept (keptLine request numbers) []) j x y k
+  pub journal : Put (cond ends retiredLine [] ++ cond kept (keptLine request numbers) []) j x y k
   pub bytes : Put (said answer ++ tabled request (bookOfWords words)) e at r f
   pub most : length (said answer ++ tabled request (bookOfWords words)) ≤ 16384

@@ -10,7 +10,7 @@ use Rattle.journal.specs.declared.Request.{Request}
 use Rattle.printing.specs.declared.Answer.{Answer}
 use Rattle.printing.specs.Lines.{printed}
 use Rattle.answering.specs.Asked.{answerTo, bookAfter}
-use Rattle.answering.specs.Kept.{takes, refuses, isMark, markLine}
+use Rattle.answering.specs.Kept.{takes, refuses, isRoleRetired, retiredLine}
 use Rattle.dialogue.specs.declared.Way.{Way}
 use Rattle.dialogue.specs.declared.Place.{Place}
 use Rattle.dialogue.specs.Asks.{textOf, requestOf, asks, ruleAt}
@@ -37,24 +37,24 @@ answerOf way room s l = answerTo (ruleAt way (s .place)) (s .book) (next (s .pla
 unfoldable pub isKept : Way → ℕ → State → List ℕ → Bool
 isKept way room s l = way .keeps && takes (answerOf way room s l)
 
--- Paper 02, Ask 3: whether a line ends the first stretch of a journal, that has no mark yet: its mark where it is replayed; else the first line that
--- is kept, before which the mark is written.
+-- Paper 02, Ask 3: whether a line ends the first stretch of a journal that has no line yet that ends it: in a replay that line, `role-retired`; else the
+-- first one that is kept, before which `role-retired` is written.
 abbrev pub endsStretch : Way → Place → Request → (kept : Bool) → Bool
-endsStretch way p r kept = cond (way .replays) (p .unmarked && isMark r) (p .unmarked && kept)
+endsStretch way p r kept = cond (way .replays) (p .early && isRoleRetired r) (p .early && kept)
 
 -- .. of a line as it is taken.
-unfoldable pub marks : Way → ℕ → State → List ℕ → Bool
-marks way room s l = endsStretch way (s .place) (requestOf way room (s .place) l) (isKept way room s l)
+unfoldable pub endsAt : Way → ℕ → State → List ℕ → Bool
+endsAt way room s l = endsStretch way (s .place) (requestOf way room (s .place) l) (isKept way room s l)
 
 -- Where the next line begins, behind one that is kept or not, refused or not, and ends the first stretch or not.
-abbrev pub further : Place → (kept refused marked : Bool) → Place
-further p kept refused marked =
+abbrev pub further : Place → (kept refused ends : Bool) → Place
+further p kept refused ends =
     record {
       line = next (p .line);
       refused = counted refused (p .refused);
       kept = counted kept (p .kept);
       long = false;
-      unmarked = p .unmarked && not marked;
+      early = p .early && not ends;
     }
 
 -- The state that a line leaves.
@@ -62,10 +62,10 @@ unfoldable pub after : Way → ℕ → State → List ℕ → State
 after way room s l =
     record {
       book = bookAfter (ruleAt way (s .place)) (s .book) (asks way room (s .place) l);
-      place = further (s .place) (isKept way room s l) (refuses (answerOf way room s l)) (marks way room s l);
+      place = further (s .place) (isKept way room s l) (refuses (answerOf way room s l)) (endsAt way room s l);
     }
 
--- The bytes that it adds to the answers: "an answer line, a report, nothing for an empty line".
+-- The bytes that it adds to the answers: "an answer line, a report, nothing for an empty line", nor for `role-retired`.
 unfoldable pub bytesOf : Way → ℕ → State → List ℕ → List ℕ
 bytesOf way room s l =
     said (answerOf way room s l) ++ tabled (requestOf way room (s .place) l) (bookAfter (ruleAt way (s .place)) (s .book) (asks way room (s .place) l))
@@ -74,10 +74,10 @@ bytesOf way room s l =
 unfoldable pub numeric : ℕ → ℕ → List ℕ → List ℕ
 numeric room before l = printed (parsed room (textOf before l) .request) (parsed room (textOf before l) .numbers)
 
--- The bytes that it adds to the journal: the mark where it ends the first stretch, and its line where it is kept.
+-- The bytes that it adds to the journal: `role-retired` where it ends the first stretch, and its line where it is kept.
 unfoldable pub journalOf : Way → ℕ → State → List ℕ → List ℕ
 journalOf way room s l =
-    cond (way .keeps && marks way room s l) markLine [] ++ cond (isKept way room s l) (numeric room (s .place .line) l ++ (10 ∷ [])) []
+    cond (way .keeps && endsAt way room s l) retiredLine [] ++ cond (isKept way room s l) (numeric room (s .place .line) l ++ (10 ∷ [])) []
 
 -- Whether the lines have ended before their end: behind the first refusal or error, where that is the last.
 unfoldable pub ended : Way → Place → Bool

@@ -15,7 +15,7 @@ use Rattle.dialogue.specs.Decided.{decidedOf, decidedPlace}
 
 -- The place at which a line is known to be too long, or not.
 abbrev pub knownPlace : Bool → Place → Place
-knownPlace long p = record { line = p .line; refused = p .refused; kept = p .kept; long = long; unmarked = p .unmarked }
+knownPlace long p = record { line = p .line; refused = p .refused; kept = p .kept; long = long; early = p .early }
 
 -- "No line is too long to be answered: longer than the buffer is an `error`": before line l of an input, where the buffer has `most` bytes.
 abbrev pub placeBefore : ℕ → Place → List ℕ → Place

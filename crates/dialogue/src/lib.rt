@@ -20,13 +20,13 @@ pub struct Way {
 }
 
 // How far an input is taken: its lines, those of them that were refused or an error, the calls kept in the journal, whether the line that has
-// begun is too long, and whether the journal has no mark yet that ends its first stretch.
+// begun is too long, and whether the first stretch of the journal lasts: it has no line yet that ends it.
 pub struct Place {
     pub line: u64,
     pub refused: u64,
     pub kept: u64,
     pub long: bool,
-    pub unmarked: bool,
+    pub early: bool,
 }
 
 // How far the slices for the journal's bytes and for the answers are filled.

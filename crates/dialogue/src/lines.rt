@@ -18,8 +18,8 @@ use crate::said::put_added;
 use answering::apply;
 use answering::apply_by_old_rule;
 use answering::is_kept;
-use answering::is_mark;
 use answering::is_refusal;
+use answering::is_role_retired;
 use journal::Request;
 use printing::Answer;
 use std::num::wrapping_add_u64;
@@ -61,14 +61,14 @@ fn counted_if(holds: bool, n: u64) -> u64
     n
 }
 
-// Whether a line ends the first stretch of a journal: its mark where it is replayed, else the first line that is kept.
+// Whether a line ends the first stretch of a journal that has no such line yet: where it is replayed that line, else the first one that is kept.
 fn ends_stretch(way: Way, place: Place, request: Request, kept: bool) -> bool
     ensures { λ r. ⌜ r ≡ endsStretch way place request kept ⌝ }
 {
     if way.replays {
-        return place.unmarked & is_mark(request);
+        return place.early & is_role_retired(request);
     }
-    place.unmarked & kept
+    place.early & kept
 }
 
 // The answer to a request, made on the book: by the old admission rule in the first stretch of a journal that is replayed, else by the new one.
@@ -83,22 +83,22 @@ fn apply_at(
     requires { ⌜ WellFormed (now book) ⌝ }
     ensures { λ r. ⌜ AnsweredWords (ruleAt way place) (now (book .entry)) line (asked request (now (numbers .entry))) r (now (book .exit)) ⌝ }
 {
-    if way.replays & place.unmarked {
+    if way.replays & place.early {
         return apply_by_old_rule(book, request, numbers, line);
     }
     apply(book, request, numbers, line)
 }
 
 // Where the next line begins.
-fn next_place(place: Place, kept: bool, refused: bool, marked: bool) -> Place
-    ensures { λ r. ⌜ r ≡ further place kept refused marked ⌝ }
+fn next_place(place: Place, kept: bool, refused: bool, ends: bool) -> Place
+    ensures { λ r. ⌜ r ≡ further place kept refused ends ⌝ }
 {
     Place {
         line: next_number(place.line),
         refused: counted_if(refused, place.refused),
         kept: counted_if(kept, place.kept),
         long: false,
-        unmarked: place.unmarked & !marked,
+        early: place.early & !ends,
     }
 }
 
@@ -120,12 +120,12 @@ fn put_turn(
         (now (out .entry)) at (r .place) (r .journal) (now (journal .exit)) (r .end) (now (out .exit)) ⌝ }
 {
     let taken = way.keeps & is_kept(answer);
-    let marked = ends_stretch(way, place, request, taken);
-    let ends = put_added(
+    let ends = ends_stretch(way, place, request, taken);
+    let filled = put_added(
         request,
         answer,
         taken,
-        way.keeps & marked,
+        way.keeps & ends,
         numbers,
         book,
         journal,
@@ -134,9 +134,9 @@ fn put_turn(
         at,
     );
     Stepped {
-        place: next_place(place, taken, is_refusal(answer), marked),
-        journal: ends.journal,
-        end: ends.end,
+        place: next_place(place, taken, is_refusal(answer), ends),
+        journal: filled.journal,
+        end: filled.end,
     }
 }
 

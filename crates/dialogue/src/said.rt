@@ -7,7 +7,7 @@ ghost use Rattle.printing.specs.Answers.{answerLine};
 ghost use Rattle.printing.specs.Placed.{Put};
 ghost use Rattle.layout.specs.Words.{bookOfWords};
 ghost use Rattle.layout.specs.WellFormed.{WellFormed};
-ghost use Rattle.answering.specs.Kept.{keptLine, markLine};
+ghost use Rattle.answering.specs.Kept.{keptLine, retiredLine};
 ghost use Rattle.dialogue.specs.Said.{Small, Spoken, Said, Tabled, Added, wantsTable};
 use crate::Ends;
 use answering::put_kept;
@@ -123,11 +123,11 @@ fn put_tabled(out: &mut [u8], at: usize, request: Request, book: &[u64]) -> usiz
     at
 }
 
-// The mark that ends the first stretch of a journal, or nothing.
-fn put_mark(marked: bool, journal: &mut [u8], at: usize, numbers: &[i64]) -> usize
-    ensures { λ r. ⌜ Put (cond marked markLine []) (now (journal .entry)) at r (now (journal .exit)) ⌝ }
+// The line that ends the first stretch of a journal, or nothing.
+fn put_retired(ends: bool, journal: &mut [u8], at: usize, numbers: &[i64]) -> usize
+    ensures { λ r. ⌜ Put (cond ends retiredLine []) (now (journal .entry)) at r (now (journal .exit)) ⌝ }
 {
-    if marked {
+    if ends {
         return put_kept(journal, at, Request::RoleRetired, numbers);
     }
     at
@@ -149,13 +149,13 @@ fn put_journal(
     at
 }
 
-// What a line adds to the journal, the mark where it ends the first stretch and its own line where it is kept, and to the answers, each behind what is
-// there.
+// What a line adds to the journal, `role-retired` where it ends the first stretch and its own line where it is kept, and to the answers, each behind
+// what is there.
 pub fn put_added(
     request: Request,
     answer: Answer,
     taken: bool,
-    marked: bool,
+    ends: bool,
     numbers: &[i64],
     book: &[u64],
     journal: &mut [u8],
@@ -164,10 +164,10 @@ pub fn put_added(
     at: usize,
 ) -> Ends
     requires { ⌜ WellFormed (now book) ⌝ }
-    ensures { λ r. ⌜ Added request answer taken marked (now (numbers .entry)) (now (book .entry)) (now (journal .entry)) kept (now (out .entry)) at
+    ensures { λ r. ⌜ Added request answer taken ends (now (numbers .entry)) (now (book .entry)) (now (journal .entry)) kept (now (out .entry)) at
         (r .journal) (now (journal .exit)) (r .end) (now (out .exit)) ⌝ }
 {
-    let behind = put_mark(marked, journal, kept, numbers);
+    let behind = put_retired(ends, journal, kept, numbers);
     let written = put_journal(taken, journal, behind, request, numbers);
     let said = put_said(out, at, answer);
     let end = put_tabled(out, said, request, book);

@@ -16,14 +16,14 @@ use Rattle.file.specs.DecideLaws.{none-holds}
 use Rattle.layout.specs.Book.{Book}
 use Rattle.batch.specs.Batch.{monthIn, countIn, participantAt, figuresAt}
 use Rattle.book.specs.Call.{Act, admit, lodge, release, settle, annualRun, Call, on, advance, statement, callsMade, batch, partAct}
-use Rattle.book.specs.Rule.{Rule, oldRule, newRule, under, history}
+use Rattle.book.specs.Rule.{Rule, oldRule, newRule, MadeCall, under, history}
 use Rattle.book.specs.Account.{fileAt, ifNumbered, fileAnswer, answer, applied, step}
 use Rattle.book.specs.Life.{answersOf, decisionsOf}
 use Rattle.book.specs.Reading.Calls.{callsIn}
-use Rattle.book.specs.Reading.Decisions.{cause, ownCauses, ownAnswer, behindRetirement, decision, withParts, withCall, eventsOf}
+use Rattle.book.specs.Reading.Decisions.{cause, ownCauses, ownAnswer, retirement, decision, withParts, withCall, eventsOf}
 use Rattle.book.specs.Reading.Events.{Event, Own, dayOpened, act, mine, todayOf, withDays, admittedIn, roleIn}
 use Rattle.book.proofs.Participant.Lawful.{NoneHolds}
-use Rattle.book.proofs.Participant.Decide.{decide-false, decide-accepted}
+use Rattle.book.proofs.Participant.Decide.{decide-false, none-before}
 use Rattle.book.proofs.History.Events.{mine-did}
 use Rattle.book.proofs.History.Life.{life}
 use Rattle.figures.specs.History.{inTurn, decidesBehind, answersBehind, decidesFirst, answersFirst}
@@ -79,7 +79,7 @@ left b p = cond-false (accepted (answer newRule b (on p (admit 1)))) (applied b 
 
 -- Any other call is decided and answered alike.
 decided-alike : (s : ℕ) (events : List Event) (c : Call) → admitsRole1 c ≡ false → decision oldRule s events c ≡ decision newRule s events c
-unfolding decide ownAnswer decision
+unfolding decide ownCauses ownAnswer decision
 decided-alike s events (on p (admit role)) e =
     ap (decide refused (cause 1 (ltb 63 p) ∷ ownCauses (todayOf s events) (mine p events) (admit role)))
     (sym (decide-false (cause 23 (eqb role 1)) [] done e))
@@ -110,21 +110,30 @@ answered-alike b (batch file) e = refl
 abbrev taken : Rule → ℕ → Call → List Event → List Event
 taken rule s c events = cond (accepted (decision rule s events c)) (withCall s events c) events
 
+taken-alike : (s : ℕ) (c : Call) (events : List Event) → admitsRole1 c ≡ false → taken oldRule s c events ≡ taken newRule s c events
+taken-alike s c events e = ap (λ (x : Answer). cond (accepted x) (withCall s events c) events) (decided-alike s events c e)
+
 -- A first stretch without such an admission is read as calls since.
 first-alike : (s : ℕ) (first : List Call) → All (λ (c : Call). admitsRole1 c ≡ false) first
     → eventsOf s (history first []) ≡ eventsOf s (history [] first)
 unfolding eventsOf
 first-alike s [] all = refl
 first-alike s (c ∷ first) all =
-    ap (taken oldRule s c) (first-alike s first (all .1))
-    ∙ ap (λ (x : Answer). cond (accepted x) (withCall s (eventsOf s (history [] first)) c) (eventsOf s (history [] first)))
-    (decided-alike s (eventsOf s (history [] first)) c (all .0))
+    ap (taken oldRule s c) (first-alike s first (all .1)) ∙ taken-alike s c (eventsOf s (history [] first)) (all .0)
 
 stretch-alike : (s : ℕ) (first since : List Call) → All (λ (c : Call). admitsRole1 c ≡ false) first
     → eventsOf s (history first since) ≡ eventsOf s (history [] (since ++ first))
 unfolding eventsOf
 stretch-alike s first [] all = first-alike s first all
 stretch-alike s first (c ∷ since) all = ap (taken newRule s c) (stretch-alike s first since all)
+
+-- .. and calls since without one as calls of the first stretch.
+since-alike : (s : ℕ) (first since : List Call) → All (λ (c : Call). admitsRole1 c ≡ false) since
+    → eventsOf s (history first since) ≡ eventsOf s (history (since ++ first) [])
+unfolding eventsOf
+since-alike s first [] all = refl
+since-alike s first (c ∷ since) all =
+    ap (taken newRule s c) (since-alike s first since (all .1)) ∙ sym (taken-alike s c (eventsOf s (history (since ++ first) [])) (all .0))
 
 -- What neither a day nor a settlement changes is the same after an advance and after a batch.
 after-days : {X : Type 0} (f : List Own → X) → ((d : ℕ) (own : List Own) → f (dayOpened d ∷ own) ≡ f own) → (p n t : ℕ) (events : List Event)
@@ -177,24 +186,23 @@ call-stays rule s events (on q a) p made =
     let t = todayOf s events in
     mine-did (λ k own. Stays (mine k events) own) t q p a events
     (act-stays t a (mine q events)
-    (none-holds (cause 1 (ltb 63 q) ∷ ownCauses t (mine q events) a) (behindRetirement rule a (ownAnswer t (mine q events) a)) made .1))
+    (none-before (cause 1 (ltb 63 q)) (ownCauses t (mine q events) a) (retirement rule a) (ownAnswer t (mine q events) a) made .1))
     (λ ne h. (h, refl))
 call-stays rule s events (advance day budget) p made = days-stay p (min budget (day - todayOf s events)) (todayOf s events) events
 call-stays rule s events (statement q) p made = λ h. (h, refl)
 call-stays rule s events callsMade p made = λ h. (h, refl)
 call-stays rule s events (batch file) p made = parts-stay p (todayOf s events) file (countIn file) events
 
-since-stays : (s : ℕ) (first since : List Call) (p : ℕ)
-    → Stays (mine p (eventsOf s (history first []))) (mine p (eventsOf s (history first since)))
+later-stays : (s : ℕ) (later before : List MadeCall) (p : ℕ) → Stays (mine p (eventsOf s before)) (mine p (eventsOf s (later ++ before)))
 unfolding eventsOf
-since-stays s first [] p h = (h, refl)
-since-stays s first (c ∷ since) p h =
-    let events = eventsOf s (history first since) in
-    let so-far = since-stays s first since p h in
-    by-test (accepted (decision newRule s events c)) (withCall s events c) events
-    (λ x. (admittedIn (mine p x) ≡ true) × (roleIn (mine p x) ≡ roleIn (mine p (eventsOf s (history first [])))))
+later-stays s [] before p h = (h, refl)
+later-stays s (e ∷ later) before p h =
+    let events = eventsOf s (later ++ before) in
+    let so-far = later-stays s later before p h in
+    by-test (accepted (decision (e .rule) s events (e .call))) (withCall s events (e .call)) events
+    (λ x. (admittedIn (mine p x) ≡ true) × (roleIn (mine p x) ≡ roleIn (mine p (eventsOf s before))))
     (λ made.
-    let now = call-stays newRule s events c p made (so-far .0) in
+    let now = call-stays (e .rule) s events (e .call) p made (so-far .0) in
     (now .0, now .1 ∙ so-far .1))
     (λ no. so-far)
 
@@ -204,11 +212,10 @@ Other own = eqb (roleIn own) 1 ≡ false
 
 act-other : (s : ℕ) (events : List Event) (q : ℕ) (a : Act) → accepted (decision newRule s events (on q a)) ≡ true → Other (mine q events)
     → Other (act (todayOf s events) a ∷ mine q events)
-unfolding decision ownAnswer roleIn
+unfolding decision ownCauses ownAnswer roleIn
 act-other s events q (admit role) made h =
-    let causes = cause 1 (ltb 63 q) ∷ ownCauses (todayOf s events) (mine q events) (admit role) in
-    let last = decide refused (cause 23 (eqb role 1) ∷ []) done in
-    none-holds (cause 23 (eqb role 1) ∷ []) done (sym (ap accepted (decide-accepted causes last made)) ∙ made) .0
+    let causes = ownCauses (todayOf s events) (mine q events) (admit role) ++ retirement newRule (admit role) in
+    none-holds (cause 1 (ltb 63 q) ∷ causes) done made .1 .1 .1 .0
 act-other s events q (lodge k x) made h = h
 act-other s events q (release k a) made h = h
 act-other s events q (settle m figures) made h = h
@@ -253,11 +260,12 @@ retirement-laws =
       never-admitted-book = never-in-book;
       left-as-it-was = left;
       none-gets-it = none-gets;
-      role-stays = λ s first since p h. since-stays s first since p h .1;
+      role-stays = λ s later before p h. later-stays s later before p h .1;
       behind-4 = behind;
       alike = decided-alike;
       alike-book = answered-alike;
       read-alike = stretch-alike;
+      read-as-ever = since-alike;
       same-call = λ d own. refl;
       same-annual = annual-alike;
     }

@@ -54,7 +54,7 @@ pub record Decisions : Type 0 where
   pub advance-none : decides 10 [] (advance 15 0) ≡ daysOpened 0
   -- today is the last day opened
   pub today : decides 10 (advance 15 4 ∷ []) (advance 13 1) ≡ refused 17
-  -- ---- 'Admit': "1, 3, 4"
+  -- ---- 'Admit': "1, 3, 4"; paper 02's 23, "after 4", is in `Retirement`
   -- "participant above 63"
   pub participant-63 : decides 0 [] (on 63 (admit 0)) ≡ done
   pub participant-64 : decides 0 [] (on 64 (admit 0)) ≡ refused 1

@@ -6,7 +6,7 @@ use lib.IntN.{ℤ, pos}
 use Rattle.file.specs.declared.Position.the-variants.{Cash, Letter}
 use Rattle.file.specs.Answer.{Answer}
 use Rattle.book.specs.Call.{admit, lodge, release, settle, annualRun, Call, on, advance}
-use Rattle.book.specs.Rule.{oldRule, newRule, Entry, history}
+use Rattle.book.specs.Rule.{oldRule, newRule, MadeCall, history}
 use Rattle.book.specs.Account.{fileAt, answer, run}
 use Rattle.book.specs.Reading.Events.{Event, Own, mine}
 use Rattle.book.specs.Reading.Charges.{openingShortfall, accruedIn}
@@ -18,7 +18,7 @@ newestFirst [] older = older
 newestFirst (c ∷ calls) older = newestFirst calls (c ∷ older)
 
 -- The calls of a first stretch, made under the old admission rule, and those since, in each list the first call first, as one such list.
-abbrev pub inTurn : (first since : List Call) → List Entry
+abbrev pub inTurn : (first since : List Call) → List MadeCall
 inTurn first since = history (newestFirst first []) (newestFirst since [])
 
 -- What the reading decides of call c, made after these calls, the first of them first, from a fresh book on day s.

@@ -157,8 +157,8 @@ pub record Retirement : Type 0 where
   pub day-by-day : shortfallsBehind 213 beganInPart (paidSince ++ toDay 238 ∷ []) (223 ∷ 224 ∷ 225 ∷ 226 ∷ 236 ∷ 237 ∷ 238 ∷ [])
       ≡ 0 ∷ 1500000 ∷ 1500000 ∷ 1500000 ∷ 1500000 ∷ 121500000 ∷ 1500000 ∷ []
   pub day-charges : map dayCharge (0 ∷ 1500000 ∷ 121500000 ∷ []) ≡ 0 ∷ 100000000 ∷ 121500000 ∷ []
-  -- ---- ".. and their annual runs". In the worked life June's 122,000,000 is the largest total, and after 1,500,000, recorded only in September, the
-  -- minimum
+  -- ---- ".. and their annual runs". In the worked life June's 122,000,000 is the largest total. In September June is P − 3, so
+  -- that 1,500,000 replaces it without a check, recorded only (P − 2 isn't checked in a September either); then the run's amount is the minimum
   pub annual-largest : decidesBehind 213 beganInPart (paidSince ++ toDay 244 ∷ []) runsAnnual ≡ annual 122000000 1
   pub annual-recorded : decidesBehind 213 beganInPart (paidSince ++ toDay 244 ∷ []) (settles 5 1500000) ≡ recorded (pos 1500000)
   pub annual-raised : decidesBehind 213 beganInPart september runsAnnual ≡ annual 2000000 1

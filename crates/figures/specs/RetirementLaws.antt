@@ -11,7 +11,7 @@ use Rattle.manual.specs.Annual.{annualAmount}
 use Rattle.file.specs.Answer.{refused, accepted}
 use Rattle.layout.specs.Book.{Book}
 use Rattle.book.specs.Call.{admit, lodge, release, settle, annualRun, Call, on, advance, statement, callsMade, batch}
-use Rattle.book.specs.Rule.{oldRule, newRule, history}
+use Rattle.book.specs.Rule.{oldRule, newRule, MadeCall, history}
 use Rattle.book.specs.Account.{answer, step}
 use Rattle.book.specs.Reading.Events.{Event, Own, act, mine, admittedIn, roleIn}
 use Rattle.book.specs.Reading.Calls.{callsIn}
@@ -42,9 +42,9 @@ pub record RetirementLaws : Type 0 where
   -- .. no file gets the role since
   pub none-gets-it : (s : ℕ) (first since : List Call) (p : ℕ) → eqb (roleIn (mine p (eventsOf s (history first [])))) 1 ≡ false
       → eqb (roleIn (mine p (eventsOf s (history first since)))) 1 ≡ false
-  -- "Files that have the role keep it", and every other role
-  pub role-stays : (s : ℕ) (first since : List Call) (p : ℕ) → admittedIn (mine p (eventsOf s (history first []))) ≡ true
-      → roleIn (mine p (eventsOf s (history first since))) ≡ roleIn (mine p (eventsOf s (history first [])))
+  -- "Files that have the role keep it", and every other role: from the admission on, whatever is called later and under which rule
+  pub role-stays : (s : ℕ) (later before : List MadeCall) (p : ℕ) → admittedIn (mine p (eventsOf s before)) ≡ true
+      → roleIn (mine p (eventsOf s (later ++ before))) ≡ roleIn (mine p (eventsOf s before))
   -- "Answers: 23 role 1 at admission, after 4": where the old rule refuses, the same number; where it accepts, 23
   pub behind-4 : (s : ℕ) (events : List Event) (p : ℕ)
       → decision newRule s events (on p (admit 1))
@@ -55,6 +55,9 @@ pub record RetirementLaws : Type 0 where
   -- .. so that a first stretch that admits nobody with role 1 is read as if it were made since
   pub read-alike : (s : ℕ) (first since : List Call) → All (λ (c : Call). admitsRole1 c ≡ false) first
       → eventsOf s (history first since) ≡ eventsOf s (history [] (since ++ first))
+  -- "its figures are read as ever": where no call since admits with role 1, a history with its first stretch is read as under the old rule alone
+  pub read-as-ever : (s : ℕ) (first since : List Call) → All (λ (c : Call). admitsRole1 c ≡ false) since
+      → eventsOf s (history first since) ≡ eventsOf s (history (since ++ first) [])
   -- Roles 0 and 1 are otherwise alike, "0 Supplier and 1 Self-Supplied Customer €20,000": the calls made, and the annual amount
   pub same-call : (d : ℕ) (own : List Own) → callsIn (act d (admit 1) ∷ own) ≡ callsIn (act d (admit 0) ∷ own)
   pub same-annual : (totals : List ℤ) → annualAmount 1 totals ≡ annualAmount 0 totals

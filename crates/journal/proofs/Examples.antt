@@ -75,7 +75,7 @@ unfolding parsed wordsOf namedCall callsOf uncommented some control blank words 
     hexDigit hexValue hexadecimal bytesOfHex fileOf faulted checkedFile ended filed batchOf
 batch-examples = (refl, refl, refl, refl, refl, refl)
 
--- The mark that ends the first stretch of a journal: one word, with blanks and a comment; a word too many; no other case.
+-- The line that ends the first stretch of a journal: one word, with blanks and a comment; a word too many; no other case.
 pub mark-examples :
     (parsed 0 (text "role-retired") ≡ plain Request.RoleRetired)
     × (parsed 0 (text " role-retired # 2024") ≡ plain Request.RoleRetired)

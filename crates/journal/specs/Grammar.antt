@@ -138,7 +138,7 @@ filed (fault e) zs = plain (Request.Error e)
 unfoldable pub batchOf : ℕ → Left → Parsed
 batchOf room l = let f = fileOf l in filed (ended (checkedFile room (f .word) (f .left))) (bytesOfHex (f .word))
 
--- The calls by their first word, in the order of their names; any other first word is no call. The last is paper 02, Ask 3: the mark that ends
+-- The calls by their first word, in the order of their names; any other first word is no call. The last is paper 02, Ask 3: the line that ends
 -- the first stretch of a journal, one word.
 unfoldable pub callsOf : ℕ → Left → List Parsed
 callsOf room l =

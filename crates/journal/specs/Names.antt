@@ -13,7 +13,7 @@ use Rattle.words.specs.declared.numbers.Signed.{Signed}
 use Rattle.journal.specs.declared.Reason.{Reason}
 use Rattle.journal.specs.declared.fields.Kind.{Kind}
 
--- 'The journal': the first words of its lines, in the order in which it lists them; and paper 02, Ask 3: the mark that ends the first stretch
+-- 'The journal': the first words of its lines, in the order in which it lists them; and paper 02, Ask 3: the line that ends the first stretch
 -- of a journal.
 unfoldable pub callNames : List (List ℕ)
 callNames =

@@ -51,7 +51,7 @@ pub struct Lengths {
 
 // What a line is: nothing, a call with its arguments, or an error. Participants come first, then positions, then amounts; a settlement has
 // the number of its figures, a special guarantee the lengths of its lists, and a batch the number of its file's bytes. `role-retired` is no
-// call to the book but a mark (paper 02, Ask 3: the mark that ends the first stretch of a journal), and has no arguments.
+// call to the book but ends the first stretch of a journal (paper 02, Ask 3), and has no arguments.
 pub enum Request {
     Nothing,
     Fresh(Day),

@@ -25,7 +25,7 @@ listWords [] = []
 listWords (zs ∷ rest) = decimal (length zs) ∷ (map integer zs ++ listWords rest)
 
 -- 'The journal': the words of a call, its numbers as numbers, with the numbers of its lists in a row, or the bytes of its file; paper 02,
--- Ask 3: the mark that ends the first stretch of a journal is its one word. What is no call has none.
+-- Ask 3: the line that ends the first stretch of a journal is its one word. What is no call has none.
 unfoldable pub callWords : Request → List ℤ → List (List ℕ)
 callWords Request.Nothing zs = []
 callWords (Request.Fresh d) zs = text "fresh" ∷ decimal (d .0) ∷ []

@@ -39,7 +39,7 @@ use Rattle.batch.specs.Batch.{formOf}
 use Rattle.book.specs.Call.{Act, admit, lodge, release, settle, annualRun, Call, on, advance, statement, callsMade, batch}
 use Rattle.book.specs.Call.{firstRefused, batchSays}
 use Rattle.book.specs.Rule.{newRule}
-use Rattle.book.specs.Account.{fileAt, ifNumbered, ifAdmitted, fileAnswer, partAnswer, daysToOpen, admitsRetired, ifRegistered, answer}
+use Rattle.book.specs.Account.{fileAt, ifNumbered, ifAdmitted, fileAnswer, partAnswer, daysToOpen, admitsRetired, unlessRetired, answer}
 use Rattle.book.proofs.Participant.Lawful.{NoneHolds}
 use Rattle.book.specs.Reached.{Given}
 use Rattle.book.specs.InWords.{GivenWords}
@@ -114,7 +114,7 @@ file-within f t (settle m figures) s = decide-within _ (settleAnswer f t m figur
 file-within f t annualRun s = decide-within _ (annualAnswer f t) (λ n. annual-within f t s)
 
 -- .. also where an admission is refused with 23.
-registered-within : (a : Act) (x : Answer) → WithinSigned x → WithinSigned (ifRegistered newRule a x)
+registered-within : (a : Act) (x : Answer) → WithinSigned x → WithinSigned (unlessRetired newRule a x)
 registered-within a x h = by-test (admitsRetired a && accepted x) (refused 23) x WithinSigned (λ e. tt) (λ e. h)
 
 -- A participant's file in words has eight positions.
@@ -138,7 +138,7 @@ unfolding answer ifNumbered ifAdmitted
 answer-within l (on p a) w =
     let b = bookOfWords l in
     let x = fileAnswer (fileAt b p) (b .today .0) a in
-    decide-within _ (ifRegistered newRule a x)
+    decide-within _ (unlessRetired newRule a x)
     (λ n. registered-within a x (file-within (fileAt b p) (b .today .0) a (sound-file b p (w .sound))))
 answer-within l (advance day budget) w = decide-within _ (daysOpened (daysToOpen (bookOfWords l) day budget)) (λ n. tt)
 answer-within l (statement p) w =

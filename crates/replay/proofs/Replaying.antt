@@ -30,7 +30,7 @@ use Rattle.book.specs.Reading.Decisions.{decision, eventsOf}
 use Rattle.book.specs.Reached.{Given, Reached, Begun}
 use Rattle.book.specs.InWords.{GivenWords, GivenFirstWords, BegunWords}
 use Rattle.replay.specs.Encoding.{number, letterOfNumbers, callOfSix, callAt, firstCalls, sinceCalls, historyUpTo}
-use Rattle.replay.specs.Encoding.{ruleOf, ruleAt, sixNumbers, decided}
+use Rattle.replay.specs.Encoding.{ruleOf, ruleOfPlace, sixNumbers, decided}
 use Rattle.replay.specs.Replayed.{GivenNumbers, callCount, Replayed, ReplayedFrom}
 use Rattle.book.proofs.History.Life.{life}
 use Rattle.book.proofs.History.Lift as Lift
@@ -211,8 +211,8 @@ decided-long : (s first : ℕ) (calls : List ℕ) (figures : List ℤ) (files : 
 unfolding decided
 decided-long s first calls figures files zero = refl
 decided-long s first calls figures files (suc n) =
-    let x = sixNumbers (decision (ruleAt first n) s (eventsOf s (historyUpTo first calls figures files n)) (callAt calls figures files n)) in
-    let six = numbers-long (decision (ruleAt first n) s (eventsOf s (historyUpTo first calls figures files n)) (callAt calls figures files n)) in
+    let x = sixNumbers (decision (ruleOfPlace first n) s (eventsOf s (historyUpTo first calls figures files n)) (callAt calls figures files n)) in
+    let six = numbers-long (decision (ruleOfPlace first n) s (eventsOf s (historyUpTo first calls figures files n)) (callAt calls figures files n)) in
     omega (arith, length-append (decided s first calls figures files n) x, decided-long s first calls figures files n)
 
 -- After i calls of `count` from a fresh book on day s: what was written and the book in the words m are those of the first i calls.
@@ -295,11 +295,11 @@ module _ (calls : List ℕ) (figures : List ℤ) (files : List ℕ) (out₀ : Li
   turn-room h = omega (arith, t .all, t .long)
 
   -- Its answer is the reading's decision.
-  turn-decided : answer (ruleAt first i) (bookOfWords m) (callAt calls figures files i)
-      ≡ decision (ruleAt first i) s (eventsOf s (historyUpTo first calls figures files i)) (callAt calls figures files i)
+  turn-decided : answer (ruleOfPlace first i) (bookOfWords m) (callAt calls figures files i)
+      ≡ decision (ruleOfPlace first i) s (eventsOf s (historyUpTo first calls figures files i)) (callAt calls figures files i)
   turn-decided =
-      ap (λ (b : Book). answer (ruleAt first i) b (callAt calls figures files i)) (t .left)
-      ∙ Lift.decided s (historyUpTo first calls figures files i) (t .day) (ruleAt first i) (callAt calls figures files i)
+      ap (λ (b : Book). answer (ruleOfPlace first i) b (callAt calls figures files i)) (t .left)
+      ∙ Lift.decided s (historyUpTo first calls figures files i) (t .day) (ruleOfPlace first i) (callAt calls figures files i)
 
   -- What was written stays, and what is behind the next six numbers.
   turn-before : take (6 * i) out ≡ decided s first calls figures files i
@@ -315,7 +315,7 @@ module _ (calls : List ℕ) (figures : List ℤ) (files : List ℕ) (out₀ : Li
       ∙ drop-drop 6 (6 * i) out₀
 
   -- What is written after the next call.
-  turn-written : (l out′ : List ℤ) (m′ : List ℕ) → GivenNumbers (ruleAt first i) m (callAt calls figures files i) l m′
+  turn-written : (l out′ : List ℤ) (m′ : List ℕ) → GivenNumbers (ruleOfPlace first i) m (callAt calls figures files i) l m′
       → out′ ≡ take (6 * i) out ++ l ++ drop (6 * i + 6) out → out′ ≡ decided s first calls figures files (i + 1) ++ drop (6 * (i + 1)) out₀
   unfolding decided
   turn-written l out′ m′ g e =
@@ -326,7 +326,7 @@ module _ (calls : List ℕ) (figures : List ℤ) (files : List ℕ) (out₀ : Li
       ∙ ap₂ (λ (j k : ℕ). decided s first calls figures files j ++ drop k out₀) (sym (add-one i)) n
 
   -- One call more.
-  pub turn-next : (l out′ : List ℤ) (m′ : List ℕ) → i < count → GivenNumbers (ruleAt first i) m (callAt calls figures files i) l m′
+  pub turn-next : (l out′ : List ℤ) (m′ : List ℕ) → i < count → GivenNumbers (ruleOfPlace first i) m (callAt calls figures files i) l m′
       → out′ ≡ take (6 * i) out ++ l ++ drop (6 * i + 6) out → Turn calls figures files out₀ s first count (i + 1) out′ m′
   unfolding run
   turn-next l out′ m′ h g e =
@@ -342,7 +342,7 @@ module _ (calls : List ℕ) (figures : List ℤ) (files : List ℕ) (out₀ : Li
         written = w;
         left =
             g .left
-            ∙ ap (λ (z : Book). step (ruleAt first i) z (callAt calls figures files i)) (t .left)
+            ∙ ap (λ (z : Book). step (ruleOfPlace first i) z (callAt calls figures files i)) (t .left)
             ∙ ap (run s) (sym (history-next first calls figures files i))
             ∙ ap (λ (n : ℕ). run s (historyUpTo first calls figures files n)) (sym (add-one i));
         formed = g .formed;

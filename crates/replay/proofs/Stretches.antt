@@ -13,7 +13,7 @@ use Rattle.layout.specs.Book.{Book}
 use Rattle.book.specs.Call.{admit, lodge, release, settle, annualRun, Call, on, advance, statement, callsMade, batch}
 use Rattle.book.specs.Rule.{oldRule, newRule, under, history}
 use Rattle.book.specs.Account.{answer}
-use Rattle.replay.specs.Encoding.{callOfSix, callAt, callsFrom, historyUpTo, ruleAt}
+use Rattle.replay.specs.Encoding.{callOfSix, callAt, callsFrom, historyUpTo, ruleOfPlace}
 
 -- ---- only admission changes
 
@@ -97,7 +97,7 @@ module _ (first : ℕ) (calls : List ℕ) (figures : List ℤ) (files : List ℕ
       ∙ ap (λ (i : ℕ). under newRule (callAt calls figures files i) ∷ historyUpTo first calls figures files n) u
 
   pub history-next : historyUpTo first calls figures files (suc n)
-      ≡ under (ruleAt first n) (callAt calls figures files n) ∷ historyUpTo first calls figures files n
+      ≡ under (ruleOfPlace first n) (callAt calls figures files n) ∷ historyUpTo first calls figures files n
   history-next =
       split (ltb n first)
       (λ e. rw e (next-first (ltb-true n first e)))

@@ -11,7 +11,7 @@ use Rattle.file.specs.declared.Position.{Position}
 use Rattle.file.specs.declared.Position.the-variants.{Cash, Letter}
 use Rattle.file.specs.Answer.{Answer, refused, done, called, covered, recorded, annual, daysOpened, stated, counted, batched, refusedPair}
 use Rattle.book.specs.Call.{admit, lodge, release, settle, annualRun, Call, on, advance, statement, callsMade, batch}
-use Rattle.book.specs.Rule.{Rule, oldRule, newRule, Entry, history}
+use Rattle.book.specs.Rule.{Rule, oldRule, newRule, MadeCall, history}
 use Rattle.book.specs.Reading.Decisions.{decision, eventsOf}
 
 -- A day or month number in a word: one too large for the type counts as the type's largest.
@@ -62,7 +62,7 @@ abbrev pub sinceCalls : (first : ℕ) → List ℕ → List ℤ → List ℕ →
 sinceCalls first calls figures files n = callsFrom first calls figures files (n - first)
 
 -- The history that the first n calls of the list make.
-unfoldable pub historyUpTo : (first : ℕ) → List ℕ → List ℤ → List ℕ → (n : ℕ) → List Entry
+unfoldable pub historyUpTo : (first : ℕ) → List ℕ → List ℤ → List ℕ → (n : ℕ) → List MadeCall
 historyUpTo first calls figures files n = history (firstCalls first calls figures files n) (sinceCalls first calls figures files n)
 
 -- The rule of a call, by whether it is one of the first stretch ..
@@ -71,8 +71,8 @@ ruleOf old = cond old oldRule newRule
 
 -- .. and of the call at place n: one of the first stretch where n, counted from 0, is below that stretch's length. The history, too, has it so
 -- (`history-next`).
-abbrev pub ruleAt : (first n : ℕ) → Rule
-ruleAt first n = ruleOf (ltb n first)
+abbrev pub ruleOfPlace : (first n : ℕ) → Rule
+ruleOfPlace first n = ruleOf (ltb n first)
 
 -- Six numbers, the first of them natural.
 abbrev pub six : ℕ → ℤ → ℤ → ℤ → ℤ → ℤ → List ℤ
@@ -121,4 +121,4 @@ decided s first calls figures files zero = []
 decided s first calls figures files (suc n) =
     decided s first calls figures files n
     ++ sixNumbers
-    (decision (ruleAt first n) s (eventsOf s (historyUpTo first calls figures files n)) (callAt calls figures files n))
+    (decision (ruleOfPlace first n) s (eventsOf s (historyUpTo first calls figures files n)) (callAt calls figures files n))

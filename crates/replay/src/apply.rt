@@ -8,7 +8,7 @@ ghost use Prim.Native.Nat.{_+_, _*_, _≤_, min};
 ghost use lib.ListN.{length, take, drop};
 ghost use Rattle.layout.specs.WellFormed.{WellFormed};
 ghost use Rattle.book.specs.Rule.{newRule};
-ghost use Rattle.replay.specs.Encoding.{number, letterOfNumbers, callOfSix, callAt, ruleOf, ruleAt};
+ghost use Rattle.replay.specs.Encoding.{number, letterOfNumbers, callOfSix, callAt, ruleOf, ruleOfPlace};
 ghost use Rattle.replay.specs.Replayed.{GivenNumbers};
 
 // A word as a day or month number.
@@ -128,7 +128,7 @@ pub fn apply_at(
     first: usize,
 ) -> [i64; 6]
     requires { ⌜ WellFormed (now book) × (6 * place + 6 ≤ length (now calls)) ⌝ }
-    ensures { λ r. ⌜ GivenNumbers (ruleAt first place) (now (book .entry))
+    ensures { λ r. ⌜ GivenNumbers (ruleOfPlace first place) (now (book .entry))
         (callAt (now (calls .entry)) (now (figures .entry)) (now (files .entry)) place) r (now (book .exit)) ⌝ }
 {
     let at = 6 * place;

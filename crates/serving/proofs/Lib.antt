@@ -1,3 +1,4 @@
+pub mod WayLaws
 pub mod DeliveryLaws
 pub mod InputLaws
 pub mod PartLaws

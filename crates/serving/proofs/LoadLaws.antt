@@ -26,14 +26,14 @@ use Rattle.printing.specs.PlacedLaws.{put-end, put-bytes}
 use Rattle.printing.proofs.HexLaws.{batch-short}
 use Rattle.printing.proofs.RoundTrip.{round-trip}
 use Rattle.answering.specs.Asked.{call, byteOf, batchBytes, asked, answerTo, bookAfter}
-use Rattle.answering.specs.Kept.{takes, isMark, freshFirst, keptLine, markLine}
+use Rattle.answering.specs.Kept.{takes, isRoleRetired, freshFirst, keptLine, retiredLine}
 use Rattle.answering.specs.Lines.{lineRequest}
 use Rattle.answering.specs.Shown.{shown}
 use Rattle.dialogue.specs.declared.Way.{Way}
 use Rattle.dialogue.specs.Split.{linesIn}
 use Rattle.dialogue.specs.Asks.{textOf, heldBack, requestOf, asks, ruleAt}
 use Rattle.dialogue.specs.Said.{said, tabled}
-use Rattle.dialogue.specs.Turns.{State, next, marks, answerOf, isKept, after, bytesOf, numeric, journalOf, afterAll, allBytes, allJournal}
+use Rattle.dialogue.specs.Turns.{State, next, endsAt, answerOf, isKept, after, bytesOf, numeric, journalOf, afterAll, allBytes, allJournal}
 use Rattle.dialogue.proofs.CompleteLines.{line-first}
 use Rattle.dialogue.proofs.KeptForm.{printed-plain, printed-text}
 use Rattle.storage.specs.declared.kept.Journal.{Journal}
@@ -135,7 +135,7 @@ mark-first true false false mark line = refl
 mark-first false u t mark line = refl
 
 -- The line is read as the batch of the bytes: by the round trip of printing and parsing, and as it begins with no byte order mark.
-module _ (way : Way) (room : ℕ) (s : State) (bytes : List ℕ) (a : AreBytes bytes) (m : MayEnter way room s bytes) where
+module _ (way : Way) (room : ℕ) (s : State) (bytes : List ℕ) (typed : way .replays ≡ false) (a : AreBytes bytes) (m : MayEnter way room s bytes) where
   abbrev line : List ℕ
   line = batchText bytes
 
@@ -167,7 +167,7 @@ module _ (way : Way) (room : ℕ) (s : State) (bytes : List ℕ) (a : AreBytes b
 
   -- it is typed, so under the new rule
   new-rule : ruleAt way (s .place) ≡ newRule
-  new-rule = ap (λ (t : Bool). cond (t && s .place .unmarked) oldRule newRule) (m .typed)
+  new-rule = ap (λ (t : Bool). cond (t && s .place .early) oldRule newRule) typed
 
   answer-is : answerOf way room s line ≡ reply
   unfolding answerOf
@@ -197,22 +197,22 @@ module _ (way : Way) (room : ℕ) (s : State) (bytes : List ℕ) (a : AreBytes b
   unfolding allBytes
   bytes-are = rw (m .on) (append-nil (bytesOf way room s line) ∙ said-is)
 
-  kept-is-line : journalOf way room s line ≡ cond (way .keeps && takes reply) (cond (s .place .unmarked) markLine [] ++ (line ++ (10 ∷ []))) []
-  unfolding journalOf isKept marks
+  kept-is-line : journalOf way room s line ≡ cond (way .keeps && takes reply) (cond (s .place .early) retiredLine [] ++ (line ++ (10 ∷ []))) []
+  unfolding journalOf isKept endsAt
   kept-is-line =
-      let u = s .place .unmarked in
+      let u = s .place .early in
       let k = way .keeps in
       let taken = takes (answerOf way room s line) in
-      ap (λ (l : List ℕ). cond (k && marks way room s line) markLine [] ++ cond (k && taken) (l ++ (10 ∷ [])) []) numeric-is
+      ap (λ (l : List ℕ). cond (k && endsAt way room s line) retiredLine [] ++ cond (k && taken) (l ++ (10 ∷ [])) []) numeric-is
       ∙ ap
       (λ (t : Bool).
-      cond (k && cond t (u && isMark (requestOf way room (s .place) line)) (u && (k && taken))) markLine [] ++ cond (k && taken) (line ++ (10 ∷ [])) [])
-      (m .typed)
-      ∙ mark-first k u taken markLine (line ++ (10 ∷ []))
-      ∙ ap (λ (x : Answer). cond (k && takes x) (cond u markLine [] ++ (line ++ (10 ∷ []))) []) answer-is
+      cond (k && cond t (u && isRoleRetired (requestOf way room (s .place) line)) (u && (k && taken))) retiredLine [] ++ cond (k && taken) (line ++ (10 ∷ [])) [])
+      typed
+      ∙ mark-first k u taken retiredLine (line ++ (10 ∷ []))
+      ∙ ap (λ (x : Answer). cond (k && takes x) (cond u retiredLine [] ++ (line ++ (10 ∷ []))) []) answer-is
 
   journal-is : allJournal way room s (line ∷ [])
-      ≡ cond (way .keeps && takes reply) (cond (s .place .unmarked) markLine [] ++ batchLine bytes) []
+      ≡ cond (way .keeps && takes reply) (cond (s .place .early) retiredLine [] ++ batchLine bytes) []
   unfolding allJournal batchLine
   journal-is = rw (m .on) (append-nil (journalOf way room s line) ∙ kept-is-line)
 
@@ -235,11 +235,11 @@ module _ (way : Way) (room most : ℕ) (k : most ≡ room) (s : State) (bytes e 
   taken-line : linesIn (take r f) ≡ batchText bytes ∷ []
   taken-line = ap linesIn is-line ∙ line-one bytes
 
-  pub entered : AreBytes bytes → (t : State) (used : ℕ) (ok : Bool) → Drained way most s (take r f) used t ok → Entered way room s bytes t ok
-  entered a t used ok d =
+  pub entered : way .replays ≡ false → AreBytes bytes → (t : State) (used : ℕ) (ok : Bool) → Drained way most s (take r f) used t ok → Entered way room s bytes t ok
+  entered typed a t used ok d =
       record {
         left = λ o. d .left o ∙ ap (afterAll way most s) taken-line ∙ ap (λ (n : ℕ). afterAll way n s (batchText bytes ∷ [])) k;
-        loads = loads way room s bytes a;
+        loads = loads way room s bytes typed a;
       }
 
   pub entered-grown : (silent : Bool) (j l : Journal) → Grown silent j (length (allJournal way most s (linesIn (take r f)))) l

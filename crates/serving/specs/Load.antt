@@ -13,7 +13,7 @@ use Rattle.book.specs.Account.{answer, step}
 use Rattle.journal.specs.declared.Request.{Request}
 use Rattle.printing.specs.Lines.{printed}
 use Rattle.answering.specs.Asked.{call}
-use Rattle.answering.specs.Kept.{takes, markLine}
+use Rattle.answering.specs.Kept.{takes, retiredLine}
 use Rattle.answering.specs.Shown.{shown}
 use Rattle.dialogue.specs.declared.Way.{Way}
 use Rattle.dialogue.specs.Asks.{asks}
@@ -33,10 +33,9 @@ batchText bytes = printed (Request.Batch (length bytes)) (map pos bytes)
 unfoldable pub batchLine : List ℕ → List ℕ
 batchLine bytes = batchText bytes ++ (10 ∷ [])
 
--- A file may be entered: a line is typed and taken as a whole one, also where it is more than a question, none stands before it that had no room, the lines
+-- A file may be entered: a line is taken as a whole one, also where it is more than a question, none stands before it that had no room, the lines
 -- have not ended, and there is room for the file's bytes, which are at most as many as a batch of the journal has.
 pub record MayEnter (way : Way) (room : ℕ) (s : State) (bytes : List ℕ) : Type 0 where
-  pub typed : way .replays ≡ false
   pub whole : way .torn ≡ false
   pub changes : way .reads ≡ false
   pub short : s .place .long ≡ false
@@ -45,13 +44,13 @@ pub record MayEnter (way : Way) (room : ℕ) (s : State) (bytes : List ℕ) : Ty
   pub most : length bytes ≤ 32768
 
 -- Paper 02, Ask 1, "loaded as it is": the line of a file's bytes asks for the batch of just these bytes. The book is then as behind that call, what
--- is said is its answer, and a kept journal has the line where it is accepted, behind the mark where that wasn't there yet.
+-- is said is its answer, and a kept journal has the line where it is accepted, behind `role-retired` where that wasn't there yet.
 pub record Loads (way : Way) (room : ℕ) (s : State) (bytes : List ℕ) : Type 0 where
   pub asked : asks way room (s .place) (batchText bytes) ≡ call (batch bytes)
   pub book : afterAll way room s (batchText bytes ∷ []) .book ≡ step newRule (s .book) (batch bytes)
   pub answered : allBytes way room s (batchText bytes ∷ []) ≡ said (shown (answer newRule (s .book) (batch bytes)))
   pub journal : allJournal way room s (batchText bytes ∷ [])
-      ≡ cond (way .keeps && takes (shown (answer newRule (s .book) (batch bytes)))) (cond (s .place .unmarked) markLine [] ++ batchLine bytes) []
+      ≡ cond (way .keeps && takes (shown (answer newRule (s .book) (batch bytes)))) (cond (s .place .early) retiredLine [] ++ batchLine bytes) []
 
 -- "enters a file as one batch": where all is well, the state t is that behind the one line which a file's bytes make, taken from state s like a line
 -- of standard input; and that line loads the file.

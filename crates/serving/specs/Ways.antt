@@ -5,9 +5,9 @@ use mathlib.Core.Bool.{Bool, true, false, not}
 use Rattle.dialogue.specs.declared.Way.{Way}
 use Rattle.dialogue.specs.declared.Place.{Place}
 
--- Before the first line, where so many calls are kept and the journal has no mark yet that ends its first stretch, or has it.
-abbrev pub atStart : (kept : ℕ) (unmarked : Bool) → Place
-atStart kept unmarked = record { line = 0; refused = 0; kept = kept; long = false; unmarked = unmarked }
+-- Before the first line, where so many calls are kept and the first stretch of the journal lasts, or not.
+abbrev pub atStart : (kept : ℕ) (early : Bool) → Place
+atStart kept early = record { line = 0; refused = 0; kept = kept; long = false; early = early }
 
 -- As a filter nothing is kept, and no journal is replayed, so that the old admission rule is not used.
 abbrev pub filterWay : (bails : Bool) → Way

@@ -156,7 +156,8 @@ fn take_part(
     }
 }
 
-// Reads an input to its end, part by part, and takes the complete lines of each part before it waits for more. What is left of a last line
+// Reads an input to its end, part by part, and takes the complete lines of each part before it waits for more; it is silent where a journal is
+// replayed, and only there. What is left of a last line
 // without newline stands at the front of the buffer: `used` bytes.
 pub fn take_parts(
     book: &mut [u64],
@@ -170,7 +171,8 @@ pub fn take_parts(
     kept: &mut [u8],
     out: &mut [u8],
 ) -> Taken
-    requires { ⌜ WellFormed (now book) × (0 < length (now buffer)) × (mostKept ≤ length (now kept)) × (16384 ≤ length (now out)) ⌝ }
+    requires { ⌜ WellFormed (now book) × (0 < length (now buffer)) × (mostKept ≤ length (now kept)) × (16384 ≤ length (now out))
+        × (way .replays ≡ silent) ⌝ }
     ensures { λ r. ⌜ WellFormed (now (book .exit)) × (r .used < length (now (buffer .entry))) ⌝ }
     ensures { λ r. ⌜ (progress .place .long ≡ false
         → InputTaken way (length (now (numbers .entry))) (stateOf (now (book .entry)) (progress .place)) (length (now (buffer .entry)))
@@ -221,7 +223,8 @@ fn take_last(
     kept: &mut [u8],
     out: &mut [u8],
 ) -> Progress
-    requires { ⌜ WellFormed (now book) × (taken .used < length (now buffer)) × (mostKept ≤ length (now kept)) × (16384 ≤ length (now out)) ⌝ }
+    requires { ⌜ WellFormed (now book) × (taken .used < length (now buffer)) × (mostKept ≤ length (now kept)) × (16384 ≤ length (now out))
+        × (way .replays ≡ false) ⌝ }
     ensures { λ r. ⌜ WellFormed (now (book .exit)) ⌝ }
 {
     let progress = taken.progress;
@@ -258,7 +261,8 @@ fn take_input(
     kept: &mut [u8],
     out: &mut [u8],
 ) -> Progress
-    requires { ⌜ WellFormed (now book) × (0 < length (now buffer)) × (mostKept ≤ length (now kept)) × (16384 ≤ length (now out)) ⌝ }
+    requires { ⌜ WellFormed (now book) × (0 < length (now buffer)) × (mostKept ≤ length (now kept)) × (16384 ≤ length (now out))
+        × (way .replays ≡ false) ⌝ }
     ensures { λ r. ⌜ WellFormed (now (book .exit)) ⌝ }
 {
     if !asked {
@@ -296,7 +300,7 @@ fn take_file(
     out: &mut [u8],
 ) -> Progress
     requires { ⌜ WellFormed (now book) × (7 + 2 * length (now bytes) ≤ length (now buffer)) × (length (now bytes) ≤ length (now numbers))
-        × (mostKept ≤ length (now kept)) × (16384 ≤ length (now out)) ⌝ }
+        × (mostKept ≤ length (now kept)) × (16384 ≤ length (now out)) × (way .replays ≡ false) ⌝ }
     ensures { λ r. ⌜ WellFormed (now (book .exit)) ⌝ }
     ensures { λ r. ⌜ EnteredIf (asked && (progress .journal .ok && not (ended way (progress .place)))) way (length (now (numbers .entry)))
         (stateOf (now (book .entry)) (progress .place)) progress (now (bytes .entry)) (stateOf (now (book .exit)) (r .place)) r ⌝ }
@@ -314,7 +318,8 @@ pub struct Sources {
     pub says_end: bool,
 }
 
-// Answers standard input and a file's bytes, and says at last that all was answered where that is asked for and it was.
+// Answers standard input and a file's bytes, and says at last that all was answered where that is asked for and it was. What is typed is never taken
+// as a journal that is replayed is, so always under the new admission rule.
 pub fn answer_all(
     book: &mut [u64],
     progress: Progress,
@@ -323,7 +328,7 @@ pub fn answer_all(
     name: &[u8],
     bytes: &[u8],
 )
-    requires { ⌜ WellFormed (now book) × (length (now bytes) ≤ 32764) ⌝ }
+    requires { ⌜ WellFormed (now book) × (length (now bytes) ≤ 32764) × (way .replays ≡ false) ⌝ }
     ensures { λ r. ⌜ WellFormed (now (book .exit)) ⌝ }
 {
     let mut buffer = io::large_buffer();

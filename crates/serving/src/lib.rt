@@ -127,7 +127,7 @@ fn keep_behind(book: &mut [u64], options: Options, name: &[u8], bytes: &[u8])
         storage::close_kept(name, journal);
         return;
     }
-    let place = ways::at_start(replayed.kept, replayed.unmarked);
+    let place = ways::at_start(replayed.kept, replayed.early);
     answer_behind(book, place, journal, options, name, bytes);
     storage::close_kept(name, journal);
 }
@@ -161,7 +161,7 @@ fn read(book: &mut [u64], options: Options, name: &[u8])
     if !replayed.ok {
         return;
     }
-    let place = ways::at_start(0, replayed.unmarked);
+    let place = ways::at_start(0, replayed.early);
     answer_behind(book, place, delivery::no_journal(), options, name, b"");
 }
 

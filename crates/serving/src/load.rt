@@ -60,7 +60,7 @@ pub fn enter(
     out: &mut [u8],
 ) -> Progress
     requires { ⌜ WellFormed (now book) × (7 + 2 * length (now bytes) ≤ length (now buffer)) × (length (now bytes) ≤ length (now numbers))
-        × (mostKept ≤ length (now kept)) × (16384 ≤ length (now out)) ⌝ }
+        × (mostKept ≤ length (now kept)) × (16384 ≤ length (now out)) × (way .replays ≡ false) ⌝ }
     ensures { λ r. ⌜ WellFormed (now (book .exit)) ⌝ }
     ensures { λ r. ⌜ Entered way (length (now (numbers .entry))) (stateOf (now (book .entry)) (progress .place)) (now (bytes .entry))
         (stateOf (now (book .exit)) (r .place)) (r .journal .ok) ⌝ }

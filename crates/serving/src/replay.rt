@@ -17,20 +17,21 @@ use storage::show_dropped;
 // More bytes than any version of the ledger kept in a line, with its newline: what stands behind the last newline and is as long is no rest of one.
 const MOST: usize = 20480;
 
-// How a journal was replayed: whether it may be gone on with, how many calls it has, whether it has no mark yet that ends its first stretch, and the
-// bytes of its complete lines.
+// How a journal was replayed: whether it may be gone on with, how many calls it has, whether its first stretch lasts, and the bytes of its complete
+// lines.
 pub struct Replayed {
     pub ok: bool,
     pub kept: u64,
-    pub unmarked: bool,
+    pub early: bool,
     pub bytes: u64,
 }
 
-// Whether what stands behind the last newline may be a rest of a kept line: a kept call stands before it, and it is not too long.
+// Whether what stands behind the last newline may be a rest of a kept line: a kept call or the line `role-retired` stands before it, and it is not
+// too long.
 fn is_rest(place: Place, rest: &[u8]) -> bool
     ensures { λ r. ⌜ r ≡ isRest place (length (now (rest .entry))) ⌝ }
 {
-    (0 < place.kept) & !place.long & (rest.len() < MOST)
+    ((0 < place.kept) | !place.early) & !place.long & (rest.len() < MOST)
 }
 
 // What stands behind the last newline is said: it is dropped, or passed over where the journal is only read. Answers whether it may be.
@@ -90,7 +91,7 @@ pub fn replay(book: &mut [u64], file: i32, name: &[u8], drops: bool) -> Replayed
     Replayed {
         ok: journal.ok && is_passed(name, place, &buffer[..n], drops),
         kept: place.kept,
-        unmarked: place.unmarked,
+        early: place.early,
         bytes: ended.bytes,
     }
 }

@@ -8,16 +8,16 @@ ghost use Rattle.serving.specs.Ways.{atStart, filterWay, behindReplay};
 use dialogue::Place;
 use dialogue::Way;
 
-// Before the first line, where so many calls are kept and the journal has no mark yet that ends its first stretch, or has it.
-pub fn at_start(kept: u64, unmarked: bool) -> Place
-    ensures { λ r. ⌜ r ≡ atStart kept unmarked ⌝ }
+// Before the first line, where so many calls are kept and the first stretch of the journal lasts, or not.
+pub fn at_start(kept: u64, early: bool) -> Place
+    ensures { λ r. ⌜ r ≡ atStart kept early ⌝ }
 {
     Place {
         line: 0,
         refused: 0,
         kept,
         long: false,
-        unmarked,
+        early,
     }
 }
 
@@ -30,7 +30,7 @@ pub fn known(place: Place, long: bool) -> Place
         refused: place.refused,
         kept: place.kept,
         long,
-        unmarked: place.unmarked,
+        early: place.early,
     }
 }
 

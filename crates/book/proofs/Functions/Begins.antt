@@ -10,13 +10,17 @@ use lib.Dec.{ltb}
 use Rattle.file.specs.Answer.{Answer, refused, done, decide, accepted}
 use Rattle.layout.specs.Book.{Book}
 use Rattle.book.specs.Account.{freshBook, freshAnswer, freshBookBeside, run}
-use Rattle.book.specs.Reached.{Reached, Begun}
+use Rattle.book.specs.Reached.{Reached, ReachedFirst, Begun}
 use Rattle.book.proofs.Participant.Decide.{decide-true, decide-false}
 
 -- A fresh book is reached.
 fresh-reached : (d : ℕ) (b : Book) → d ≤ 29219 → b ≡ freshBook d → Reached b
 unfolding run
 fresh-reached d b h e = record { start = d; within = h; first = []; since = []; leads = sym e }
+
+fresh-first : (d : ℕ) (b : Book) → d ≤ 29219 → b ≡ freshBook d → ReachedFirst b
+unfolding run
+fresh-first d b h e = record { start = d; within = h; first = []; leads = sym e }
 
 late : (d : ℕ) → 29219 < d → refused 17 ≡ freshAnswer d
 unfolding freshAnswer
@@ -29,6 +33,7 @@ begun-refused d b h e =
       answered = late d h;
       left = e ∙ ap (λ (x : Answer). cond (accepted x) (freshBook d) (freshBook 0)) (late d h);
       reached = fresh-reached 0 b (omega arith) e;
+      first = fresh-first 0 b (omega arith) e;
     }
 
 on-time : (d : ℕ) → d ≤ 29219 → done ≡ freshAnswer d
@@ -42,4 +47,5 @@ begun-done d b h e =
       answered = on-time d h;
       left = e ∙ ap (λ (x : Answer). cond (accepted x) (freshBook d) (freshBook 0)) (on-time d h);
       reached = fresh-reached d b h e;
+      first = fresh-first d b h e;
     }

@@ -24,7 +24,7 @@ use Rattle.layout.specs.Book.{Book}
 use Rattle.book.specs.Call.{Act, admit, settle, annualRun, Call, on, isCalled}
 use Rattle.book.specs.Rule.{Rule, oldRule, newRule}
 use Rattle.book.specs.Account.{fileAt, withFile, ifNumbered, ifAdmitted, fileAnswer, fileAfter, callsAdded}
-use Rattle.book.specs.Account.{admitsRetired, ifRegistered, answer, applied, step}
+use Rattle.book.specs.Account.{admitsRetired, unlessRetired, answer, applied, step}
 use Rattle.book.specs.Left.{fileLeft}
 use Rattle.book.proofs.Participant.Decide.{decide-true, decide-false, decide-accepted}
 
@@ -32,7 +32,7 @@ use Rattle.book.proofs.Participant.Decide.{decide-true, decide-false, d
 pub above-answer : (rule : Rule) (b : Book) (p : ℕ) (a : Act) → ltb 63 p ≡ true → refused 1 ≡ answer rule b (on p a)
 unfolding answer ifNumbered
 above-answer rule b p a e =
-    sym (decide-true (record { number = 1; holds = ltb 63 p }) [] (ifRegistered rule a (fileAnswer (fileAt b p) (b .today .0) a)) e)
+    sym (decide-true (record { number = 1; holds = ltb 63 p }) [] (unlessRetired rule a (fileAnswer (fileAt b p) (b .today .0) a)) e)
 
 -- A refused call leaves the book.
 pub refused-left : (b : Book) (c : Call) (n : ℕ) → refused n ≡ answer newRule b c → b ≡ step newRule b c
@@ -46,7 +46,7 @@ unfolding answer ifNumbered decide
 known-first b p a x e h = h ∙ sym (decide-false (record { number = 1; holds = ltb 63 p }) [] (fileAnswer (fileAt b p) (b .today .0) a) e)
 
 -- .. and under the new one, where it doesn't admit the retired role.
-unretired : (a : Act) (x : Answer) → admitsRetired a ≡ false → x ≡ ifRegistered newRule a x
+unretired : (a : Act) (x : Answer) → admitsRetired a ≡ false → x ≡ unlessRetired newRule a x
 unretired a x e = rw e refl
 
 pub known-answer : (b : Book) (p : ℕ) (a : Act) (x : Answer) → ltb 63 p ≡ false → admitsRetired a ≡ false
@@ -54,7 +54,7 @@ pub known-answer : (b : Book) (p : ℕ) (a : Act) (x : Answer) → ltb 63 p ≡ 
 unfolding answer ifNumbered decide
 known-answer b p a x e other h =
     h ∙ unretired a (fileAnswer (fileAt b p) (b .today .0) a) other
-    ∙ sym (decide-false (record { number = 1; holds = ltb 63 p }) [] (ifRegistered newRule a (fileAnswer (fileAt b p) (b .today .0) a)) e)
+    ∙ sym (decide-false (record { number = 1; holds = ltb 63 p }) [] (unlessRetired newRule a (fileAnswer (fileAt b p) (b .today .0) a)) e)
 
 -- What the old rule refuses, the new one refuses alike; what it accepts of another role, the new one accepts; and role 1 is refused with 23.
 refused-both : (t : Bool) (x : Answer) → accepted x ≡ false → x ≡ cond (t && accepted x) (refused 23) x

@@ -31,8 +31,8 @@ use Rattle.layout.specs.WellFormed.{openCount, BlankUnlessAdmitted, SoundBook}
 use Rattle.batch.specs.Batch.{countIn, participantAt}
 use Rattle.book.specs.Call.{Act, admit, lodge, release, settle, annualRun, Call, on, advance, statement, callsMade, batch, partAct}
 use Rattle.book.specs.Account.{freshBook, fileAt, withFile, ifNumbered, ifAdmitted, fileAnswer, fileAfter, callsAdded, openedIfAdmitted}
-use Rattle.book.specs.Rule.{Rule, oldRule, newRule, Entry, history}
-use Rattle.book.specs.Account.{admitsRetired, ifRegistered, answerOn, appliedOn, afterParts, partAnswer, openDay, openDays, answer, applied, step, run}
+use Rattle.book.specs.Rule.{Rule, oldRule, newRule, MadeCall, history}
+use Rattle.book.specs.Account.{admitsRetired, unlessRetired, answerOn, appliedOn, afterParts, partAnswer, openDay, openDays, answer, applied, step, run}
 use Rattle.book.specs.Reading.Decisions.{cause}
 use Rattle.book.specs.Reached.{Reached}
 use Rattle.book.proofs.Participant.Decide.{decide-accepted}
@@ -120,7 +120,7 @@ unfolding ifNumbered
 behind-number p x e = through (cause 1 (ltb 63 p) ∷ []) x e
 
 -- .. and what is accepted under either rule is under the old one.
-behind-rule : (rule : Rule) (a : Act) (x : Answer) → accepted (ifRegistered rule a x) ≡ true → accepted x ≡ true
+behind-rule : (rule : Rule) (a : Act) (x : Answer) → accepted (unlessRetired rule a x) ≡ true → accepted x ≡ true
 behind-rule oldRule a x e = e
 behind-rule newRule a x e =
     split (admitsRetired a && accepted x)
@@ -216,9 +216,9 @@ unfolding withFile fileAt
 named-sound rule b p a e s =
     let f = fileAt b p in
     let t = b .today .0 in
-    let low = numbered p (ifRegistered rule a (fileAnswer f t a)) e in
+    let low = numbered p (unlessRetired rule a (fileAnswer f t a)) e in
     let more = grown f t (sound-file b p s) (all-default BlankUnlessAdmitted (b .files) p noFile (λ e. refl) (s .blank)) a
-    (behind-rule rule a (fileAnswer f t a) (behind-number p (ifRegistered rule a (fileAnswer f t a)) e)) in
+    (behind-rule rule a (fileAnswer f t a) (behind-number p (unlessRetired rule a (fileAnswer f t a)) e)) in
     record {
       day = s .day;
       many = length-set (b .files) p (fileAfter f t a) ∙ s .many;
@@ -252,7 +252,7 @@ unfolding step
 step-sound rule b c s =
     by-test (accepted (answer rule b c)) (applied b c) b SoundBook (λ e. applied-sound rule b c e s) (λ e. s)
 
-run-sound : (s : ℕ) (calls : List Entry) → s ≤ 29219 → SoundBook (run s calls)
+run-sound : (s : ℕ) (calls : List MadeCall) → s ≤ 29219 → SoundBook (run s calls)
 unfolding run
 run-sound s [] h = fresh-sound s h
 run-sound s (e ∷ before) h = step-sound (e .rule) (run s before) (e .call) (run-sound s before h)

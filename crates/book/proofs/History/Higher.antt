@@ -10,7 +10,6 @@ use lib.Dec.{ltb}
 use Rattle.laws.specs.Cases.{clash}
 use Rattle.file.specs.declared.File.{File}
 use Rattle.file.specs.Answer.{accepted}
-use Rattle.file.specs.DecideLaws.{none-holds}
 use Rattle.file.specs.Fields.{shortfallOf}
 use Rattle.batch.specs.Batch.{countIn, participantAt}
 use Rattle.batch.specs.FormLaws.{Whole}
@@ -19,10 +18,11 @@ use Rattle.book.specs.Call.{Act, Call, on, advance, statement, callsMade
 use Rattle.book.specs.Rule.{Rule}
 use Rattle.book.specs.Account.{fileAt}
 use Rattle.book.specs.Reading.Events.{Event, did, mine, todayOf, withDays, admittedIn}
-use Rattle.book.specs.Reading.Decisions.{cause, ownCauses, ownAnswer, behindRetirement, partDecision, decision, withParts, withCall}
+use Rattle.book.specs.Reading.Decisions.{cause, ownCauses, ownAnswer, retirement, partDecision, decision, withParts, withCall}
 use Rattle.book.specs.Kept.{fileIn, bookIn}
 use Rattle.book.specs.Life.{NoneHigher}
 use Rattle.book.proofs.Participant.Lawful.{NoneHolds}
+use Rattle.book.proofs.Participant.Decide.{none-before}
 use Rattle.book.proofs.Participant.Shortfalls.{shortfallIn}
 use Rattle.book.proofs.History.Events.{mine-did, today-days, LawfulAll, lawful-did}
 use Rattle.book.proofs.History.Parts.{batch-accepted}
@@ -126,7 +126,7 @@ unfolding withCall withDays decision
 call-higher rule s events (on p a) lw e same =
     let t = todayOf s events in
     did-higher s p a events lw
-    (none-holds (cause 1 (ltb 63 p) ∷ ownCauses t (mine p events) a) (behindRetirement rule a (ownAnswer t (mine p events) a)) e .1)
+    (none-before (cause 1 (ltb 63 p)) (ownCauses t (mine p events) a) (retirement rule a) (ownAnswer t (mine p events) a) e .1)
 call-higher rule s events (advance day budget) lw e same =
     let n = min budget (day - todayOf s events) in
     let grown : todayOf s (withDays n (todayOf s events) events) ≡ todayOf s events + n = today-days s n events in

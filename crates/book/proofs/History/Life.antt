@@ -8,7 +8,7 @@ use Rattle.file.specs.declared.File.{File}
 use Rattle.file.specs.Answer.{Answer, accepted}
 use Rattle.layout.specs.Book.{Book}
 use Rattle.book.specs.Call.{Call}
-use Rattle.book.specs.Rule.{oldRule, newRule, Entry, history}
+use Rattle.book.specs.Rule.{oldRule, newRule, MadeCall, history}
 use Rattle.book.specs.Account.{fileAt, answer, step, run}
 use Rattle.book.specs.Reading.Events.{Event, Own, dayOpened, act, mine, todayOf}
 use Rattle.book.specs.Reading.Decisions.{callsBelow, decision, withCall, eventsOf}
@@ -24,7 +24,7 @@ use Rattle.book.proofs.History.Openings.{each-opening}
 use Rattle.book.proofs.History.Higher.{call-higher, same-events}
 
 -- The answers of a list are the reading's decisions.
-answers-are : (s : ℕ) (calls : List Entry) → s ≤ 29219 → answersOf s calls ≡ decisionsOf s calls
+answers-are : (s : ℕ) (calls : List MadeCall) → s ≤ 29219 → answersOf s calls ≡ decisionsOf s calls
 unfolding answersOf decisionsOf
 answers-are s [] h = refl
 answers-are s (e ∷ before) h = ap₂ _∷_ (decided s before h (e .rule) (e .call)) (answers-are s before h)
@@ -37,7 +37,7 @@ file-reads s p events lw =
     record { admitted = refl; role = refl; firm = refl; cover = part s events lw p .cover; charged = refl; accrued = refl }
 
 -- So does each file of the book that a list of calls leads to.
-figures-are : (s : ℕ) (calls : List Entry) → s ≤ 29219 → (p : ℕ) → p < 64
+figures-are : (s : ℕ) (calls : List MadeCall) → s ≤ 29219 → (p : ℕ) → p < 64
     → ReadsAs (todayOf s (eventsOf s calls)) (fileAt (run s calls) p) (mine p (eventsOf s calls))
 figures-are s calls h p k =
     let events = eventsOf s calls in
@@ -56,7 +56,7 @@ each-day s (dayOpened d ∷ own) lw = (
 each-day s (act d a ∷ own) lw = each-day s own (lw .2)
 
 -- One call that opened no day, after a list of calls.
-call-none-higher : (s : ℕ) (before : List Entry) (e : Entry) → s ≤ 29219
+call-none-higher : (s : ℕ) (before : List MadeCall) (e : MadeCall) → s ≤ 29219
     → todayOf s (eventsOf s (e ∷ before)) ≡ todayOf s (eventsOf s before)
     → NoneHigher (bookIn s (eventsOf s before)) (bookIn s (eventsOf s (e ∷ before)))
 unfolding eventsOf
@@ -69,12 +69,12 @@ call-none-higher s before e h =
     (λ no same. same-events s events lw)
 
 -- Today.
-today-is : (s : ℕ) (calls : List Entry) → s ≤ 29219 → run s calls .today .0 ≡ todayOf s (eventsOf s calls)
+today-is : (s : ℕ) (calls : List MadeCall) → s ≤ 29219 → run s calls .today .0 ≡ todayOf s (eventsOf s calls)
 unfolding bookIn
 today-is s calls h = ap (λ (b : Book). b .today .0) (run-is s calls h)
 
 -- Each call of a list that opened no day.
-each-call : (s : ℕ) (calls : List Entry) → s ≤ 29219 → EachCall s calls
+each-call : (s : ℕ) (calls : List MadeCall) → s ≤ 29219 → EachCall s calls
 each-call s [] h = tt
 each-call s (e ∷ before) h = (
   (λ same.
@@ -86,12 +86,12 @@ each-call s (e ∷ before) h = (
 )
 
 -- The count of calls made.
-made-is : (s : ℕ) (calls : List Entry) → s ≤ 29219 → run s calls .made ≡ callsBelow 64 (eventsOf s calls)
+made-is : (s : ℕ) (calls : List MadeCall) → s ≤ 29219 → run s calls .made ≡ callsBelow 64 (eventsOf s calls)
 unfolding bookIn
 made-is s calls h = ap (λ (b : Book). b .made) (run-is s calls h)
 
 -- Demand 3: for every list of calls from a fresh book on any day, refused ones included.
-pub life : (s : ℕ) (calls : List Entry) → s ≤ 29219 → Life s calls
+pub life : (s : ℕ) (calls : List MadeCall) → s ≤ 29219 → Life s calls
 life s calls h =
     record {
       answers = answers-are s calls h;

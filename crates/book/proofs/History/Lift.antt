@@ -6,7 +6,7 @@ use native.Mathlib.Omega.{arith}
 use native.Mathlib.Nat.{add-suc, le-refl, not-suc-le-zero}
 use mathlib.Core.Path.{_≡_, refl, sym, ap, ap₂, subst, _∙_}
 use mathlib.Core.Bool.{true, cond, not}
-use mathlib.Core.List.{List, [], _∷_}
+use mathlib.Core.List.{List, [], _∷_, _++_, append-nil}
 use borrow.Author.Tests.{ltb-false}
 use lib.Dec.{ltb, eqb}
 use lib.ListN.{length}
@@ -14,25 +14,24 @@ use Rattle.laws.specs.Lists.{table}
 use Rattle.laws.specs.Tabulated.{table-ext, getD-table, set-table-as, replicate-table, map-table}
 use Rattle.laws.specs.Cases.{split, cond-true, cond-false}
 use Rattle.file.specs.declared.File.{File}
-use Rattle.file.specs.Answer.{Answer, refused, done, decide, accepted, statementSays}
+use Rattle.file.specs.Answer.{Answer, Cause, refused, done, decide, accepted, statementSays}
 use Rattle.file.specs.Admit.{noFile}
-use Rattle.file.specs.DecideLaws.{none-holds}
 use Rattle.file.specs.Statement.{fileStatement}
 use Rattle.layout.specs.Book.{Book}
 use Rattle.batch.specs.Batch.{countIn, participantAt}
 use Rattle.batch.specs.FormLaws.{Whole}
 use Rattle.book.specs.Call.{Act, admit, lodge, release, settle, annualRun, Call, on, advance, statement, callsMade, batch, partAct}
 use Rattle.book.specs.Account.{freshBook, fileAt, withFile, ifNumbered, ifAdmitted, fileAnswer, fileAfter, callsAdded, openedIfAdmitted}
-use Rattle.book.specs.Rule.{Rule, oldRule, newRule, Entry}
-use Rattle.book.specs.Account.{ifRegistered, answerOn, appliedOn, afterParts, partAnswer, openDay, openDays, answer, applied, step, run}
+use Rattle.book.specs.Rule.{Rule, oldRule, newRule, MadeCall}
+use Rattle.book.specs.Account.{unlessRetired, answerOn, appliedOn, afterParts, partAnswer, openDay, openDays, answer, applied, step, run}
 use Rattle.book.specs.Reading.Events as E
 use Rattle.book.specs.Reading.Events.{Event, did, Own, dayOpened, act, mine, todayOf, withDays, admittedIn}
 use Rattle.book.specs.Reading.Calls.{callsIn}
 use Rattle.book.specs.Reading.Decisions.{cause, ownCauses, ownAnswer, ownStatement, callsBelow}
-use Rattle.book.specs.Reading.Decisions.{behindRetirement, decisionOn, partDecision, decision, withParts, withCall, eventsOf}
+use Rattle.book.specs.Reading.Decisions.{retirement, decisionOn, partDecision, decision, withParts, withCall, eventsOf}
 use Rattle.book.specs.Kept.{fileIn, bookIn}
 use Rattle.book.proofs.Participant.Lawful.{NoneHolds}
-use Rattle.book.proofs.Participant.Decide.{decide-first, last-cause}
+use Rattle.book.proofs.Participant.Decide.{decide-first, decide-behind, none-before, last-cause}
 use Rattle.book.proofs.Participant.Blank.{blank-file}
 use Rattle.book.proofs.Participant.OnePart.{OnePart, one-part}
 use Rattle.book.proofs.History.Advances.{openDays-last}
@@ -88,16 +87,22 @@ made-opened zero d events = refl
 made-opened (suc n) d events = ap (λ (k : ℕ). length (callsIn (mine n events)) + k) (made-opened n d events)
 
 -- Cause 23 behind the others: by the account it refuses what was accepted, by the reading it is the last cause.
+no-more : (t : ℕ) (own : List Own) (a : Act)
+    → decide refused (ownCauses t own a) (ownAnswer t own a) ≡ decide refused (ownCauses t own a ++ []) (ownAnswer t own a)
+no-more t own a = ap (λ (causes : List Cause). decide refused causes (ownAnswer t own a)) (sym (append-nil (ownCauses t own a)))
+
 registered : (t : ℕ) (own : List Own) (rule : Rule) (a : Act)
-    → ifRegistered rule a (decide refused (ownCauses t own a) (ownAnswer t own a))
-    ≡ decide refused (ownCauses t own a) (behindRetirement rule a (ownAnswer t own a))
+    → unlessRetired rule a (decide refused (ownCauses t own a) (ownAnswer t own a))
+    ≡ decide refused (ownCauses t own a ++ retirement rule a) (ownAnswer t own a)
 unfolding ownAnswer
-registered t own oldRule a = refl
-registered t own newRule (admit role) = last-cause 23 (eqb role 1) (ownCauses t own (admit role)) done refl
-registered t own newRule (lodge k h) = refl
-registered t own newRule (release k a) = refl
-registered t own newRule (settle m figures) = refl
-registered t own newRule annualRun = refl
+registered t own oldRule a = no-more t own a
+registered t own newRule (admit role) =
+    last-cause 23 (eqb role 1) (ownCauses t own (admit role)) done refl
+    ∙ sym (decide-behind (ownCauses t own (admit role)) (cause 23 (eqb role 1) ∷ []) done)
+registered t own newRule (lodge k h) = no-more t own (lodge k h)
+registered t own newRule (release k a) = no-more t own (release k a)
+registered t own newRule (settle m figures) = no-more t own (settle m figures)
+registered t own newRule annualRun = no-more t own annualRun
 
 -- What holds of one participant holds of each after lawful events; so one call, or one more day, does to the book what the readings say.
 module _ (s : ℕ) (events : List Event) (lw : LawfulAll s events) where
@@ -119,11 +124,12 @@ module _ (s : ℕ) (events : List Event) (lw : LawfulAll s events) where
   named-is : (rule : Rule) (p : ℕ) (a : Act) → answerOn rule (bookIn s events) p a ≡ decisionOn rule s events p a
   unfolding ifNumbered bookIn
   named-is rule p a =
-      decide-first (cause 1 (ltb 63 p)) (ownCauses t (mine p events) a) (ifRegistered rule a (fileAnswer (fileAt (bookIn s events) p) t a))
-      (behindRetirement rule a (ownAnswer t (mine p events) a))
+      decide-first (cause 1 (ltb 63 p)) (ownCauses t (mine p events) a ++ retirement rule a)
+      (unlessRetired rule a (fileAnswer (fileAt (bookIn s events) p) t a))
+      (ownAnswer t (mine p events) a)
       (λ e.
-      ap (λ (f : File). ifRegistered rule a (fileAnswer f t a)) (file-at s p events (omega (arith, ltb-false 63 p e)))
-      ∙ ap (ifRegistered rule a) (part p .answered a)
+      ap (λ (f : File). unlessRetired rule a (fileAnswer f t a)) (file-at s p events (omega (arith, ltb-false 63 p e)))
+      ∙ ap (unlessRetired rule a) (part p .answered a)
       ∙ registered t (mine p events) rule a)
 
   -- Each answer is.
@@ -204,7 +210,7 @@ applied-is : (s : ℕ) (events : List Event) → LawfulAll s events → (rule : 
 unfolding applied bookIn withCall decision
 applied-is s events lw rule (on p a) e =
     let t = todayOf s events in
-    let none = none-holds (cause 1 (ltb 63 p) ∷ ownCauses t (mine p events) a) (behindRetirement rule a (ownAnswer t (mine p events) a)) e in
+    let none = none-before (cause 1 (ltb 63 p)) (ownCauses t (mine p events) a) (retirement rule a) (ownAnswer t (mine p events) a) e in
     did-is s events lw p a (omega (arith, ltb-false 63 p (none .0))) (none .1)
 applied-is s events lw rule (advance day budget) e =
     days-is s (min budget (day - todayOf s events)) events lw (days-within rule s day budget events e)
@@ -226,7 +232,7 @@ step-is s events lw rule c =
     (λ e. cond-false yes _ _ e ∙ ap (bookIn s) (sym (cond-false yes (withCall s events c) events e)))
 
 -- The book that a list of calls leads to is the book of the readings.
-pub run-is : (s : ℕ) (calls : List Entry) → s ≤ 29219 → run s calls ≡ bookIn s (eventsOf s calls)
+pub run-is : (s : ℕ) (calls : List MadeCall) → s ≤ 29219 → run s calls ≡ bookIn s (eventsOf s calls)
 unfolding run eventsOf
 run-is s [] h = fresh-is s h
 run-is s (e ∷ before) h =
@@ -234,7 +240,7 @@ run-is s (e ∷ before) h =
     ∙ step-is s (eventsOf s before) (lawful-events s before h) (e .rule) (e .call)
 
 -- Each answer on the way is the reading's decision.
-pub decided : (s : ℕ) (calls : List Entry) → s ≤ 29219 → (rule : Rule) (c : Call)
+pub decided : (s : ℕ) (calls : List MadeCall) → s ≤ 29219 → (rule : Rule) (c : Call)
     → answer rule (run s calls) c ≡ decision rule s (eventsOf s calls) c
 decided s calls h rule c =
     ap (λ (b : Book). answer rule b c) (run-is s calls h) ∙ answer-is s (eventsOf s calls) (lawful-events s calls h) rule c

@@ -15,7 +15,7 @@ use Rattle.file.specs.Position.{coverOn}
 use Rattle.file.specs.Admit.{noFile}
 use Rattle.layout.specs.Book.{Book}
 use Rattle.book.specs.Call.{advance}
-use Rattle.book.specs.Rule.{Rule, Entry}
+use Rattle.book.specs.Rule.{Rule, MadeCall}
 use Rattle.book.specs.Account.{fileAt, openedIfAdmitted, openDay, openDays, answer, applied, step, run}
 use Rattle.book.specs.Life.{ChargedFile, ChargedBook, Openings, EachOpening}
 use Rattle.book.proofs.Participant.DayCharged.{one-if-short, charge-if-short}
@@ -31,7 +31,7 @@ file-charged d f =
     }
 
 -- A participant's file after the next day was opened; that of nobody, past the 64, stays as it was.
-file-opened : (b : Book) (p : ℕ) → fileAt (openDay b) p ≡ openedIfAdmitted (suc (b .today .0)) (fileAt b p)
+pub file-opened : (b : Book) (p : ℕ) → fileAt (openDay b) p ≡ openedIfAdmitted (suc (b .today .0)) (fileAt b p)
 unfolding fileAt openDay openedIfAdmitted
 file-opened b p = List·getD-map (openedIfAdmitted (suc (b .today .0))) (b .files) p noFile
 
@@ -56,7 +56,7 @@ opens rule b day n last h =
     (let e : min n (day - b .today .0) ≡ n = omega arith in ap (λ (k : ℕ). openDays k b) e)
 
 -- One more opened day after a list of calls.
-one-more-day : (s : ℕ) (calls : List Entry) → Openings s calls
+one-more-day : (s : ℕ) (calls : List MadeCall) → Openings s calls
 unfolding run
 one-more-day s calls rule day n last h =
     let b = run s calls in
@@ -66,6 +66,6 @@ one-more-day s calls rule day n last h =
     (day-charged (openDays n b))
 
 -- .. after each of the calls.
-pub each-opening : (s : ℕ) (calls : List Entry) → EachOpening s calls
+pub each-opening : (s : ℕ) (calls : List MadeCall) → EachOpening s calls
 each-opening s [] = one-more-day s []
 each-opening s (e ∷ before) = (one-more-day s (e ∷ before), each-opening s before)

@@ -4,17 +4,17 @@ use Prim.Native.Nat.{ℕ, zero, suc, _≤_, _<_}
 use native.Mathlib.Omega.{arith}
 use mathlib.Core.Path.{_≡_, refl, sym, ap, subst, _∙_}
 use mathlib.Core.Bool.{true, false}
-use mathlib.Core.List.{List, _∷_}
+use mathlib.Core.List.{List, [], _∷_, _++_}
 use lib.Dec.{ltb}
 use Rattle.batch.specs.Batch.{countIn, participantAt}
 use Rattle.batch.specs.FormLaws.{Whole}
 use Rattle.file.specs.Answer.{refused, decide, accepted}
-use Rattle.file.specs.DecideLaws.{none-holds}
 use Rattle.book.specs.Call.{Act, partAct}
 use Rattle.book.specs.Rule.{Rule, newRule}
 use Rattle.book.specs.Reading.Events.{Event, did, mine, todayOf}
-use Rattle.book.specs.Reading.Decisions.{cause, ownCauses, ownAnswer, behindRetirement, decisionOn, partDecision, withParts}
+use Rattle.book.specs.Reading.Decisions.{cause, ownCauses, ownAnswer, retirement, decisionOn, partDecision, withParts}
 use Rattle.book.proofs.Participant.Lawful.{NoneHolds}
+use Rattle.book.proofs.Participant.Decide.{none-before}
 use Rattle.book.proofs.History.Parts.{NotAmong, not-among}
 use Rattle.book.proofs.History.Events.{mine-other, LawfulAll, lawful-did}
 
@@ -38,8 +38,8 @@ pub decided-parts : (rule : Rule) (s t : ℕ) (file : List ℕ) (k p : ℕ) (a :
 decided-parts rule s t file k p a events other =
     λ i.
     decide refused
-    (cause 1 (ltb 63 p) ∷ ownCauses (today-parts s t file k events i) (mine-parts t file k p events other i) a)
-    (behindRetirement rule a (ownAnswer (today-parts s t file k events i) (mine-parts t file k p events other i) a))
+    (cause 1 (ltb 63 p) ∷ (ownCauses (today-parts s t file k events i) (mine-parts t file k p events other i) a ++ retirement rule a))
+    (ownAnswer (today-parts s t file k events i) (mine-parts t file k p events other i) a)
 
 -- Each settlement of an accepted batch has no cause of refusal behind those before it.
 module _ (s : ℕ) (events : List Event) (file : List ℕ) where
@@ -57,7 +57,7 @@ module _ (s : ℕ) (events : List Event) (file : List ℕ) where
       let p = participantAt file k in
       let a = partAct file k in
       let same = decided-parts newRule s t file k p a events (not-among file w k h) in
-      none-holds (cause 1 (ltb 63 p) ∷ ownCauses (todayOf s (behind k)) (mine p (behind k)) a)
+      none-before (cause 1 (ltb 63 p)) (ownCauses (todayOf s (behind k)) (mine p (behind k)) a) []
       (ownAnswer (todayOf s (behind k)) (mine p (behind k)) a)
       (ap accepted same ∙ e)
 

@@ -19,7 +19,7 @@ use Rattle.file.specs.Answer.{Answer, refusedPair, batched, accepted}
 use Rattle.layout.specs.Book.{Book}
 use Rattle.book.specs.Call.{Act, partAct, refusalOf, firstRefused, batchSays}
 use Rattle.book.specs.Rule.{Rule, newRule}
-use Rattle.book.specs.Account.{fileAt, withFile, ifNumbered, ifRegistered, fileAnswer, answerOn, afterParts, partAnswer}
+use Rattle.book.specs.Account.{fileAt, withFile, ifNumbered, unlessRetired, fileAnswer, answerOn, afterParts, partAnswer}
 
 -- ---- what a batch answers
 
@@ -120,7 +120,7 @@ file-after b file (suc k) p other =
 pub answer-after : (rule : Rule) (b : Book) (file : List ℕ) (k p : ℕ) (a : Act) → NotAmong file k p
     → answerOn rule (afterParts b file k) p a ≡ answerOn rule b p a
 answer-after rule b file k p a other =
-    λ i. ifNumbered p (ifRegistered rule a (fileAnswer (file-after b file k p other i) (today-after b file k i .0) a))
+    λ i. ifNumbered p (unlessRetired rule a (fileAnswer (file-after b file k p other i) (today-after b file k i .0) a))
 
 -- A law of the batch: to judge each part by the book before the batch is to judge it where the parts before it are settled.
 pub part-alone : (b : Book) (file : List ℕ) → Whole file → (k : ℕ) → k < countIn file

@@ -1,9 +1,9 @@
 -- A decision that accepts had no cause, and one with no cause gives the answer.
 -- Assumes nothing.
 use Prim.Native.Nat.{ℕ}
-use mathlib.Core.Path.{_≡_, refl, sym, _∙_}
+use mathlib.Core.Path.{_≡_, refl, sym, ap, _∙_}
 use mathlib.Core.Bool.{Bool, true, false, cond, _&&_}
-use mathlib.Core.List.{List, [], _∷_}
+use mathlib.Core.List.{List, [], _∷_, _++_}
 use Rattle.laws.specs.Cases.{split, cond-true, cond-false}
 use Rattle.file.specs.Answer.{Answer, refused, Cause, decide, accepted}
 use Rattle.file.specs.DecideLaws.{none-holds}
@@ -59,3 +59,18 @@ pub last-cause : (n : ℕ) (t : Bool) (causes : List Cause) (x : Answer) → acc
 unfolding decide
 last-cause n true causes x e = refuse-last n causes x e
 last-cause n false causes x e = refl
+
+-- Causes behind others.
+pub decide-behind : (causes more : List Cause) (x : Answer) → decide refused (causes ++ more) x ≡ decide refused causes (decide refused more x)
+unfolding decide
+decide-behind [] more x = refl
+decide-behind (c ∷ causes) more x = ap (cond (c .holds) (refused (c .number))) (decide-behind causes more x)
+
+none-front : (causes more : List Cause) → NoneHolds (causes ++ more) → NoneHolds causes
+none-front [] more n = tt
+none-front (c ∷ causes) more n = (n .0, none-front causes more (n .1))
+
+-- An accepted decision had none of its causes, also those before others.
+pub none-before : (c : Cause) (causes more : List Cause) (x : Answer) → accepted (decide refused (c ∷ (causes ++ more)) x) ≡ true
+    → (c .holds ≡ false) × NoneHolds causes
+none-before c causes more x e = let n = none-holds (c ∷ (causes ++ more)) x e in (n .0, none-front causes more (n .1))

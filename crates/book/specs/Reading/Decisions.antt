@@ -3,7 +3,7 @@
 -- Assumes nothing.
 use Prim.Native.Nat.{ℕ, zero, suc, _+_, _-_, min}
 use mathlib.Core.Bool.{Bool, cond, not, _&&_, _||_}
-use mathlib.Core.List.{List, [], _∷_}
+use mathlib.Core.List.{List, [], _∷_, _++_}
 use lib.Dec.{leb, ltb, eqb}
 use lib.ListN.{length}
 use lib.IntN.{ℤ}
@@ -17,7 +17,7 @@ use Rattle.file.specs.Settle.{outsideMonths, checkDue, checkSays}
 use Rattle.batch.specs.Batch.{countIn, participantAt, formOf}
 use Rattle.book.specs.Call.{Act, admit, lodge, release, settle, annualRun, Call, on, advance, statement, callsMade, batch}
 use Rattle.book.specs.Call.{partAct, batchSays}
-use Rattle.book.specs.Rule.{Rule, oldRule, newRule, Entry}
+use Rattle.book.specs.Rule.{Rule, oldRule, newRule, MadeCall}
 use Rattle.book.specs.Reading.Events.{Event, Own, did, act, mine, todayOf, withDays, admittedIn}
 use Rattle.book.specs.Reading.Holdings.{positionIn, coverIn, depositedIn}
 use Rattle.book.specs.Reading.Months.{nextIn, annualIn, yearsTotals}
@@ -44,7 +44,8 @@ settlementAnswer t m figures own =
     (checked (sumOf figures) (depositedIn t own) (firmIn t own) (amountsOf (openIn t own))))
     (recorded (sumOf figures))
 
--- The causes of a call today on a participant with this history of its own, in paper 01's order, after cause 1.
+-- The causes of a call today on a participant with this history of its own, in paper 01's order, after cause 1; an admission has one more since
+-- paper 02, Ask 3 (`retirement`).
 unfoldable pub ownCauses : ℕ → List Own → Act → List Cause
 ownCauses t own (admit role) = cause 3 (admittedIn own) ∷ cause 4 (ltb 5 role) ∷ []
 ownCauses t own (lodge k h) =
@@ -89,21 +90,21 @@ unfoldable pub callsBelow : ℕ → List Event → ℕ
 callsBelow zero events = 0
 callsBelow (suc n) events = length (callsIn (mine n events)) + callsBelow n events
 
--- Paper 02, Ask 3: "Answers: 23 role 1 at admission, after 4", the last cause of an admission under the new rule; "Only admission changes".
-abbrev pub behindRetirement : Rule → Act → Answer → Answer
-behindRetirement oldRule a x = x
-behindRetirement newRule (admit role) x = decide refused (cause 23 (eqb role 1) ∷ []) x
-behindRetirement newRule (lodge k h) x = x
-behindRetirement newRule (release k a) x = x
-behindRetirement newRule (settle m figures) x = x
-behindRetirement newRule annualRun x = x
+-- Paper 02, Ask 3, "Only admission changes": the cause that a call has besides under the new rule, behind the others: "23 role 1 at admission, after 4".
+abbrev pub retirement : Rule → Act → List Cause
+retirement oldRule a = []
+retirement newRule (admit role) = cause 23 (eqb role 1) ∷ []
+retirement newRule (lodge k h) = []
+retirement newRule (release k a) = []
+retirement newRule (settle m figures) = []
+retirement newRule annualRun = []
 
 -- What a call that names participant p is decided to answer, made under a rule after these events from a fresh book on day s.
 abbrev pub decisionOn : Rule → ℕ → List Event → ℕ → Act → Answer
 decisionOn rule s events p a =
     decide refused
-    (cause 1 (ltb 63 p) ∷ ownCauses (todayOf s events) (mine p events) a)
-    (behindRetirement rule a (ownAnswer (todayOf s events) (mine p events) a))
+    (cause 1 (ltb 63 p) ∷ (ownCauses (todayOf s events) (mine p events) a ++ retirement rule a))
+    (ownAnswer (todayOf s events) (mine p events) a)
 
 -- Paper 02, Ask 1: what is decided of part k of a batch. Its participant stands in no other part, so that its figures are read from the calls
 -- before the batch; a settlement is decided alike under both rules.
@@ -140,7 +141,7 @@ withCall s events (batch file) = withParts (todayOf s events) file (countIn file
 
 -- The events of a list of calls, the newest first, each made under its rule, from a fresh book on day s: each accepted call's, and nothing of a
 -- refused one. The events don't tell the rule: "its figures are read as ever".
-unfoldable pub eventsOf : ℕ → List Entry → List Event
+unfoldable pub eventsOf : ℕ → List MadeCall → List Event
 eventsOf s [] = []
 eventsOf s (e ∷ before) =
     cond (accepted (decision (e .rule) s (eventsOf s before) (e .call))) (withCall s (eventsOf s before) (e .call)) (eventsOf s before)

@@ -5,8 +5,8 @@ use borrow.Author.Needs.{needs}
 use Rattle.dialogue.proofs.lines.ends_stretch.Statement.{statement}
 use Rattle.dialogue.proofs.lines.ends_stretch.Tie as tie
 
-is-mark-requires : tie.Need-is-mark-requires
-is-mark-requires c κs = search needs
+is-role-retired-requires : tie.Need-is-role-retired-requires
+is-role-retired-requires c κs = search needs
 
 returns : tie.Need-returns
 returns c = search (ends-replayed, needs)
@@ -15,4 +15,4 @@ returns-2 : tie.Need-returns-2
 returns-2 c = search (ends-kept, needs)
 
 pub ends-stretch-spec : {M : Type 1} → statement M
-ends-stretch-spec = tie.close (tie.spec is-mark-requires returns returns-2)
+ends-stretch-spec = tie.close (tie.spec is-role-retired-requires returns returns-2)

@@ -5,8 +5,8 @@ use borrow.Author.Needs.{needs}
 use Rattle.dialogue.proofs.said.put_added.Statement.{statement}
 use Rattle.dialogue.proofs.said.put_added.Tie as tie
 
-put-mark-requires : tie.Need-put-mark-requires
-put-mark-requires c κs = search needs
+put-retired-requires : tie.Need-put-retired-requires
+put-retired-requires c κs = search needs
 
 put-journal-requires : tie.Need-put-journal-requires
 put-journal-requires c κs = search needs
@@ -30,7 +30,7 @@ pub put-added-spec : {M : Type 1} → statement M
 put-added-spec =
     tie.close
     (tie.spec
-    put-mark-requires
+    put-retired-requires
     put-journal-requires
     put-said-requires
     put-tabled-requires

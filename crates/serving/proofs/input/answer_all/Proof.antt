@@ -57,6 +57,7 @@ take-file-requires c κs =
       omega (arith, taken .kept, second .before .numbers .ensures, start .pre .1),
       omega (arith, taken .kept, second .journal .ensures),
       omega (arith, taken .kept, third .large-buffer2 .ensures),
+      start .pre .2,
     )
 
 goes-on-requires : tie.Need-goes-on-requires

@@ -42,6 +42,7 @@ take-last-requires c κs =
       omega (arith, taken .ensures .0 .1, taken .kept),
       omega (arith, taken .kept, start .pre .2),
       omega (arith, taken .kept, start .pre .3),
+      start .pre .4,
     )
 
 same-length-6 : tie.Need-same-length-6

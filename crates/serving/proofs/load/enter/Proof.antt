@@ -47,7 +47,7 @@ returns c =
     let bytes = are-bytes _ (known .shared-slice-known2 .given) in (
       drained .drain .ensures .0 .0,
       (
-        entered _ _ _ same _ _ _ _ _ (line .1) (start .pre .1) bytes _ _ _ (drained .drain .ensures .1 .0),
+        entered _ _ _ same _ _ _ _ _ (line .1) (start .pre .1) (start .pre .5) bytes _ _ _ (drained .drain .ensures .1 .0),
         entered-grown _ _ _ same _ _ _ _ _ (line .1) (start .pre .1) _ _ _ (drained .drain .ensures .1 .1),
       ),
     )

@@ -2,6 +2,7 @@
 -- Assumes nothing.
 use native.Mathlib.Omega.{arith}
 use lib.ListN.{length-take}
+use Rattle.serving.proofs.WayLaws.{is-replay}
 use borrow.Author.Needs.{needs}
 use Rattle.serving.proofs.replay.replay.Statement.{statement}
 use Rattle.serving.proofs.replay.replay.Tie as tie
@@ -37,7 +38,7 @@ slice-aggregate-take-parts-4 : tie.Need-slice-aggregate-take-parts-4
 slice-aggregate-take-parts-4 c = search needs
 
 take-parts-requires : tie.Need-take-parts-requires
-take-parts-requires c κs = search needs
+take-parts-requires c κs = (search needs, search needs, search needs, search needs, search (is-replay, needs))
 
 array-share-prefix-buffer : tie.Need-array-share-prefix-buffer
 array-share-prefix-buffer c = search needs
