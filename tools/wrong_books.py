@@ -11,6 +11,11 @@ def letter(amount, first, last, place=0):
     return f'on 0 (lodge {place} (Letter {amount} (record {{ 0 = {first} }}) (record {{ 0 = {last} }})))'
 
 
+def first(call):
+    """A call of a history's first stretch, made under the old admission rule."""
+    return f'under oldRule ({call})'
+
+
 def loaded(month, *parts):
     """A batch by its bytes: parts of a participant and a total, each of five figures with this total."""
     numbers = [(month, 2), (len(parts), 2)]
@@ -171,7 +176,7 @@ MUTANTS = [
      0, ['on 0 (admit 3)', 'on 0 (settle 0 [])'],
      [0, 10], [0, 12]),
     ('a refused call that is applied',
-     [(ACCOUNT, 'step b c = cond (accepted (answer b c)) (applied b c) b', 'step b c = applied b c')],
+     [(ACCOUNT, 'step rule b c = cond (accepted (answer rule b c)) (applied b c) b', 'step rule b c = applied b c')],
      0, ['on 0 (admit 9)', 'statement 0'],
      [7, 0, 0, 0, 0, 0], [0, 2]),
     ('an admission whose call is not counted',
@@ -201,10 +206,60 @@ MUTANTS = [
      60, ['on 0 (admit 3)', loaded(0, (0, 100), (1, 200))],
      [10, 2, 0], [10, 2, 1]),
     ('a refused batch that keeps what was settled before the refusal',
-     [(ACCOUNT, 'unfoldable pub step : Book → Call → Book', f'{PARTLY}\n\nunfoldable pub step : Book → Call → Book'),
-      (ACCOUNT, 'step b c = cond (accepted (answer b c)) (applied b c) b', 'step b c = cond (accepted (answer b c)) (applied b c) (partly b c)')],
+     [(ACCOUNT, 'unfoldable pub step : Rule → Book → Call → Book', f'{PARTLY}\n\nunfoldable pub step : Rule → Book → Call → Book'),
+      (ACCOUNT, 'step rule b c = cond (accepted (answer rule b c)) (applied b c) b',
+       'step rule b c = cond (accepted (answer rule b c)) (applied b c) (partly b c)')],
      60, ['on 0 (admit 3)', loaded(0, (0, 100), (1, 200)), 'callsMade'],
      [8, 1], [8, 0]),
+    # The role that is retired.
+    ('an admission with role 1 under the new rule',
+     [(ACCOUNT, 'unlessRetired newRule a answer = cond (admitsRetired a && accepted answer) (refused 23) answer', 'unlessRetired newRule a answer = answer')],
+     0, ['on 0 (admit 1)'],
+     [1], [0, 23]),
+    ('role 2 retired',
+     [(ACCOUNT, 'admitsRetired (admit role) = eqb role 1', 'admitsRetired (admit role) = eqb role 2')],
+     0, ['on 0 (admit 2)'],
+     [0, 23], [1]),
+    ('roles 0 and 1 retired',
+     [(ACCOUNT, 'admitsRetired (admit role) = eqb role 1', 'admitsRetired (admit role) = ltb role 2')],
+     0, ['on 0 (admit 0)'],
+     [0, 23], [1]),
+    ('22 for 23',
+     [(ACCOUNT, '(refused 23)', '(refused 22)')],
+     0, ['on 0 (admit 1)'],
+     [0, 22], [0, 23]),
+    ('cause 23 before cause 3',
+     [(ACCOUNT, 'cond (admitsRetired a && accepted answer) (refused 23)', 'cond (admitsRetired a) (refused 23)')],
+     0, ['on 0 (admit 3)', 'on 0 (admit 1)'],
+     [0, 23], [0, 3]),
+    ('cause 23 before cause 1',
+     [(ACCOUNT, 'cond (admitsRetired a && accepted answer) (refused 23)', 'cond (admitsRetired a) (refused 23)'),
+      (ACCOUNT, 'ifNumbered p (unlessRetired rule a (fileAnswer (fileAt b p) (b .today .0) a))',
+       'unlessRetired rule a (ifNumbered p (fileAnswer (fileAt b p) (b .today .0) a))')],
+     0, ['on 64 (admit 1)'],
+     [0, 23], [0, 1]),
+    ('role 1 refused in the first stretch too',
+     [(ACCOUNT, 'unlessRetired oldRule a answer = answer',
+       'unlessRetired oldRule a answer = cond (admitsRetired a && accepted answer) (refused 23) answer')],
+     0, [first('on 0 (admit 1)')],
+     [0, 23], [1]),
+    ('a first stretch that leaves what the new rule does',
+     [(ACCOUNT, 'step (e .rule) (run s before) (e .call)', 'step newRule (run s before) (e .call)')],
+     0, [first('on 0 (admit 1)'), 'statement 0'],
+     [0, 2], [7, 0, 0, 0, 0, 0]),
+    ('calls since that leave what the old rule does',
+     [(ACCOUNT, 'step (e .rule) (run s before) (e .call)', 'step oldRule (run s before) (e .call)')],
+     0, ['on 0 (admit 1)', 'statement 0'],
+     [7, 0, 0, 0, 0, 0], [0, 2]),
+    ('no call for the minimum of the retired role',
+     [('file/specs/Admit.antt', 'cond (ltb 0 (minimumOf role)) (callOf', 'cond (cond (lib.Dec.eqb role 1) false (ltb 0 (minimumOf role))) (callOf')],
+     0, [first('on 0 (admit 1)'), 'callsMade'],
+     [8, 0], [8, 1]),
+    ('no annual run of the retired role',
+     [(ACCOUNT, 'annualRun = ifAdmitted f (annualAnswer f t)',
+       'annualRun = ifAdmitted f (decide refused (record { number = 23; holds = eqb (f .role) 1 } ∷ []) (annualAnswer f t))')],
+     244, [first('on 0 (admit 1)'), 'on 0 annualRun'],
+     [0, 23], [5, 2000000, 0]),
     # What the account shares with the book that the readings make up (crates/book/specs/Kept.antt), but not with the readings.
     ('open calls kept behind the empty places',
      [('file/specs/Calls.antt', 'inPlaces calls = calls ++ replicate (4 - length calls) (callOf 0 0)',

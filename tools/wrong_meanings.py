@@ -13,6 +13,7 @@ LENGTHS, GUARANTEE, RANGES, RATIO = (f'special/specs/{name}.antt' for name in ('
 DECISIONS, READ_CALLS, CHARGES = (f'book/specs/Reading/{name}.antt' for name in ('Decisions', 'Calls', 'Charges'))
 HOLDINGS, MONTHS = (f'book/specs/Reading/{name}.antt' for name in ('Holdings', 'Months'))
 BYTES, BATCH, SAYS, LEAST = 'batch/specs/Bytes.antt', 'batch/specs/Batch.antt', 'book/specs/Call.antt', 'laws/specs/Least.antt'
+RULE = 'book/specs/Rule.antt'
 
 
 def swapped(path, one, other):
@@ -49,9 +50,15 @@ def in_both(path, old, new):
     return [(path, old, new), (DECISIONS, old, new)]
 
 
+# What a call on a participant's file answers behind cause 1, as the account writes it; and its causes, as the reading does.
+ON_FILE = 'unlessRetired rule a (fileAnswer (fileAt b p) (b .today .0) a)'
+OWN = 'ownCauses (todayOf s events) (mine p events) a'
+CAUSES = f'(cause 1 (ltb 63 p) ∷ ({OWN} ++ retirement rule a))'
+
+
 def participants(last):
     """The last participant, in both accounts."""
-    return [(ACCOUNT, 'ltb 63 p', f'ltb {last} p'), (DECISIONS, '(ltb 63 p) ∷ ownCauses', f'(ltb {last} p) ∷ ownCauses'),
+    return [(ACCOUNT, 'ltb 63 p', f'ltb {last} p'), (DECISIONS, '(ltb 63 p) ∷ (ownCauses', f'(ltb {last} p) ∷ (ownCauses'),
             (DECISIONS, '(ltb 63 p) ∷ cause 2', f'(ltb {last} p) ∷ cause 2')]
 
 
@@ -76,6 +83,17 @@ def not_admitted_last(call, answer, first, last):
             (DECISIONS, f'{last}\n    ∷ []', f'{last}\n    ∷ cause 2 (not (admittedIn own))\n    ∷ []')]
 
 
+def retired(test):
+    """Which roles are retired, in both accounts."""
+    return [(ACCOUNT, 'admitsRetired (admit role) = eqb role 1', f'admitsRetired (admit role) = {test}'),
+            (DECISIONS, 'cause 23 (eqb role 1)', f'cause 23 ({test})')]
+
+
+def retired_number(number):
+    """The number of their refusal, in both accounts."""
+    return [(ACCOUNT, '(refused 23)', f'(refused {number})'), (DECISIONS, 'cause 23', f'cause {number}')]
+
+
 def floor(account, reading):
     """What must stay after a release, in both accounts."""
     return [(RELEASE, 'largest (f .next .amount) (f .firm ∷ openAmounts f)', account),
@@ -98,6 +116,11 @@ def admission_free_day(days):
     return [(ADMIT, '(minimumOf role) (t + 10)', f'(minimumOf role) (t + {days})'),
             (READ_CALLS, '(minimumOf role) (d + 10)', f'(minimumOf role) (d + {days})')]
 
+
+# When an admission is refused with 23, as the account writes it, and the same cause, as the reading does; the calls since and those of the first stretch
+# in a history.
+RETIRED, BEHIND = 'admitsRetired a && accepted answer', 'cause 23 (eqb role 1) ∷ []'
+SINCE, STRETCH = 'map (under newRule) since', 'map (under oldRule) first'
 
 # The special guarantee's causes 11 and 18, and how its cause 19 begins.
 OUTSIDE = named(11, 'outsideRanges medium low marks zeroMedium zeroLow excessMedium excessLow')
@@ -338,11 +361,9 @@ SHARED = [
      + swapped(DECISIONS, 'cause 3 (admittedIn own)', 'cause 4 (ltb 5 role)'),
      'Decisions.admit-3-before-4'),
     ('admit: 1 after the others',
-     [(ACCOUNT, 'answerOn b p a = ifNumbered p (fileAnswer (fileAt b p) (b .today .0) a)',
-       'answerOn b p a = cond (accepted (fileAnswer (fileAt b p) (b .today .0) a)) (ifNumbered p (fileAnswer (fileAt b p) (b .today .0) a)) '
-       '(fileAnswer (fileAt b p) (b .today .0) a)'),
-      (DECISIONS, '(cause 1 (ltb 63 p) ∷ ownCauses (todayOf s events) (mine p events) a)',
-       '(mathlib.Core.List._++_ (ownCauses (todayOf s events) (mine p events) a) (cause 1 (ltb 63 p) ∷ []))')],
+     [(ACCOUNT, f'answerOn rule b p a = ifNumbered p ({ON_FILE})',
+       f'answerOn rule b p a = cond (accepted ({ON_FILE})) (ifNumbered p ({ON_FILE})) ({ON_FILE})'),
+      (DECISIONS, CAUSES, f'({OWN} ++ (retirement rule a ++ (cause 1 (ltb 63 p) ∷ [])))')],
      'Decisions.admit-1-before-4'),
     ('lodge: 5 before 2',
      [(ACCOUNT, '(lodge k h) = ifAdmitted f (lodgeAnswer f t k h)',
@@ -478,9 +499,9 @@ SHARED = [
       ('book/specs/Reading/Events.antt', 'roleIn (act d (admit role) ∷ own) = role', 'roleIn (act d (admit role) ∷ own) = 0')],
      'Decisions.next-left'),
     ('an advance with day and budget exchanged',
-     [(ACCOUNT, 'answer b (advance day budget)', 'answer b (advance budget day)'),
+     [(ACCOUNT, 'answer rule b (advance day budget)', 'answer rule b (advance budget day)'),
       (ACCOUNT, 'applied b (advance day budget)', 'applied b (advance budget day)'),
-      (DECISIONS, 'decision s events (advance day budget)', 'decision s events (advance budget day)'),
+      (DECISIONS, 'decision rule s events (advance day budget)', 'decision rule s events (advance budget day)'),
       (DECISIONS, 'withCall s events (advance day budget)', 'withCall s events (advance budget day)')],
      'Decisions.advance-last-day'),
     ('a release with place and amount exchanged',
@@ -499,6 +520,63 @@ SHARED = [
      [(ANSWER, '(s .cover) (s .shortfall)', '(s .shortfall) (s .cover)'),
       (DECISIONS, '(coverIn t own) (firmIn t own - coverIn t own)', '(firmIn t own - coverIn t own) (coverIn t own)')],
      'Decisions.first-charged-day'),
+    # ---- the role that is retired: which, its number, its place among the causes, and the rules
+    ('role 0 retired', retired('eqb role 0'), 'Retirement.role-0'),
+    ('role 2 retired', retired('eqb role 2'), 'Retirement.role-1'),
+    ('role 6 retired', retired('eqb role 6'), 'Retirement.role-1'),
+    ('roles 0 and 1 retired', retired('ltb role 2'), 'Retirement.role-0'),
+    ('roles 1 and 2 retired', retired('eqb role 1 || eqb role 2'), 'Retirement.role-2'),
+    ('every role but 0 retired', retired('ltb 0 role'), 'Retirement.role-2'),
+    ('22 for 23', retired_number(22), 'Retirement.role-1'),
+    ('24 for 23', retired_number(24), 'Retirement.role-1'),
+    ('4 for 23', retired_number(4), 'Retirement.role-1'),
+    ('admit: 23 before 3',
+     [(ACCOUNT, RETIRED, 'admitsRetired a'),
+      (DECISIONS, CAUSES, f'(cause 1 (ltb 63 p) ∷ (retirement rule a ++ {OWN}))')],
+     'Retirement.admit-3-before-23'),
+    ('admit: 23 before 1',
+     [(ACCOUNT, RETIRED, 'admitsRetired a'),
+      (ACCOUNT, f'ifNumbered p ({ON_FILE})', 'unlessRetired rule a (ifNumbered p (fileAnswer (fileAt b p) (b .today .0) a))'),
+      (DECISIONS, CAUSES, f'(retirement rule a ++ (cause 1 (ltb 63 p) ∷ {OWN}))')],
+     'Retirement.admit-1-before-23'),
+    ('role 1 still admitted',
+     [(ACCOUNT, f'newRule a answer = cond ({RETIRED}) (refused 23) answer', 'newRule a answer = answer'),
+      (DECISIONS, f'retirement newRule (admit role) = {BEHIND}', 'retirement newRule (admit role) = []')],
+     'Retirement.role-1'),
+    ('role 1 refused in the first stretch too',
+     [(ACCOUNT, 'oldRule a answer = answer', f'oldRule a answer = cond ({RETIRED}) (refused 23) answer'),
+      (DECISIONS, 'retirement oldRule a = []', '\n'.join(
+          f'retirement oldRule {call} = {BEHIND if call == "(admit role)" else "[]"}'
+          for call in ('(admit role)', '(lodge k h)', '(release k a)', '(settle m figures)', 'annualRun')))],
+     'Retirement.first-role-1'),
+    ('the rules exchanged',
+     [(ACCOUNT, 'oldRule a answer = answer', '\0'),
+      (ACCOUNT, f'newRule a answer = cond ({RETIRED}) (refused 23) answer', 'newRule a answer = answer'),
+      (ACCOUNT, '\0', f'oldRule a answer = cond ({RETIRED}) (refused 23) answer'),
+      (DECISIONS, 'retirement : Rule → Act → List Cause\nretirement oldRule a = []', 'retirement : Rule → Act → List Cause\nretirement newRule a = []')]
+     + [(DECISIONS, f'retirement newRule {call}', f'retirement oldRule {call}')
+        for call in ('(admit role)', '(lodge k h)', '(release k a)', '(settle m figures)', 'annualRun')],
+     'Retirement.role-1'),
+    ('a first stretch by the new rule', [(RULE, 'map (under oldRule) first', 'map (under newRule) first')], 'Retirement.kept-3-before-23'),
+    ('calls since by the old rule', [(RULE, 'map (under newRule) since', 'map (under oldRule) since')], 'Retirement.refused-again'),
+    ('no first stretch', [(RULE, f'{SINCE} ++ {STRETCH}', SINCE)], 'Retirement.kept-3'),
+    ('no calls since', [(RULE, f'{SINCE} ++ {STRETCH}', STRETCH)], 'Retirement.admit-3-before-23'),
+    ('calls since before the first stretch', [(RULE, f'{SINCE} ++ {STRETCH}', f'{STRETCH} ++ {SINCE}')], 'Retirement.third-charged-day'),
+    # .. and what files keep that have it
+    ('no minimum of the retired role', [(MINIMUM, '2000000 ∷ 2000000 ∷ 1000000', '2000000 ∷ 0 ∷ 1000000')], 'Retirement.made'),
+    ("a Trader's minimum for the retired role", [(MINIMUM, '2000000 ∷ 2000000 ∷ 1000000', '2000000 ∷ 1000000 ∷ 1000000')], 'Retirement.open-call'),
+    ('no annual run of the retired role',
+     [(ACCOUNT, 'annualRun = ifAdmitted f (annualAnswer f t)',
+       f"annualRun = ifAdmitted f (decide refused ({named(23, 'eqb (f .role) 1')} ∷ []) (annualAnswer f t))"),
+      (DECISIONS, 'cause 2 (not (admittedIn own)) ∷ cause 14',
+       'cause 2 (not (admittedIn own)) ∷ cause 23 (eqb (Rattle.book.specs.Reading.Events.roleIn own) 1) ∷ cause 14')],
+     'Retirement.first-annual'),
+    ('no settlement of the retired role',
+     [(ACCOUNT, '(settle m figures) = ifAdmitted f (settleAnswer f t m figures)',
+       f"(settle m figures) = ifAdmitted f (decide refused ({named(23, 'eqb (f .role) 1')} ∷ []) (settleAnswer f t m figures))"),
+      (DECISIONS, 'cause 2 (not (admittedIn own))\n    ∷ cause 12',
+       'cause 2 (not (admittedIn own))\n    ∷ cause 23 (eqb (Rattle.book.specs.Reading.Events.roleIn own) 1)\n    ∷ cause 12')],
+     'Retirement.first-batch'),
     # ---- the file of a month: its bytes
     ('most significant byte first',
      [(BYTES, 'getD file at 0 + 256 * numberAt file (suc at) n', 'getD file (at + n) 0 + 256 * numberAt file at n')], 'Files.two-bytes'),
