@@ -53,7 +53,7 @@ def in_both(path, old, new):
 # What a call on a participant's file answers behind cause 1, as the account writes it; and its causes, as the reading does.
 ON_FILE = 'unlessRetired rule a (fileAnswer (fileAt b p) (b .today .0) a)'
 OWN = 'ownCauses (todayOf s events) (mine p events) a'
-CAUSES = f'(cause 1 (ltb 63 p) ∷ ({OWN} ++ retirement rule a))'
+DECIDED = f'(cause 1 (ltb 63 p) ∷ ({OWN} ++ retirement rule a))'
 
 
 def participants(last):
@@ -363,7 +363,7 @@ SHARED = [
     ('admit: 1 after the others',
      [(ACCOUNT, f'answerOn rule b p a = ifNumbered p ({ON_FILE})',
        f'answerOn rule b p a = cond (accepted ({ON_FILE})) (ifNumbered p ({ON_FILE})) ({ON_FILE})'),
-      (DECISIONS, CAUSES, f'({OWN} ++ (retirement rule a ++ (cause 1 (ltb 63 p) ∷ [])))')],
+      (DECISIONS, DECIDED, f'({OWN} ++ (retirement rule a ++ (cause 1 (ltb 63 p) ∷ [])))')],
      'Decisions.admit-1-before-4'),
     ('lodge: 5 before 2',
      [(ACCOUNT, '(lodge k h) = ifAdmitted f (lodgeAnswer f t k h)',
@@ -532,12 +532,12 @@ SHARED = [
     ('4 for 23', retired_number(4), 'Retirement.role-1'),
     ('admit: 23 before 3',
      [(ACCOUNT, RETIRED, 'admitsRetired a'),
-      (DECISIONS, CAUSES, f'(cause 1 (ltb 63 p) ∷ (retirement rule a ++ {OWN}))')],
+      (DECISIONS, DECIDED, f'(cause 1 (ltb 63 p) ∷ (retirement rule a ++ {OWN}))')],
      'Retirement.admit-3-before-23'),
     ('admit: 23 before 1',
      [(ACCOUNT, RETIRED, 'admitsRetired a'),
       (ACCOUNT, f'ifNumbered p ({ON_FILE})', 'unlessRetired rule a (ifNumbered p (fileAnswer (fileAt b p) (b .today .0) a))'),
-      (DECISIONS, CAUSES, f'(retirement rule a ++ (cause 1 (ltb 63 p) ∷ {OWN}))')],
+      (DECISIONS, DECIDED, f'(retirement rule a ++ (cause 1 (ltb 63 p) ∷ {OWN}))')],
      'Retirement.admit-1-before-23'),
     ('role 1 still admitted',
      [(ACCOUNT, f'newRule a answer = cond ({RETIRED}) (refused 23) answer', 'newRule a answer = answer'),
