@@ -22,7 +22,7 @@ use Rattle.layout.specs.Book.{Book}
 use Rattle.layout.specs.Words.{book_of_words, book_words}
 use Rattle.layout.specs.WellFormed.{WellFormed}
 use Rattle.book.specs.declared.Stated.{Stated}
-use Rattle.book.specs.Call.{Call, on, admit, lodge, release, settle, annual_run, delete, advance, statement, calls_made, batch, stated_says}
+use Rattle.book.specs.Call.{Call, on, admit, lodge, release, settle, annual_run, advance, statement, calls_made, batch, stated_says}
 use Rattle.book.specs.Rule.{Rule, old_rule, new_rule}
 use Rattle.book.specs.Account.{fresh_answer, fresh_book, fresh_book_beside, answer, step, run}
 use Rattle.book.specs.Reached.{Given, ReachedUnder}
@@ -188,9 +188,6 @@ module _ (l : List ℕ) (line : ℕ) (request : Request) (zs : List ℤ) where
       pub as-annual : (p : ℕ) → request ≡ Request.Annual p → GivenWords l (on p annual_run) x m → AnsweredWords new_rule l line (asked request zs) y m
       as-annual p e g = rw e (gave l m line (on p annual_run) x y w g h)
 
-      pub as-delete : (p : ℕ) → request ≡ Request.Delete p → GivenWords l (on p delete) x m → AnsweredWords new_rule l line (asked request zs) y m
-      as-delete p e g = rw e (gave l m line (on p delete) x y w g h)
-
       pub as-advance : (t : Day) (k : ℕ) → request ≡ Request.Advance t k → GivenWords l (advance t.0 k) x m
           → AnsweredWords new_rule l line (asked request zs) y m
       as-advance t k e g = rw e (gave l m line (advance t.0 k) x y w g h)
@@ -216,7 +213,6 @@ is_admission Request.Calls = false
 is_admission (Request.Special n) = false
 is_admission (Request.Batch n) = false
 is_admission Request.RoleRetired = false
-is_admission (Request.Delete p) = false
 is_admission Request.Report = false
 is_admission (Request.Error e) = false
 
@@ -238,7 +234,6 @@ alike-answer b n Request.Calls zs h = refl
 alike-answer b n (Request.Special k) zs h = refl
 alike-answer b n (Request.Batch k) zs h = refl
 alike-answer b n Request.RoleRetired zs h = refl
-alike-answer b n (Request.Delete p) zs h = refl
 alike-answer b n Request.Report zs h = refl
 alike-answer b n (Request.Error e) zs h = refl
 
@@ -258,7 +253,6 @@ alike-book b Request.Calls zs h = refl
 alike-book b (Request.Special k) zs h = refl
 alike-book b (Request.Batch k) zs h = refl
 alike-book b Request.RoleRetired zs h = refl
-alike-book b (Request.Delete p) zs h = refl
 alike-book b Request.Report zs h = refl
 alike-book b (Request.Error e) zs h = refl
 
@@ -271,7 +265,7 @@ alike l m n r zs x h w g =
 
 -- A request that is none of the other cases is for an admission.
 abbrev other_tags : List ℕ
-other_tags = 0 ∷ 1 ∷ 3 ∷ 4 ∷ 5 ∷ 6 ∷ 7 ∷ 8 ∷ 9 ∷ 10 ∷ 11 ∷ 12 ∷ 13 ∷ 14 ∷ 15 ∷ 16 ∷ []
+other_tags = 0 ∷ 1 ∷ 3 ∷ 4 ∷ 5 ∷ 6 ∷ 7 ∷ 8 ∷ 9 ∷ 10 ∷ 11 ∷ 12 ∷ 13 ∷ 14 ∷ 15 ∷ []
 
 not-admission : (r : Request) → OneOf other_tags (tag_of the_type r) → is_admission r ≡ false
 not-admission Request.Nothing one = refl
@@ -288,7 +282,6 @@ not-admission Request.Calls one = refl
 not-admission (Request.Special n) one = refl
 not-admission (Request.Batch n) one = refl
 not-admission Request.RoleRetired one = refl
-not-admission (Request.Delete p) one = refl
 not-admission Request.Report one = refl
 not-admission (Request.Error e) one = refl
 

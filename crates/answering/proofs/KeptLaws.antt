@@ -16,7 +16,7 @@ use Rattle.journal.specs.declared.Request.{Request}
 use Rattle.printing.specs.Placed.{Put}
 use Rattle.printing.specs.PlacedLaws.{put_then}
 use Rattle.printing.specs.Lines.{printed}
-use Rattle.answering.specs.Kept.{is_fresh, fresh_first, numbers_in, kept_line_lem}
+use Rattle.answering.specs.Kept.{is_fresh, fresh_first, numbers_in, kept_line}
 
 -- A fresh book behind other calls, and every other request.
 pub fresh-later : (request : Request) (kept : ℕ) (f : Bool) → f ≡ is_fresh request → (f && ltb 0 kept) ≡ true
@@ -29,10 +29,7 @@ pub fresh-first : (request : Request) (kept : ℕ) (f : Bool) → f ≡ is_fresh
 unfolding fresh_first
 fresh-first request kept f e t = let g : (is_fresh request && ltb 0 kept) ≡ false = ap (λ (x : Bool). x && ltb 0 kept) (sym e) ∙ t in rw g
 
--- How many numbers a settlement, a special guarantee and a batch have, and another request.
-pub count_none : (request r : Request) (most : ℕ) → request ≡ r → numbers_in r most ≡ 0 → 0 ≡ numbers_in request most
-count_none request r most e h = sym (ap (λ (x : Request). numbers_in x most) e ∙ h)
-
+-- How many numbers a settlement, a special guarantee and a batch have.
 pub count-settle : (request : Request) (p : ℕ) (m : Month) (n most r : ℕ) → request ≡ Request.Settle p m n → r ≡ min n most
     → r ≡ numbers_in request most
 count-settle request p m n most r e h = rw e h
@@ -65,8 +62,8 @@ listed-is n most a b c d e f g p q r s t u v =
 
 -- The line of a kept call.
 pub kept_line_lem : (request : Request) (zs ys : List ℤ) (n : ℕ) (e f g : List ℕ) (at p q : ℕ) → n ≡ numbers_in request (length zs) → ys ≡ take n zs
-    → Put (printed request ys) e at p f → Put (10 ∷ []) f p q g → Put (kept_line_lem request zs) e at q g
-unfolding kept_line_lem
+    → Put (printed request ys) e at p f → Put (10 ∷ []) f p q g → Put (kept_line request zs) e at q g
+unfolding kept_line
 kept_line_lem request zs ys n e f g at p q h k x y =
     put_then (printed request (take (numbers_in request (length zs)) zs)) (10 ∷ []) e f g at p q
     (subst (λ (w : List ℤ). Put (printed request w) e at p f) (k ∙ ap (λ (m : ℕ). take m zs) h) x)

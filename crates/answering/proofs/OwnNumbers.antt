@@ -95,6 +95,5 @@ asked-cut (Request.Special n) zs =
     (ap (guarantee_of n) (take-clipped (total (length_list n)) (min (total (length_list n)) (length zs)) zs refl) ∙ row_cut n zs)
 asked-cut (Request.Batch n) zs = ap (λ (w : List ℕ). call (batch w)) (file-cut n zs)
 asked-cut Request.RoleRetired zs = refl
-asked-cut (Request.Delete p) zs = refl
 asked-cut Request.Report zs = refl
 asked-cut (Request.Error e) zs = refl

@@ -38,7 +38,6 @@ counts Request.Calls most = omega arith
 counts (Request.Special n) most = refl
 counts (Request.Batch n) most = refl
 counts Request.RoleRetired most = omega arith
-counts (Request.Delete p) most = omega arith
 counts Request.Report most = omega arith
 counts (Request.Error e) most = omega arith
 
@@ -67,7 +66,6 @@ call-or-error Request.Calls zs f h = h tt
 call-or-error (Request.Special n) zs f h = h tt
 call-or-error (Request.Batch n) zs f h = h tt
 call-or-error Request.RoleRetired zs f h = h tt
-call-or-error (Request.Delete p) zs f h = h tt
 call-or-error Request.Report zs f h = h tt
 call-or-error (Request.Error e) zs f h = refl
 

@@ -1,17 +1,14 @@
 -- Each case of an answer, as an answer of the journal.
 -- Assumes nothing.
 use Prim.Native.Nat.{ℕ}
-use mathlib.Core.Path.{◌≡◌, sym, ap, ◌∙◌}
-use mathlib.Core.Bool.{Bool}
+use mathlib.Core.Path.{◌≡◌}
 use lib.IntN.{ℤ}
 use Rattle.calendar.specs.declared.Day.{Day}
 use Rattle.file.specs.declared.Outcome.{Outcome}
 use Rattle.file.specs.declared.Settled.{Settled}
 use Rattle.file.specs.declared.AnnualRun.{AnnualRun}
-use Rattle.file.specs.declared.Deletion.{Deletion}
 use Rattle.file.specs.declared.Statement.{Statement}
-use Rattle.file.specs.Answer.{outcome_says, settled_says, annual_says, deletion_says}
-use Rattle.layout.specs.Parts.{flag_word}
+use Rattle.file.specs.Answer.{outcome_says, settled_says, annual_says}
 use Rattle.book.specs.declared.Advanced.{Advanced}
 use Rattle.book.specs.declared.Loaded.{Loaded}
 use Rattle.book.specs.declared.Stated.{Stated}
@@ -44,12 +41,6 @@ annual-amount a n m h = rw h
 
 pub annual-refused : (a : AnnualRun) (n : ℕ) → a ≡ AnnualRun.Refused n → Answer.Refused n ≡ shown (annual_says a)
 annual-refused a n h = rw h
-
-pub deletion-placed : (a : Deletion) (n m : ℕ) (c : Bool) → a ≡ Deletion.Placed n c → m ≡ flag_word c → Answer.Deletion n m ≡ shown (deletion_says a)
-deletion-placed a n m c h e = ap (Answer.Deletion n) e ∙ sym (ap (λ (x : Deletion). shown (deletion_says x)) h)
-
-pub deletion-refused : (a : Deletion) (n : ℕ) → a ≡ Deletion.Refused n → Answer.Refused n ≡ shown (deletion_says a)
-deletion-refused a n h = rw h
 
 pub advanced-opened : (a : Advanced) (n : ℕ) → a ≡ Advanced.Opened n → Answer.Opened n ≡ shown (advanced_says a)
 advanced-opened a n h = rw h

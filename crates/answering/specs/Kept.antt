@@ -24,7 +24,6 @@ takes (Answer.Calls n) = false
 takes (Answer.Special c) = false
 takes (Answer.Batch n) = true
 takes (Answer.RefusedPair n i) = false
-takes (Answer.Deletion a m) = true
 
 -- Whether an answer is a refusal or an error.
 abbrev pub refuses : Answer → Bool
@@ -42,7 +41,6 @@ refuses (Answer.Calls n) = false
 refuses (Answer.Special c) = false
 refuses (Answer.Batch n) = false
 refuses (Answer.RefusedPair n i) = true
-refuses (Answer.Deletion a m) = false
 
 -- Whether a request is a call that may change the book: all but the questions, an empty line, the line that ends a first stretch and an error.
 abbrev pub changes : Request → Bool
@@ -60,7 +58,6 @@ changes Request.Calls = false
 changes (Request.Special n) = false
 changes (Request.Batch n) = true
 changes Request.RoleRetired = false
-changes (Request.Delete p) = true
 changes Request.Report = false
 changes (Request.Error e) = false
 
@@ -80,7 +77,6 @@ is_fresh Request.Calls = false
 is_fresh (Request.Special n) = false
 is_fresh (Request.Batch n) = false
 is_fresh Request.RoleRetired = false
-is_fresh (Request.Delete p) = false
 is_fresh Request.Report = false
 is_fresh (Request.Error e) = false
 
@@ -100,7 +96,6 @@ is_role_retired Request.Calls = false
 is_role_retired (Request.Special n) = false
 is_role_retired (Request.Batch n) = false
 is_role_retired Request.RoleRetired = true
-is_role_retired (Request.Delete p) = false
 is_role_retired Request.Report = false
 is_role_retired (Request.Error e) = false
 
@@ -125,7 +120,6 @@ numbers_in Request.Calls most = 0
 numbers_in (Request.Special n) most = min (total (length_list n)) most
 numbers_in (Request.Batch n) most = min n most
 numbers_in Request.RoleRetired most = 0
-numbers_in (Request.Delete p) most = 0
 numbers_in Request.Report most = 0
 numbers_in (Request.Error e) most = 0
 

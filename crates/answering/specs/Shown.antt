@@ -1,15 +1,13 @@
 -- 'The journal': "Answers, one line for each call line", from the answers of papers 01 and 02.
 -- Assumes nothing.
 use Rattle.file.specs.Answer as Said
-use Rattle.layout.specs.Parts.{flag_word}
 use Rattle.special.specs.declared.Special.{Special}
 use Rattle.special.specs.declared.Special.TheVariants as Specials
 use Rattle.printing.specs.declared.Answer.{Answer}
 
 -- The answer of the journal for each answer of the book:
 -- "done | refused N | called E ASKED LAST_FREE_DAY | covered E | recorded E | annual AMOUNT MONTHS | opened DAYS
--- | statement FIRM COVER SHORTFALL DAYS_CHARGED MILLS | calls N"; of a batch `batch N` and `refused NUMBER INDEX`;
--- and of a deletion `deletion AMOUNT CALLED`, CALLED being 1 or 0.
+-- | statement FIRM COVER SHORTFALL DAYS_CHARGED MILLS | calls N"; and of a batch `batch N` and `refused NUMBER INDEX`.
 abbrev pub shown : Said.Answer → Answer
 shown (Said.refused n) = Answer.Refused n
 shown Said.done = Answer.Done
@@ -22,7 +20,6 @@ shown (Said.stated f c s d a) = Answer.Statement f c s d a
 shown (Said.counted n) = Answer.Calls n
 shown (Said.batched n) = Answer.Batch n
 shown (Said.refused_pair n i) = Answer.RefusedPair n i
-shown (Said.deletion a calls) = Answer.Deletion a (flag_word calls)
 
 -- "special CENTS", or the number of the refusal.
 abbrev pub guarantee_shown : Special → Answer

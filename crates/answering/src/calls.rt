@@ -50,7 +50,6 @@ pub fn apply(book: &mut [u64], request: Request, numbers: &[i64], line: u64) -> 
         Request::Special(n) => guarantee(n, numbers),
         Request::Batch(n) => shown::loaded_shown(load_file(book, numbers, n)),
         Request::RoleRetired => Answer::Nothing,
-        Request::Delete(p) => shown::deletion_shown(book::delete(book, p)),
         Request::Report => Answer::Nothing,
         Request::Error(why) => Answer::Error(line, why),
     }

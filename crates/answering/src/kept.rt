@@ -25,7 +25,6 @@ pub fn is_kept(answer: Answer) -> bool
         Answer::Special(_) => false,
         Answer::Batch(_) => true,
         Answer::RefusedPair(_, _) => false,
-        Answer::Deletion(_, _) => true,
         Answer::Error(_, _) => false,
         Answer::Nothing => false,
     }
@@ -48,7 +47,6 @@ pub fn is_refusal(answer: Answer) -> bool
         Answer::Special(_) => false,
         Answer::Batch(_) => false,
         Answer::RefusedPair(_, _) => true,
-        Answer::Deletion(_, _) => false,
         Answer::Error(_, _) => true,
         Answer::Nothing => false,
     }
@@ -73,7 +71,6 @@ pub fn is_change(request: Request) -> bool
         Request::Special(_) => false,
         Request::Batch(_) => true,
         Request::RoleRetired => false,
-        Request::Delete(_) => true,
         Request::Report => false,
         Request::Error(_) => false,
     }
@@ -98,7 +95,6 @@ fn is_fresh(request: Request) -> bool
         Request::Special(_) => false,
         Request::Batch(_) => false,
         Request::RoleRetired => false,
-        Request::Delete(_) => false,
         Request::Report => false,
         Request::Error(_) => false,
     }
@@ -123,7 +119,6 @@ pub fn is_role_retired(request: Request) -> bool
         Request::Special(_) => false,
         Request::Batch(_) => false,
         Request::RoleRetired => true,
-        Request::Delete(_) => false,
         Request::Report => false,
         Request::Error(_) => false,
     }
@@ -171,7 +166,6 @@ fn number_count(request: Request, most: usize) -> usize
         Request::Special(n) => listed(n, most),
         Request::Batch(n) => smaller(n, most),
         Request::RoleRetired => 0,
-        Request::Delete(_) => 0,
         Request::Report => 0,
         Request::Error(_) => 0,
     }

@@ -1,12 +1,11 @@
 // The answers of the book's calls and of the special guarantee, as answers of the journal.
 ghost use Rattle.std.specs.Prelude.{◌≡◌};
-ghost use Rattle.file.specs.Answer.{outcome_says, settled_says, annual_says, deletion_says};
+ghost use Rattle.file.specs.Answer.{outcome_says, settled_says, annual_says};
 ghost use Rattle.book.specs.Call.{advanced_says, stated_says, loaded_says};
 ghost use Rattle.answering.specs.Shown.{shown, guarantee_shown};
 
 use book::{Advanced, Loaded, Stated};
-use file::{AnnualRun, Deletion, Outcome, Settled};
-use layout::parts::flag_word;
+use file::{AnnualRun, Outcome, Settled};
 use printing::Answer;
 use special::Special;
 
@@ -39,16 +38,6 @@ pub fn annual_shown(answer: AnnualRun) -> Answer
     match answer {
         AnnualRun::Amount(amount, months) => Answer::Annual(amount, months),
         AnnualRun::Refused(n) => Answer::Refused(n),
-    }
-}
-
-// The answer of a deletion.
-pub fn deletion_shown(answer: Deletion) -> Answer
-    ensures { result ≡ shown (deletion_says answer) }
-{
-    match answer {
-        Deletion::Placed(amount, called) => Answer::Deletion(amount, flag_word(called)),
-        Deletion::Refused(n) => Answer::Refused(n),
     }
 }
 

@@ -5,7 +5,6 @@ pub mod Begins
 pub mod Answers
 pub mod DaysOpened
 pub mod OnWords
-pub mod OnDeletions
 pub mod OnSettlements
 pub mod SettlementsPut
 pub mod OnBatches

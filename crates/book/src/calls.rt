@@ -15,7 +15,7 @@ use crate::positions::is_done;
 use calendar::Day;
 use file::{AnnualRun, File, FileAnnual, Outcome};
 use layout::files::{file_at, put_file, put_next};
-use layout::parts::{admitted, number};
+use layout::parts::{flag, number};
 
 // An annual run on a participant's file; one that isn't admitted is refused with 2.
 fn run_if_admitted(file: File, today: Day) -> FileAnnual
@@ -41,7 +41,7 @@ fn admission_answer(words: &[u64], participant: u64, role: u64) -> Outcome
         return Outcome::Refused(1);
     }
     let at = 2 + 96 * participant as usize;
-    let admitted = admitted(words[at + 1]);
+    let admitted = flag(words[at + 1]);
     if admitted {
         return Outcome::Refused(3);
     }

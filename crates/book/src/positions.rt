@@ -19,7 +19,7 @@ use file::holding::{
 use file::release::release_floor;
 use file::{Outcome, Position, Slot};
 use layout::files::{calls, slot_at, slots};
-use layout::parts::{admitted, number, put_slot};
+use layout::parts::{flag, number, put_slot};
 
 // Whether an outcome is no refusal.
 pub fn is_done(answer: Outcome) -> bool
@@ -38,7 +38,7 @@ fn lodge_answer(words: &[u64], participant: u64, position: u64, holding: Positio
         ≡ file_answer (file_in_words words.now participant) (today_in words.now) (lodge position holding) }
 {
     let at = 2 + 96 * participant as usize;
-    let admitted = admitted(words[at + 1]);
+    let admitted = flag(words[at + 1]);
     if !admitted {
         return Outcome::Refused(2);
     }
@@ -118,7 +118,7 @@ fn release_answer(words: &[u64], participant: u64, position: u64, amount: u64) -
         ≡ file_answer (file_in_words words.now participant) (today_in words.now) (release position amount) }
 {
     let at = 2 + 96 * participant as usize;
-    let admitted = admitted(words[at + 1]);
+    let admitted = flag(words[at + 1]);
     if !admitted {
         return Outcome::Refused(2);
     }

@@ -12,7 +12,7 @@ use calendar::Day;
 use file::Statement;
 use file::cover::less_cover;
 use layout::files::cover_at;
-use layout::parts::{admitted, number};
+use layout::parts::{flag, number};
 
 // Today.
 pub fn today(words: &[u64]) -> Day
@@ -39,7 +39,7 @@ pub fn is_admitted(words: &[u64], participant: u64) -> bool
         return false;
     }
     let at = 2 + 96 * participant as usize;
-    admitted(words[at + 1])
+    flag(words[at + 1])
 }
 
 // The role of a participant, 0 if it isn't admitted.
@@ -63,7 +63,7 @@ pub fn statement(words: &[u64], participant: u64) -> Stated
         return Stated::Refused(1);
     }
     let at = 2 + 96 * participant as usize;
-    let admitted = admitted(words[at + 1]);
+    let admitted = flag(words[at + 1]);
     if !admitted {
         return Stated::Refused(2);
     }

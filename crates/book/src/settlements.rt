@@ -17,7 +17,7 @@ use calendar::{Day, Month, month_of};
 use file::settle::{check_due, outside_months};
 use file::{MonthTotal, OpenCall, Settled, ring_place};
 use layout::files::cover_at;
-use layout::parts::{admitted, number, put_call, put_total};
+use layout::parts::{flag, number, put_call, put_total};
 use manual::figures::sum_figures;
 use manual::monthly::check;
 use manual::{Check, Sum};
@@ -77,7 +77,7 @@ pub fn settle_answer(words: &[u64], participant: u64, outside: bool, due: bool, 
     ensures { AnswersSettlement words.now participant outside due sum (settled_says result) }
 {
     let at = 2 + 96 * participant as usize;
-    let admitted = admitted(words[at + 1]);
+    let admitted = flag(words[at + 1]);
     if !admitted {
         return Settled::Refused(2);
     }

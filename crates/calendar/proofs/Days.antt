@@ -4,11 +4,10 @@ use Prim.Native.Nat.{ℕ, ◌+◌, ◌-◌, ◌≤◌, ◌<◌, ◌%◌}
 use mathlib.Core.Path.{◌≡◌, refl, sym, ap, ◌∙◌}
 use mathlib.Core.Bool.{Bool, true, false, cond, ◌&&◌, true≢false, false≢true}
 use native.Mathlib.Omega.{arith}
-use borrow.Author.Tests.{eq-eqb, ne_eqb, eqb-false, le-leb, lt-leb}
+use borrow.Author.Tests.{eq-eqb, ne_eqb, le-leb, lt-leb}
 use lib.Dec.{eqb, leb}
 use Rattle.calendar.specs.Civil.{month_of, first_day, first_day_of, day_of_month, day_of_month_of}
-use Rattle.calendar.specs.Civil.{is_september, in_september, place_of, in_annual_days, is_deletion_month, in_deletion_months, is_first_october}
-use Rattle.laws.specs.Cases.{split}
+use Rattle.calendar.specs.Civil.{is_september, in_september, place_of, in_annual_days, is_first_october}
 use Rattle.calendar.specs.Laws.{month_of-last, month_of-first}
 use Rattle.calendar.proofs.Lengths.{first_day_of-is}
 
@@ -26,22 +25,6 @@ october m h = sym (eq-eqb (m % 12) 9 h)
 
 pub no-october : (m : ℕ) → (m % 12 ≡ 9 → ⊥) → false ≡ eqb (place_of m) 9
 no-october m h = sym (ne_eqb (m % 12) 9 h)
-
--- .. and the two months of a deletion
-pub deletion-month : (m : ℕ) → 6 < m % 12 → m % 12 < 9 → true ≡ is_deletion_month m
-unfolding is_deletion_month
-deletion-month m h k =
-    split (eqb (m % 12) 7)
-    (λ e. rw e refl)
-    (λ e. rw (e, eq-eqb (m % 12) 8 (omega (arith, eqb-false (m % 12) 7 e))) refl)
-
-pub month-before : (m : ℕ) → m % 12 < 7 → false ≡ is_deletion_month m
-unfolding is_deletion_month
-month-before m h = rw (ne_eqb (m % 12) 7 (λ e. omega arith), ne_eqb (m % 12) 8 (λ e. omega arith)) refl
-
-pub month-behind : (m : ℕ) → 8 < m % 12 → false ≡ is_deletion_month m
-unfolding is_deletion_month
-month-behind m h = rw (ne_eqb (m % 12) 7 (λ e. omega arith), ne_eqb (m % 12) 8 (λ e. omega arith)) refl
 
 -- the first day of a day's month
 pub first-of-day : (d m f : ℕ) → d ≤ 29219 → m ≡ month_of d → f ≡ first_day_of m → f ≡ first_day (month_of d)
@@ -71,15 +54,6 @@ september-none d h = rw (lt-leb d 29219 h)
 pub september-by-month : (d m : ℕ) (t : Bool) → d ≤ 29219 → m ≡ month_of d → t ≡ is_september m → t ≡ in_september d
 unfolding in_september
 september-by-month d m t h e f = rw (le-leb d 29219 h) (f ∙ ap is_september e)
-
--- a day in one of the two months of a deletion
-pub deletion-none : (d : ℕ) → 29219 < d → false ≡ in_deletion_months d
-unfolding in_deletion_months
-deletion-none d h = rw (lt-leb d 29219 h)
-
-pub deletion-by-month : (d m : ℕ) (t : Bool) → d ≤ 29219 → m ≡ month_of d → t ≡ is_deletion_month m → t ≡ in_deletion_months d
-unfolding in_deletion_months
-deletion-by-month d m t h e f = rw (le-leb d 29219 h) (f ∙ ap is_deletion_month e)
 
 -- a day of the annual run: in a September, and up to the tenth
 annual-parts : (a s : Bool) (x : ℕ) → (a && s) ≡ true → leb (cond a x 0) 10 ≡ (a && (s && leb x 10))

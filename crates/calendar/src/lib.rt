@@ -2,7 +2,7 @@
 // month 0 is January 2020. A day number and a month number are types of their own, converted only here.
 ghost use Rattle.std.specs.Prelude.{◌≡◌, eqb};
 ghost use Rattle.calendar.specs.Civil.{month_of, first_day_of, day_of_month_of, is_september, in_september};
-ghost use Rattle.calendar.specs.Civil.{place_of, in_annual_days, is_deletion_month, in_deletion_months, is_first_october};
+ghost use Rattle.calendar.specs.Civil.{place_of, in_annual_days, is_first_october};
 
 mod year; // year.rt: leap years, the lengths of months, and the months of a year
 mod date; // date.rt: dates by year, month and day of the month
@@ -107,27 +107,6 @@ pub fn in_annual_days(day: Day) -> bool
     } else {
         false
     }
-}
-
-// Whether a month is an August or a September.
-fn is_deletion_month(month: Month) -> bool
-    ensures { result ≡ is_deletion_month month.0 }
-{
-    match month.0 % 12 {
-        0..=6 => false,
-        7..=8 => true,
-        _ => false,
-    }
-}
-
-// Whether a day lies in an August or a September, in which a participant may be placed under deletion.
-pub fn in_deletion_months(day: Day) -> bool
-    ensures { result ≡ in_deletion_months day.0 }
-{
-    if LAST_DAY < day.0 {
-        return false;
-    }
-    is_deletion_month(month_of(day))
 }
 
 // Whether a day is a 1 October.

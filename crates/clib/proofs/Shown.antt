@@ -1,7 +1,6 @@
 -- Each case of an answer, as numbers.
 -- Assumes nothing.
 use Prim.Native.Nat.{ℕ, ◌≤◌}
-use mathlib.Core.Bool.{Bool}
 use mathlib.Core.Path.{◌≡◌, sym, ap, subst, ◌∙◌}
 use native.Mathlib.Omega.{arith}
 use lib.IntN.{ℤ, pos, nat_abs}
@@ -12,10 +11,8 @@ use Rattle.laws.specs.Signed.{fits_nat_abs}
 use Rattle.calendar.specs.declared.Day.{Day}
 use Rattle.file.specs.declared.Settled.{Settled}
 use Rattle.file.specs.declared.AnnualRun.{AnnualRun}
-use Rattle.file.specs.declared.Deletion.{Deletion}
 use Rattle.file.specs.declared.Statement.{Statement}
-use Rattle.file.specs.Answer.{settled_says, annual_says, deletion_says}
-use Rattle.layout.specs.Parts.{flag_word}
+use Rattle.file.specs.Answer.{settled_says, annual_says}
 use Rattle.book.specs.declared.Advanced.{Advanced}
 use Rattle.book.specs.declared.Stated.{Stated}
 use Rattle.book.specs.declared.Loaded.{Loaded}
@@ -24,12 +21,10 @@ use Rattle.special.specs.declared.Special.{Special}
 use Rattle.clib.specs.declared.GuaranteeSettled.{GuaranteeSettled}
 use Rattle.clib.specs.declared.GuaranteeBatch.{GuaranteeBatch}
 use Rattle.clib.specs.declared.GuaranteeAnnual.{GuaranteeAnnual}
-use Rattle.clib.specs.declared.GuaranteeDeletion.{GuaranteeDeletion}
 use Rattle.clib.specs.declared.GuaranteeAdvanced.{GuaranteeAdvanced}
 use Rattle.clib.specs.declared.GuaranteeStatement.{GuaranteeStatement}
 use Rattle.clib.specs.declared.GuaranteeSpecial.{GuaranteeSpecial}
-use Rattle.clib.specs.Numbers.{settled_numbers, batch_numbers, annual_numbers, deletion_numbers, advanced_numbers, statement_numbers, special_numbers}
-use Rattle.clib.specs.Numbers.{SmallTotal}
+use Rattle.clib.specs.Numbers.{settled_numbers, batch_numbers, annual_numbers, advanced_numbers, statement_numbers, special_numbers, SmallTotal}
 
 -- ---- a settlement
 
@@ -91,15 +86,6 @@ annual-amount a n m h = sym (ap (λ (x : AnnualRun). annual_numbers (annual_says
 pub annual-refused : (a : AnnualRun) (n : ℕ) → a ≡ AnnualRun.Refused n
     → ◌≡◌ {A = GuaranteeAnnual} (record { refusal = n; amount = 0; months = 0 }) (annual_numbers (annual_says a))
 annual-refused a n h = sym (ap (λ (x : AnnualRun). annual_numbers (annual_says x)) h)
-
-pub deletion-placed : (a : Deletion) (n m : ℕ) (c : Bool) → a ≡ Deletion.Placed n c → m ≡ flag_word c
-    → ◌≡◌ {A = GuaranteeDeletion} (record { refusal = 0; amount = n; called = m }) (deletion_numbers (deletion_says a))
-deletion-placed a n m c h e =
-    ap (λ (k : ℕ). record { refusal = 0; amount = n; called = k }) e ∙ sym (ap (λ (x : Deletion). deletion_numbers (deletion_says x)) h)
-
-pub deletion-refused : (a : Deletion) (n : ℕ) → a ≡ Deletion.Refused n
-    → ◌≡◌ {A = GuaranteeDeletion} (record { refusal = n; amount = 0; called = 0 }) (deletion_numbers (deletion_says a))
-deletion-refused a n h = sym (ap (λ (x : Deletion). deletion_numbers (deletion_says x)) h)
 
 pub advanced-opened : (a : Advanced) (n : ℕ) → a ≡ Advanced.Opened n
     → ◌≡◌ {A = GuaranteeAdvanced} (record { refusal = 0; opened = n }) (advanced_numbers (advanced_says a))

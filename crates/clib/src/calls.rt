@@ -1,20 +1,17 @@
 // The calls that change a book (paper 01, 'The calls', and paper 02).
 ghost use Rattle.file.specs.declared.Position.TheVariants.{Cash, Letter};
-ghost use Rattle.book.specs.Call.{admit, lodge, release, settle, annual_run, delete, on, advance, batch};
+ghost use Rattle.book.specs.Call.{admit, lodge, release, settle, annual_run, on, advance, batch};
 ghost use Rattle.book.specs.InWords.{GivenWords, BegunWords};
-ghost use Rattle.clib.specs.Numbers.{refusal_number, settled_numbers, batch_numbers, annual_numbers, deletion_numbers, advanced_numbers};
+ghost use Rattle.clib.specs.Numbers.{refusal_number, settled_numbers, batch_numbers, annual_numbers, advanced_numbers};
 ghost use Rattle.clib.specs.Returned.{FormedIfBook, Returned};
 
 use crate::numbers::{
-    advanced_numbers, annual_numbers, batch_numbers, deletion_numbers, outcome_number,
-    settled_numbers,
+    advanced_numbers, annual_numbers, batch_numbers, outcome_number, settled_numbers,
 };
-use crate::{
-    GuaranteeAdvanced, GuaranteeAnnual, GuaranteeBatch, GuaranteeDeletion, GuaranteeSettled,
-};
+use crate::{GuaranteeAdvanced, GuaranteeAnnual, GuaranteeBatch, GuaranteeSettled};
 use book::{Advanced, Loaded};
 use calendar::{Day, Month};
-use file::{AnnualRun, Deletion, Outcome, Position, Settled};
+use file::{AnnualRun, Outcome, Position, Settled};
 
 // A fresh book on a day, in words of any content; beside the refusal 17 stands the fresh book of day 0.
 #[unsafe(no_mangle)]
@@ -140,19 +137,6 @@ pub extern "C" fn guarantee_annual_run(words: &mut [u64], participant: u64) -> G
         return annual_numbers(AnnualRun::Refused(100));
     }
     annual_numbers(book::annual_run(words, participant))
-}
-
-// Places a participant under deletion.
-#[unsafe(no_mangle)]
-pub extern "C" fn guarantee_delete(words: &mut [u64], participant: u64) -> GuaranteeDeletion
-    requires { FormedIfBook words.old }
-    ensures { Returned deletion_numbers words.old
-        (GivenWords words.old (on participant delete)) result words.new }
-{
-    if words.len() != 6147 {
-        return deletion_numbers(Deletion::Refused(100));
-    }
-    deletion_numbers(book::delete(words, participant))
 }
 
 // Opens the days after today in turn until a day, or until a budget of days is spent.

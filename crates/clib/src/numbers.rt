@@ -1,17 +1,16 @@
 // Answers as numbers.
 ghost use Rattle.std.specs.Prelude.{◌≡◌};
-ghost use Rattle.file.specs.Answer.{outcome_says, settled_says, annual_says, deletion_says};
+ghost use Rattle.file.specs.Answer.{outcome_says, settled_says, annual_says};
 ghost use Rattle.book.specs.Call.{advanced_says, stated_says, loaded_says};
 ghost use Rattle.clib.specs.Numbers.{refusal_number, settled_numbers, batch_numbers, annual_numbers, advanced_numbers, statement_numbers};
-ghost use Rattle.clib.specs.Numbers.{deletion_numbers, special_numbers, SmallTotal};
+ghost use Rattle.clib.specs.Numbers.{special_numbers, SmallTotal};
 
 use crate::{
-    GuaranteeAdvanced, GuaranteeAnnual, GuaranteeBatch, GuaranteeDeletion, GuaranteeSettled,
-    GuaranteeSpecial, GuaranteeStatement,
+    GuaranteeAdvanced, GuaranteeAnnual, GuaranteeBatch, GuaranteeSettled, GuaranteeSpecial,
+    GuaranteeStatement,
 };
 use book::{Advanced, Loaded, Stated};
-use file::{AnnualRun, Deletion, Outcome, Settled};
-use layout::parts::flag_word;
+use file::{AnnualRun, Outcome, Settled};
 use special::Special;
 
 // An outcome's number.
@@ -93,24 +92,6 @@ pub fn annual_numbers(answer: AnnualRun) -> GuaranteeAnnual
             refusal: number as u64,
             amount: 0,
             months: 0,
-        },
-    }
-}
-
-// A deletion's numbers.
-pub fn deletion_numbers(answer: Deletion) -> GuaranteeDeletion
-    ensures { result ≡ deletion_numbers (deletion_says answer) }
-{
-    match answer {
-        Deletion::Placed(amount, called) => GuaranteeDeletion {
-            refusal: 0,
-            amount,
-            called: flag_word(called),
-        },
-        Deletion::Refused(number) => GuaranteeDeletion {
-            refusal: number as u64,
-            amount: 0,
-            called: 0,
         },
     }
 }

@@ -52,7 +52,6 @@ rule-more seen Request.Calls zs = refl
 rule-more seen (Request.Special n) zs = refl
 rule-more seen (Request.Batch n) zs = refl
 rule-more seen Request.RoleRetired zs = refl
-rule-more seen (Request.Delete p) zs = refl
 rule-more seen Request.Report zs = refl
 rule-more seen (Request.Error e) zs = refl
 

@@ -54,7 +54,6 @@ no-mark rule b n Request.Calls zs h = refl
 no-mark rule b n (Request.Special k) zs h = refl
 no-mark rule b n (Request.Batch k) zs h = refl
 no-mark rule b n Request.RoleRetired zs h = sym h
-no-mark rule b n (Request.Delete p) zs h = refl
 no-mark rule b n Request.Report zs h = refl
 no-mark rule b n (Request.Error e) zs h = refl
 
@@ -73,7 +72,6 @@ unrefused (Answer.Calls n) h = refl
 unrefused (Answer.Special c) h = refl
 unrefused (Answer.Batch n) h = refl
 unrefused (Answer.RefusedPair n i) h = sym h
-unrefused (Answer.Deletion a m) h = refl
 unrefused (Answer.Error l e) h = sym h
 
 -- ---- what a kept line asks

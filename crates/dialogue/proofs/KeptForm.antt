@@ -52,7 +52,6 @@ first_byte Request.Calls zs = refl
 first_byte (Request.Special n) zs = refl
 first_byte (Request.Batch n) zs = refl
 first_byte Request.RoleRetired zs = refl
-first_byte (Request.Delete p) zs = refl
 first_byte Request.Report zs = refl
 first_byte (Request.Error e) zs = refl
 

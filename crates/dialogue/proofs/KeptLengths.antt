@@ -101,7 +101,6 @@ printed-short Request.Calls zs f = omega arith
 printed-short (Request.Special n) zs f = simp length-append (omega (arith, lists-short are_marks (length_list n) zs f.2 f.0))
 printed-short (Request.Batch n) zs f = file-short n zs
 printed-short Request.RoleRetired zs f = omega arith
-printed-short (Request.Delete p) zs f = simp length-append (omega (arith, natural p f.0))
 printed-short Request.Report zs f = omega arith
 printed-short (Request.Error e) zs f = absurd f
 
@@ -125,7 +124,6 @@ taken-accepted (Said.stated f c s d a) h = refl
 taken-accepted (Said.counted n) h = refl
 taken-accepted (Said.batched n) h = refl
 taken-accepted (Said.refused_pair n i) h = h
-taken-accepted (Said.deletion a n) h = refl
 
 -- The bytes of an accepted batch.
 batch-few : (rule : Rule) (b : Book) (n : ℕ) (zs : List ℤ) → n ≡ length zs → accepted (answer rule b (batch (batch_bytes n zs))) ≡ true
@@ -155,6 +153,5 @@ kept-short rule b k (Request.Special n) zs f e h = clash {t = false} (sym (speci
 kept-short rule b k (Request.Batch n) zs f e h =
     omega (arith, batch-short n zs, batch-few rule b n zs e (taken-accepted (answer rule b (batch (batch_bytes n zs))) h))
 kept-short rule b k Request.RoleRetired zs f e h = omega (arith, printed-short Request.RoleRetired zs f)
-kept-short rule b k (Request.Delete p) zs f e h = omega (arith, printed-short (Request.Delete p) zs f)
 kept-short rule b k Request.Report zs f e h = omega (arith, printed-short Request.Report zs f)
 kept-short rule b k (Request.Error w) zs f e h = absurd f

@@ -68,5 +68,4 @@ said-short (Answer.Calls n) h = simp length-append (omega (arith, number_short n
 said-short (Answer.Special c) h = simp length-append (omega (arith, number_short c h))
 said-short (Answer.Batch n) h = simp length-append (omega (arith, number_short n h))
 said-short (Answer.RefusedPair n i) h = simp length-append (omega (arith, number_short n h.0, number_short i h.1))
-said-short (Answer.Deletion a m) h = simp length-append (omega (arith, number_short a h.0, number_short m h.1))
 said-short (Answer.Error l e) h = simp length-append (omega (arith, number_short l h, reason-short e))

@@ -20,7 +20,7 @@ use Rattle.printing.proofs.ParsedFits.{parsed-fitting}
 use Rattle.report.specs.Table.{report_text}
 use Rattle.answering.specs.Asked.{Asked, asked, answer_to, book_after}
 use Rattle.answering.specs.InWords.{AnsweredWords}
-use Rattle.answering.specs.Kept.{takes, refuses, is_role_retired, kept_line_lem, retired_line}
+use Rattle.answering.specs.Kept.{takes, refuses, is_role_retired, kept_line, retired_line}
 use Rattle.answering.specs.Lines.{line_request, LineIs}
 use Rattle.answering.proofs.OwnNumbers.{own, asked-cut}
 use Rattle.answering.proofs.ParsedLines.{parsed-own, call-is-parsed}
@@ -111,9 +111,9 @@ pub by-new-rule : (way : Way) (p : Place) (l : List ℕ) (n : ℕ) (a : Asked) (
 by-new-rule way p l n a x m e g = rw e g
 
 -- The line of the mark.
-pub put-marked : (t : Bool) (ys : List ℤ) (e f : List ℕ) (at r : ℕ) → t ≡ true → Put (kept_line_lem Request.RoleRetired ys) e at r f
+pub put-marked : (t : Bool) (ys : List ℤ) (e f : List ℕ) (at r : ℕ) → t ≡ true → Put (kept_line Request.RoleRetired ys) e at r f
     → Put (cond t retired_line []) e at r f
-unfolding kept_line_lem
+unfolding kept_line
 put-marked t ys e f at r h x = rw h x
 
 -- ---- the call that is kept
@@ -134,7 +134,6 @@ is_call rule b n Request.Calls ys h = tt
 is_call rule b n (Request.Special k) ys h = tt
 is_call rule b n (Request.Batch k) ys h = tt
 is_call rule b n Request.RoleRetired ys h = tt
-is_call rule b n (Request.Delete p) ys h = tt
 is_call rule b n Request.Report ys h = tt
 is_call rule b n (Request.Error e) ys h = clash {t = false} h refl
 
@@ -163,8 +162,8 @@ line-call false kept l zs ys q c x = short-call kept l zs ys q c x
 
 -- What is printed of it is the line's numeric form.
 kept-printed : (l : List ℕ) (room : ℕ) (q : Request) (ys : List ℤ) → KeptCall l room q ys
-    → kept_line_lem q ys ≡ printed (parsed room l).request (parsed room l).numbers ++ (10 ∷ [])
-unfolding kept_line_lem
+    → kept_line q ys ≡ printed (parsed room l).request (parsed room l).numbers ++ (10 ∷ [])
+unfolding kept_line
 kept-printed l room q ys k =
     ap (λ (z : Request). printed z (own z ys) ++ (10 ∷ [])) k.same
     ∙ ap (λ (zs : List ℤ). printed (parsed room l).request zs ++ (10 ∷ [])) k.mine
@@ -229,7 +228,7 @@ module _ (way : Way) (p : Place) (l : List ℕ) (zs ys : List ℤ) (request : Re
         (ap takes (sym given.given.answered) ∙ and_right way.keeps (takes answer) (sym kept ∙ h)))
 
     -- its own line
-    own_line : cond t (kept_line_lem request ys) []
+    own_line : cond t (kept_line request ys) []
         ≡ cond (is_kept way (length zs) (state_of words p) l) (numeric (length zs) p.line l ++ (10 ∷ [])) []
     unfolding numeric
     own_line =
@@ -237,7 +236,7 @@ module _ (way : Way) (p : Place) (l : List ℕ) (zs ys : List ℤ) (request : Re
         (λ h. rw (kept_line_lem, h) (kept-printed (text_of p.line l) (length zs) request ys (taken-call h)))
         (λ h. rw (kept_line_lem, h) refl)
 
-    own-few : length zs ≤ 18446744073709551615 → length (cond t (kept_line_lem request ys) []) ≤ 20001
+    own-few : length zs ≤ 18446744073709551615 → length (cond t (kept_line request ys) []) ≤ 20001
     own-few long =
         split t
         (λ h.
@@ -269,10 +268,10 @@ module _ (way : Way) (p : Place) (l : List ℕ) (zs ys : List ℤ) (request : Re
           ∙ ap (further p (is_kept way (length zs) (state_of words p) l) (refuses (answer_of way (length zs) (state_of words p) l))) (sym marked-line) in
           λ i. record { book = left-book i; place = f i }
 
-      journal-line : cond (way.keeps && v) retired_line [] ++ cond t (kept_line_lem request ys) [] ≡ journal_of way (length zs) (state_of words p) l
+      journal-line : cond (way.keeps && v) retired_line [] ++ cond t (kept_line request ys) [] ≡ journal_of way (length zs) (state_of words p) l
       unfolding journal_of
       journal-line =
-          ap (λ (z : Bool). cond (way.keeps && z) retired_line [] ++ cond t (kept_line_lem request ys) []) (sym marked-line)
+          ap (λ (z : Bool). cond (way.keeps && z) retired_line [] ++ cond t (kept_line request ys) []) (sym marked-line)
           ∙ ap (λ (z : List ℕ). cond (way.keeps && ends_at way (length zs) (state_of words p) l) retired_line [] ++ z) own_line
 
       journal-few : length zs ≤ 18446744073709551615 → length (journal_of way (length zs) (state_of words p) l) ≤ 20480
@@ -280,17 +279,17 @@ module _ (way : Way) (p : Place) (l : List ℕ) (zs ys : List ℤ) (request : Re
           rw (← journal-line)
           (omega (
             arith,
-            length-append (cond (way.keeps && v) retired_line []) (cond t (kept_line_lem request ys) []),
+            length-append (cond (way.keeps && v) retired_line []) (cond t (kept_line request ys) []),
             own-few long,
             mark-few (way.keeps && v),
           ))
 
 pub added : (request : Request) (answer : Answer) (kept marked : Bool) (ys : List ℤ) (words j i k : List ℕ) (x o y : ℕ) (e f g : List ℕ)
-    (at a b : ℕ) → Put (cond marked retired_line []) j x o i → Put (cond kept (kept_line_lem request ys) []) i o y k → Said answer e at a f
+    (at a b : ℕ) → Put (cond marked retired_line []) j x o i → Put (cond kept (kept_line request ys) []) i o y k → Said answer e at a f
     → Tabled request (book_of_words words) f a b g → Added request answer kept marked ys words j x e at y k b g
 added request answer kept marked ys words j i k x o y e f g at a b v w c d =
     record {
-      journal = put_then (cond marked retired_line []) (cond kept (kept_line_lem request ys) []) j i k x o y v w;
+      journal = put_then (cond marked retired_line []) (cond kept (kept_line request ys) []) j i k x o y v w;
       bytes = put_then (said answer) (tabled request (book_of_words words)) e f g at a b c.put d.put;
       most = omega (arith, length-append (said answer) (tabled request (book_of_words words)), c.most, d.most);
     }

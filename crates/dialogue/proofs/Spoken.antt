@@ -48,8 +48,5 @@ module _ (a : Answer) where
     pub says-refused-pair : (n i : ℕ) → a ≡ Answer.RefusedPair n i → (r ≡ true) × Small n × Small i → Spoken a r
     says-refused-pair n i e h = rw e (record { whether = h.0; small = (h.1, h.2) })
 
-    pub says-deletion : (x y : ℕ) → a ≡ Answer.Deletion x y → (r ≡ true) × Small x × Small y → Spoken a r
-    says-deletion x y e h = rw e (record { whether = h.0; small = (h.1, h.2) })
-
     pub says-error : (n : ℕ) (w : Reason) → a ≡ Answer.Error n w → (r ≡ true) × Small n → Spoken a r
     says-error n w e h = rw e (record { whether = h.0; small = h.1 })

@@ -26,7 +26,6 @@ speaks (Answer.Calls n) = true
 speaks (Answer.Special c) = true
 speaks (Answer.Batch n) = true
 speaks (Answer.RefusedPair n i) = true
-speaks (Answer.Deletion a m) = true
 speaks (Answer.Error l e) = true
 
 -- The numbers of an answer are of 64 bits.
@@ -47,7 +46,6 @@ SmallNumbers (Answer.Calls n) = Small n
 SmallNumbers (Answer.Special c) = Small c
 SmallNumbers (Answer.Batch n) = Small n
 SmallNumbers (Answer.RefusedPair n i) = Small n × Small i
-SmallNumbers (Answer.Deletion a m) = Small a × Small m
 SmallNumbers (Answer.Error l e) = Small l
 
 -- Whether an answer says something is r; its numbers are small.
@@ -76,7 +74,6 @@ wants_table Request.Calls = false
 wants_table (Request.Special n) = false
 wants_table (Request.Batch n) = false
 wants_table Request.RoleRetired = false
-wants_table (Request.Delete p) = false
 wants_table (Request.Error e) = false
 
 -- `report`: the table of the book.

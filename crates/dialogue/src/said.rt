@@ -70,7 +70,6 @@ fn speaks(answer: Answer) -> bool
         Answer::Special(cents) => one(cents),
         Answer::Batch(n) => one(n),
         Answer::RefusedPair(n, pair) => two(n as u64, pair),
-        Answer::Deletion(amount, called) => two(amount, called),
         Answer::Error(line, _) => one(line),
         Answer::Nothing => false,
     }
@@ -95,7 +94,6 @@ fn wants_table(request: Request) -> bool
         Request::Special(_) => false,
         Request::Batch(_) => false,
         Request::RoleRetired => false,
-        Request::Delete(_) => false,
         Request::Report => true,
         Request::Error(_) => false,
     }

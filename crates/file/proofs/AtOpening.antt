@@ -227,7 +227,6 @@ module _ (f : File) (d : ℕ) (left : CallsLeft) (left_is : left ≡ calls_left 
         → days ≡ cond (eqb shortfall 0) 0 1 → charge ≡ day_charge shortfall →
         record {
           admitted = f.admitted;
-          leaving = f.leaving;
           role = f.role;
           firm = firm;
           slots = slots;

@@ -15,7 +15,6 @@ module _ (f : File) (t role minimum : ℕ) (blank : f ≡ no_file) (e : minimum 
   pub admitted-called : 0 < minimum →
       record {
         admitted = true;
-        leaving = f.leaving;
         role = role;
         firm = f.firm;
         slots = f.slots;
@@ -34,7 +33,6 @@ module _ (f : File) (t role minimum : ℕ) (blank : f ≡ no_file) (e : minimum 
   pub admitted-free : minimum ≤ 0 →
       record {
         admitted = true;
-        leaving = f.leaving;
         role = role;
         firm = f.firm;
         slots = f.slots;

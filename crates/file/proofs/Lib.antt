@@ -6,5 +6,3 @@ pub mod Releases
 pub mod AtOpening
 pub mod Settling
 pub mod Windows
-pub mod Runs
-pub mod Deletions

@@ -1,4 +1,4 @@
--- The recorded totals of a window of months, by the tests that the code makes. Assumes nothing.
+-- The recorded totals of the annual run's window, by the tests that the code makes. Assumes nothing.
 use Prim.Native.Nat.{ℕ, zero, suc, ◌+◌, ◌-◌, ◌%◌, ◌≤◌, ◌<◌}
 use mathlib.Core.Path.{◌≡◌, refl, sym, ◌∙◌, ap}
 use mathlib.Core.Bool.{Bool, true, false, not, ◌&&◌, and-false}
@@ -14,7 +14,7 @@ use Rattle.calendar.specs.Civil.{month_of, in_annual_days}
 use Rattle.manual.specs.Annual.{annual_amount}
 use Rattle.file.specs.declared.File.{File}
 use Rattle.file.specs.declared.MonthTotal.{MonthTotal}
-use Rattle.file.specs.declared.window.Recorded.{Recorded}
+use Rattle.file.specs.declared.annual.Recorded.{Recorded}
 use Rattle.file.specs.Answer.{refused, annual, decide, accepted}
 use Rattle.file.specs.Fields.{set_to, with_next}
 use Rattle.file.specs.Annual.{annual_totals, annual_amount_of, annual_answer, annual_file}
@@ -45,7 +45,7 @@ module _ (found : Recorded) (place : MonthTotal) (month : ℕ) where
 
   -- a recorded total takes the next place
   pub month-recorded : (e : ℤ) (same : Bool) → not place.recorded ≡ false → same ≡ eqb place.month.0 month → not same ≡ false
-      → e ≡ place.total → found.count < 13 → (passed : List ℤ) → found ≡ recorded_in passed
+      → e ≡ place.total → found.count < 12 → (passed : List ℤ) → found ≡ recorded_in passed
       → record { totals = set found.totals found.count e; count = found.count + 1 }
       ≡ recorded_in (passed ++ added (total_here month place) [])
   unfolding total_here recorded_in
@@ -53,11 +53,11 @@ module _ (found : Recorded) (place : MonthTotal) (month : ℕ) where
       let both = and_both place.recorded _ (not-false place.recorded h) (sym s ∙ not-false same m) in
       let here : total_here month place ≡ total e = cond-true _ _ none both ∙ ap total (sym v) in
       let n : found.count ≡ length passed = ap (λ (r : Recorded). r.count) p in
-      let l : found.totals ≡ passed ++ replicate (13 - length passed) (pos 0) = ap (λ (r : Recorded). r.totals) p in
+      let l : found.totals ≡ passed ++ replicate (12 - length passed) (pos 0) = ap (λ (r : Recorded). r.totals) p in
       recorded-path
       (ap (λ (t : List ℤ). set t found.count e) l
-      ∙ ap (λ (i : ℕ). set (passed ++ replicate (13 - length passed) (pos 0)) i e) n
-      ∙ fill-next (pos 0) 13 passed e (omega arith))
+      ∙ ap (λ (i : ℕ). set (passed ++ replicate (12 - length passed) (pos 0)) i e) n
+      ∙ fill-next (pos 0) 12 passed e (omega arith))
       (ap (λ (i : ℕ). i + 1) n ∙ sym (length-append passed (e ∷ [])))
       ∙ ap recorded_in (sym (ap (λ (x : Total). passed ++ added x []) here))
 
@@ -68,7 +68,7 @@ module _ (totals : List MonthTotal) (end n : ℕ) where
   Passed found left = found ≡ recorded_in (totals_from (total_at totals) (end - n) (n - left))
 
   -- with none passed
-  pub window-none : Passed record { totals = replicate 13 (pos 0); count = 0 } n
+  pub window-none : Passed record { totals = replicate 12 (pos 0); count = 0 } n
   unfolding recorded_in totals_from
   window-none = let e : n - n ≡ 0 = omega arith in rw e refl
 
@@ -89,7 +89,7 @@ module _ (totals : List MonthTotal) (end n : ℕ) where
 
 -- there is a place for the next
 pub window-short : (found : Recorded) (totals : List MonthTotal) (end n left : ℕ) → Passed totals end n found left
-    → 0 < left → left ≤ n → n ≤ 13 → found.count < 13
+    → 0 < left → left ≤ n → n ≤ 12 → found.count < 12
 unfolding recorded_in
 window-short found totals end n left e z h k =
     omega (arith, ap (λ (r : Recorded). r.count) e, totals-length (total_at totals) (end - n) (n - left))
@@ -111,7 +111,7 @@ window-all found totals first end n left k e z =
 -- what was found is in front
 pub window-front : (found : Recorded) (l : List ℤ) → found ≡ recorded_in l → take found.count found.totals ≡ l
 unfolding recorded_in
-window-front found l e = ap (λ (r : Recorded). take r.count r.totals) e ∙ fill-take (pos 0) 13 l
+window-front found l e = ap (λ (r : Recorded). take r.count r.totals) e ∙ fill-take (pos 0) 12 l
 
 -- there are as many as were found
 pub window-count : (found : Recorded) (l : List ℤ) → found ≡ recorded_in l → found.count ≡ length (take found.count found.totals)
@@ -120,3 +120,47 @@ window-count found l e = ap (λ (r : Recorded). r.count) e ∙ sym (ap length (w
 
 pub window-inside : (found : Recorded) (l : List ℤ) → found ≡ recorded_in l → found.count ≤ length found.totals
 window-inside found l e = omega (arith, window-count found l e, length-take found.count found.totals)
+
+-- the window's months
+pub window-months : (p first end : ℕ) → first ≡ p - 14 → end ≡ p - 2 → end - first ≤ 12
+window-months p first end a b = omega arith
+
+-- ---- the run's answers and their files
+
+-- refused outside 1 to 10 September
+pub run-refused : (f : File) (t : ℕ) (inside : Bool) → inside ≡ in_annual_days t → not inside ≡ true
+    → (refused 14 ≡ annual_answer f t) × (f ≡ annual_file f t)
+unfolding annual_answer annual_file decide
+run-refused f t inside e h =
+    let q : not (in_annual_days t) ≡ true = ap not (sym e) ∙ h in
+    let a : annual_answer f t ≡ refused 14 = cond-true _ (refused 14) _ q in
+    (sym a, sym (cond-false _ _ f (ap accepted a)))
+
+-- done, with the amount of the recorded totals and their number
+module _ (f : File) (t : ℕ) (inside : Bool) (p first end : ℕ) (found : Recorded) (amount : ℕ)
+    (inside_is : inside ≡ in_annual_days t) (inside-yes : not inside ≡ false) (p-is : p ≡ month_of t) (first-is : first ≡ p - 14) (end_is : end ≡ p - 2)
+    (found-is : found ≡ recorded_in (totals_from (total_at f.totals) first (end - first)))
+    (amount-is : amount ≡ annual_amount f.role (take found.count found.totals)) where
+  window-totals : totals_from (total_at f.totals) first (end - first) ≡ annual_totals f t
+  unfolding annual_totals
+  window-totals = simp (first-is, end_is, p-is)
+
+  found-totals : take found.count found.totals ≡ annual_totals f t
+  found-totals = window-front found (totals_from (total_at f.totals) first (end - first)) found-is ∙ window-totals
+
+  run-amount : amount ≡ annual_amount_of f t
+  unfolding annual_amount_of
+  run-amount = amount-is ∙ ap (annual_amount f.role) found-totals
+
+  run-answer : annual_answer f t ≡ annual (annual_amount_of f t) (length (annual_totals f t))
+  unfolding annual_answer decide
+  run-answer = cond-false _ (refused 14) _ (ap not (sym inside_is) ∙ inside-yes)
+
+  pub run-done : (annual amount found.count ≡ annual_answer f t) × (with_next f (set_to amount) ≡ annual_file f t)
+  unfolding annual_file
+  run-done = (
+    ap (λ (a : ℕ). annual a found.count) run-amount
+        ∙ ap (annual (annual_amount_of f t)) (window-count found _ found-is ∙ ap length found-totals)
+        ∙ sym run-answer,
+    ap (λ (a : ℕ). with_next f (set_to a)) run-amount ∙ sym (cond-true _ _ f (ap accepted run-answer)),
+  )

@@ -11,8 +11,6 @@ use Rattle.file.specs.declared.Settled.{Settled}
 use Rattle.file.specs.declared.Settled.TheVariants as Settlements
 use Rattle.file.specs.declared.AnnualRun.{AnnualRun}
 use Rattle.file.specs.declared.AnnualRun.TheVariants as Runs
-use Rattle.file.specs.declared.Deletion.{Deletion}
-use Rattle.file.specs.declared.Deletion.TheVariants as Deletions
 use Rattle.file.specs.declared.Statement.{Statement}
 
 -- The answers of paper 01, 'The calls' and 'Causes of refusal', and of paper 02.
@@ -39,8 +37,6 @@ pub data Answer : Type 0 where
   batched : ℕ → Answer
   -- .. "The first refusal is answered with its pair's index": the number, and the index
   refused_pair : ℕ → ℕ → Answer
-  -- paper 02, Ask 4, of a deletion: "The answer gives the amount and whether it became a call."
-  deletion : ℕ → Bool → Answer
 
 -- Whether an answer is no refusal.
 abbrev pub accepted : Answer → Bool
@@ -55,7 +51,6 @@ accepted (stated f c s d a) = true
 accepted (counted n) = true
 accepted (batched n) = true
 accepted (refused_pair n i) = false
-accepted (deletion a calls) = true
 
 -- The answer that each case of an outcome stands for.
 abbrev pub outcome_says : Outcome → Answer
@@ -73,11 +68,6 @@ settled_says (Settlements.Refused n) = refused n
 abbrev pub annual_says : AnnualRun → Answer
 annual_says (Runs.Amount a n) = annual a n
 annual_says (Runs.Refused n) = refused n
-
--- The answer that each case of a deletion stands for.
-abbrev pub deletion_says : Deletion → Answer
-deletion_says (Deletions.Placed a calls) = deletion a calls
-deletion_says (Deletions.Refused n) = refused n
 
 -- The answer that a statement stands for.
 abbrev pub statement_says : Statement → Answer

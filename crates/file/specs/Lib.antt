@@ -13,8 +13,6 @@ pub mod Settle
 pub mod DueCheck
 pub mod CheckLaws
 pub mod Annual
-pub mod Deletion
-pub mod DeletionLaws
 pub mod Window
 pub mod Ending
 pub mod Opening

@@ -12,7 +12,6 @@ impl File {
     {
         File {
             admitted: false,
-            leaving: false,
             role: 0,
             firm: 0,
             slots: [Slot {

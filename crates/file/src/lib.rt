@@ -7,11 +7,9 @@ mod admit;
 mod annual;
 pub mod cover;
 pub mod holding;
-mod leaving;
 mod opening;
 pub mod release;
 pub mod settle;
-mod window;
 
 // A position of a file: nothing, cash with its amount, or a letter with its amount, first and last day, both included.
 #[derive(Drop)]
@@ -56,12 +54,11 @@ pub fn ring_place(month: Month) -> usize
     (month.0 % 16) as usize
 }
 
-// A participant's file. It is `leaving` once the participant was placed under deletion (paper 02, Ask 4). The open calls are the first `count` of `calls`, oldest first, with zeros behind them; a month's total, where
+// A participant's file. The open calls are the first `count` of `calls`, oldest first, with zeros behind them; a month's total, where
 // recorded, is at its `ring_place` of `totals`.
 #[derive(Drop)]
 pub struct File {
     pub admitted: bool,
-    pub leaving: bool,
     pub role: u64,
     pub firm: u64,
     pub slots: [Slot; 8],
@@ -96,13 +93,6 @@ pub enum AnnualRun {
     Refused(u32),
 }
 
-// What a deletion answers: the amount and whether it became a call, or the number of its refusal.
-#[derive(Drop)]
-pub enum Deletion {
-    Placed(u64, bool),
-    Refused(u32),
-}
-
 // A statement: firm amount, cover, shortfall, days charged, accrued charge.
 #[derive(Drop)]
 pub struct Statement {
@@ -117,12 +107,5 @@ pub struct Statement {
 #[derive(Drop)]
 pub struct FileAnnual {
     pub answer: AnnualRun,
-    pub file: File,
-}
-
-// A file beside the answer of a deletion.
-#[derive(Drop)]
-pub struct FileDeletion {
-    pub answer: Deletion,
     pub file: File,
 }

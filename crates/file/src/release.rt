@@ -12,7 +12,7 @@ fn larger(a: u64, b: u64) -> u64
 }
 
 // The largest of an amount and the first `count` calls.
-pub fn largest_open(least: u64, calls: [OpenCall; 4], count: usize) -> u64
+fn largest_open(least: u64, calls: [OpenCall; 4], count: usize) -> u64
     requires { count ≤ 4 }
     ensures { result ≡ largest least (amounts_of (take count calls)) }
 {

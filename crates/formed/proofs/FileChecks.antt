@@ -2,17 +2,17 @@
 -- Assumes nothing.
 use Prim.Native.Nat.{ℕ, zero, suc, ◌+◌, ◌≤◌, ◌<◌}
 use mathlib.Core.Path.{◌≡◌, sym, ap, subst, ◌∙◌}
-use mathlib.Core.Bool.{Bool, true, false}
+use mathlib.Core.Bool.{Bool, true, false, not}
 use mathlib.Core.List.{List}
 use native.Mathlib.Omega.{arith}
 use native.Mathlib.Numerals.{add-one}
+use borrow.Author.Tests.{eq-eqb, ne_eqb}
 use lib.ListN.{length, get_or, replicate}
 use Rattle.laws.specs.Cases.{clash}
 use Rattle.file.specs.declared.File.{File}
 use Rattle.file.specs.Admit.{no_file}
 use Rattle.file.specs.Sound.{Sound}
 use Rattle.file.specs.KeepsPositions.{none-sound}
-use Rattle.layout.specs.Parts.{admitted_of}
 use Rattle.layout.specs.Files.{file_of_words, words_at, file_words, Put}
 use Rattle.layout.proofs.Written.{written_in}
 use Rattle.layout.proofs.FileLaws.{file-ext}
@@ -77,24 +77,29 @@ module _ (t : ℕ) (l : List ℕ) (at : ℕ) where
   unfolding SoundAt
   blank-sound day e = subst (Sound t) (sym e) (none-sound t day)
 
-  -- The first word says whether somebody is admitted.
-  admitted-is : (a b : Bool) → a ≡ admitted_of (get_or l (at + 1) 0) → a ≡ b → f.admitted ≡ b
+  -- A first word of 0 says that nobody is admitted.
+  not-admitted : get_or l (at + 1) 0 ≡ 0 → f.admitted ≡ false
   unfolding file_of_words
-  admitted-is a b e h = sym e ∙ h
+  not-admitted e = ap not (eq-eqb (get_or l (at + 1) 0) 0 e)
+
+  -- Another says that somebody is.
+  is-admitted : (get_or l (at + 1) 0 ≡ 0 → ⊥) → f.admitted ≡ true
+  unfolding file_of_words
+  is-admitted e = ap not (ne_eqb (get_or l (at + 1) 0) 0 e)
 
   -- Words that are not those of the file decide it.
   pub canonical-fails : (r : Bool) → Decides r (Canonical l at) → r ≡ false → Decides false (FormedFile t l at)
   canonical-fails r d e = says-no (λ s. d.no e s.canonical)
 
   -- Where nobody is admitted, whether they are zeros decides it.
-  pub blank-formed : (q a r : Bool) → t ≤ 29219 → Decides q (Canonical l at) → q ≡ true → a ≡ admitted_of (get_or l (at + 1) 0) → a ≡ false
-      → Decides r (Blank l at) → Decides r (FormedFile t l at)
-  blank-formed q a r day c e w z d =
+  pub blank-formed : (q r : Bool) → t ≤ 29219 → Decides q (Canonical l at) → q ≡ true → get_or l (at + 1) 0 ≡ 0 → Decides r (Blank l at)
+      → Decides r (FormedFile t l at)
+  blank-formed q r day c e z d =
       as-well d (λ b. record { canonical = c.yes e; sound = blank-sound day (file-none b); blank = λ n. file-none b })
-      (λ s. none-blank (c.yes e) (s.blank (admitted-is a false w z)))
+      (λ s. none-blank (c.yes e) (s.blank (not-admitted z)))
 
   -- Where somebody is, whether the file is sound decides it.
-  pub sound-formed : (q a r : Bool) → Decides q (Canonical l at) → q ≡ true → a ≡ admitted_of (get_or l (at + 1) 0) → a ≡ true
-      → Decides r (SoundAt t l at) → Decides r (FormedFile t l at)
-  sound-formed q a r c e w z d =
-      as-well d (λ s. record { canonical = c.yes e; sound = s; blank = λ n. clash (admitted-is a true w z) n }) (λ s. s.sound)
+  pub sound-formed : (q r : Bool) → Decides q (Canonical l at) → q ≡ true → (get_or l (at + 1) 0 ≡ 0 → ⊥) → Decides r (SoundAt t l at)
+      → Decides r (FormedFile t l at)
+  sound-formed q r c e z d =
+      as-well d (λ s. record { canonical = c.yes e; sound = s; blank = λ n. clash (is-admitted z) n }) (λ s. s.sound)

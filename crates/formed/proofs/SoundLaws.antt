@@ -36,12 +36,12 @@ module _ {A : Type 0} (z : A) where
   behind-taken (suc n) m (x ∷ l) (suc k) h = behind-taken n m l k (omega arith)
 
 -- A place with no call in it.
-abbrev no_call_lem : OpenCall
-no_call_lem = call_of 0 0
+abbrev no_call : OpenCall
+no_call = call_of 0 0
 
 -- Four places with no call behind the first n.
-four-places : (n : ℕ) (a b c d : OpenCall) → n ≤ 4 → (n ≤ 0 → a ≡ no_call_lem) → (n ≤ 1 → b ≡ no_call_lem) → (n ≤ 2 → c ≡ no_call_lem)
-    → (n ≤ 3 → d ≡ no_call_lem)
+four-places : (n : ℕ) (a b c d : OpenCall) → n ≤ 4 → (n ≤ 0 → a ≡ no_call) → (n ≤ 1 → b ≡ no_call) → (n ≤ 2 → c ≡ no_call)
+    → (n ≤ 3 → d ≡ no_call)
     → a ∷ b ∷ c ∷ d ∷ [] ≡ in_places (take n (a ∷ b ∷ c ∷ d ∷ []))
 unfolding in_places
 four-places zero a b c d h p q r s = λ i. p (omega arith) i ∷ q (omega arith) i ∷ r (omega arith) i ∷ s (omega arith) i ∷ []
@@ -52,12 +52,12 @@ four-places (suc (suc (suc (suc zero)))) a b c d h p q r s = refl
 four-places (suc (suc (suc (suc (suc n))))) a b c d h p q r s = absurd (omega arith)
 
 -- A call whose words are zeros is none.
-no_call_lem : (a d : ℕ) → (a ≡ 0) × (number_of d ≡ 0) → open_call_of_words a d ≡ no_call_lem
+no_call_lem : (a d : ℕ) → (a ≡ 0) × (number_of d ≡ 0) → open_call_of_words a d ≡ no_call
 unfolding open_call_of_words
 no_call_lem a d e = λ i. record { amount = e.0 i; last = record { 0 = e.1 i } }
 
 -- And the other way round.
-call_none : (a d : ℕ) → open_call_of_words a d ≡ no_call_lem → (a ≡ 0) × (number_of d ≡ 0)
+call_none : (a d : ℕ) → open_call_of_words a d ≡ no_call → (a ≡ 0) × (number_of d ≡ 0)
 unfolding open_call_of_words
 call_none a d e = (ap (λ (c : OpenCall). c.amount) e, ap (λ (c : OpenCall). c.last.0) e)
 
@@ -121,15 +121,15 @@ module _ (l : List ℕ) (at : ℕ) where
       (λ n. no_call_lem (w 47) (w 48) ((b 3 (omega arith)).behind n))
 
   -- And the other way round.
-  placed-here : calls_of_words w ≡ in_places (take (w 4) (calls_of_words w)) → (k : ℕ) → k < 4 → w 4 ≤ k → call_here k ≡ no_call_lem
+  placed-here : calls_of_words w ≡ in_places (take (w 4) (calls_of_words w)) → (k : ℕ) → k < 4 → w 4 ≤ k → call_here k ≡ no_call
   unfolding calls_of_words in_places
   placed-here e k h n =
-      sym (get_d-table 4 call_here k no_call_lem h)
-      ∙ ap (λ (m : List OpenCall). get_or m k no_call_lem) e
-      ∙ behind-taken no_call_lem (w 4) (4 - length (take (w 4) (table 4 call_here))) (table 4 call_here) k n
+      sym (get_d-table 4 call_here k no_call h)
+      ∙ ap (λ (m : List OpenCall). get_or m k no_call) e
+      ∙ behind-taken no_call (w 4) (4 - length (take (w 4) (table 4 call_here))) (table 4 call_here) k n
 
   -- A call's words, from the call.
-  place-sound : (k : ℕ) → SoundCall (call_here k) → (w 4 ≤ k → call_here k ≡ no_call_lem) → CallAt l at k
+  place-sound : (k : ℕ) → SoundCall (call_here k) → (w 4 ≤ k → call_here k ≡ no_call) → CallAt l at k
   unfolding open_call_of_words
   place-sound k s z = record { amount = s.amount; last = s.last; behind = λ n. call_none (w (41 + 2 * k)) (w (42 + 2 * k)) (z n) }
 

@@ -5,7 +5,6 @@ ghost use Rattle.formed.specs.Checks.{SlotAt, CallAt, TotalAt, SoundAt, SameAt, 
 
 use crate::parts::{are_sound_amounts, is_sound_call, is_sound_slot};
 use layout::files::{file_at, put_file};
-use layout::parts::admitted;
 
 // Whether the eight slots are sound.
 fn sound_slots(words: &[u64], at: usize) -> bool
@@ -131,7 +130,7 @@ pub fn is_formed(words: &[u64], at: usize, today: u64) -> bool
     if !is_canonical(words, at) {
         return false;
     }
-    if !admitted(words[at + 1]) {
+    if words[at + 1] == 0 {
         return is_blank(words, at);
     }
     is_sound(words, at, today)

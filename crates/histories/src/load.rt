@@ -30,7 +30,6 @@ fn words_in_text(kind: u64) -> usize {
         5 => 2,
         6 => 3,
         7 => 2,
-        9 => 2,
         _ => 1,
     }
 }

@@ -6,7 +6,7 @@ use mathlib.Core.List.{List}
 use borrow.Author.Tests.{eq-eqb, ne_eqb}
 use Rattle.calendar.specs.declared.Day.{Day}
 use Rattle.journal.specs.Fields.{closed, rest_of_line}
-use Rattle.journal.specs.Grammar.{day_numbered, fresh_of, admit_of, cash_of, letter_of, lodge_of, release_of, annual_of, advance_of, statement_of, delete_of}
+use Rattle.journal.specs.Grammar.{day_numbered, fresh_of, admit_of, cash_of, letter_of, lodge_of, release_of, annual_of, advance_of, statement_of}
 use Rattle.journal.specs.Steps.{FieldIs}
 use Rattle.journal.specs.declared.Request.{Request}
 use Rattle.journal.specs.declared.fields.Kind.{Kind}
@@ -52,11 +52,6 @@ module _ (s : List ℕ) (place : Place) (r : Request) where
       → r ≡ closed (rest_of_line s a.place) (Request.Release p.value q.value a.value) → r ≡ release_of (rest_of_line s place)
   unfolding release_of
   release-is p q a x y z h = rw (← x.value, ← x.left, ← y.value, ← y.left, ← z.value, ← z.left) h
-
-  pub delete-is : (p : Field) → FieldIs s place Kind.Natural p → r ≡ closed (rest_of_line s p.place) (Request.Delete p.value)
-      → r ≡ delete_of (rest_of_line s place)
-  unfolding delete_of
-  delete-is p x h = rw (← x.value, ← x.left) h
 
   pub annual-is : (p : Field) → FieldIs s place Kind.Natural p → r ≡ closed (rest_of_line s p.place) (Request.Annual p.value)
       → r ≡ annual_of (rest_of_line s place)

@@ -41,17 +41,17 @@ past : (n k : ℕ) → n ≤ k → (k ≡ n → ⊥) → suc n ≤ k
 past n k h d = omega arith
 
 pub none-of-them : (k : ℕ) (l : Left) (e : List ℤ) → (k ≡ 0 → ⊥) → (k ≡ 1 → ⊥) → (k ≡ 2 → ⊥) → (k ≡ 3 → ⊥) → (k ≡ 4 → ⊥) → (k ≡ 5 → ⊥)
-    → (k ≡ 6 → ⊥) → (k ≡ 7 → ⊥) → (k ≡ 8 → ⊥) → (k ≡ 9 → ⊥) → (k ≡ 10 → ⊥) → (k ≡ 11 → ⊥) → (k ≡ 12 → ⊥) → (k ≡ 13 → ⊥)
+    → (k ≡ 6 → ⊥) → (k ≡ 7 → ⊥) → (k ≡ 8 → ⊥) → (k ≡ 9 → ⊥) → (k ≡ 10 → ⊥) → (k ≡ 11 → ⊥) → (k ≡ 12 → ⊥)
     → ParsedIs (named_call (length e) k l) e (Request.Error Reason.NoCall) e
 unfolding call_names
-none-of-them k l e n0 n1 n2 n3 n4 n5 n6 n7 n8 n9 n10 n11 n12 n13 =
+none-of-them k l e n0 n1 n2 n3 n4 n5 n6 n7 n8 n9 n10 n11 n12 =
     let h = past 5 k (past 4 k (past 3 k (past 2 k (past 1 k (past 0 k zero-le n0) n1) n2) n3) n4) n5 in
-    no_call k l e (past 13 k (past 12 k (past 11 k (past 10 k (past 9 k (past 8 k (past 7 k (past 6 k h n6) n7) n8) n9) n10) n11) n12) n13)
+    no_call k l e (past 12 k (past 11 k (past 10 k (past 9 k (past 8 k (past 7 k (past 6 k h n6) n7) n8) n9) n10) n11) n12)
 
 -- The words of a line.
 
 abbrev call_text : List ℕ
-call_text = text "fresh admit lodge release settle annual advance statement calls special report batch role-retired delete"
+call_text = text "fresh admit lodge release settle annual advance statement calls special report batch role-retired"
 
 call-words : words call_text ≡ call_names
 unfolding words apart onto blank call_names

@@ -21,7 +21,7 @@ use Rattle.words.specs.Words.{apart, onto, words}
 use Rattle.words.specs.Found.{NextWord}
 use Rattle.words.specs.Numerals.{unsigned_of, signed_of}
 use Rattle.journal.specs.Names.{read_number}
-use Rattle.journal.specs.Fields.{Left, fault, faulted, faulted_place, rest_of_line, words_left_lem}
+use Rattle.journal.specs.Fields.{Left, fault, faulted, faulted_place, rest_of_line, words_left}
 use Rattle.journal.specs.Fields.{Numbers, with_number, next_numbers, Lists, on_lists, list_of, lists_of, figures_of, closed}
 use Rattle.journal.specs.Grammar.{are_marks, lengths_of, month_numbered, settle_of, special_of}
 use Rattle.journal.specs.Steps.{NextIs, FieldIs, ItemIs, FilledIs, ListedIs, ParsedIs}
@@ -82,12 +82,12 @@ pub words-fewer : (s : List ℕ) (at start end : ℕ) → NextWord s at start en
     → length (words (drop end s)) < length (words (drop at s))
 words-fewer s at start end x n = omega (arith, ap length (a_word s at start end x n))
 
-pub words_left_lem : (s : List ℕ) (place : Place) (p k : ℕ) → place ≡ Place.At p → k ≡ length (words (drop p s)) → k ≡ words_left_lem (rest_of_line s place)
-unfolding rest_of_line words_left_lem
+pub words_left_lem : (s : List ℕ) (place : Place) (p k : ℕ) → place ≡ Place.At p → k ≡ length (words (drop p s)) → k ≡ words_left (rest_of_line s place)
+unfolding rest_of_line words_left
 words_left_lem s place p k e f = rw e f
 
-pub none_left : (s : List ℕ) (place : Place) (e : Reason) → place ≡ Place.Failed e → 0 ≡ words_left_lem (rest_of_line s place)
-unfolding rest_of_line words_left_lem
+pub none_left : (s : List ℕ) (place : Place) (e : Reason) → place ≡ Place.Failed e → 0 ≡ words_left (rest_of_line s place)
+unfolding rest_of_line words_left
 none_left s place e f = rw f
 
 -- The loop over the numbers of a list: what is left, y, written into f from place i on, gives what x gives, written into e from `from` on.
@@ -308,7 +308,7 @@ listing-ends s i end room e f d n first at h k b w =
 
 module _ (s : List ℕ) (place : Place) (e g : List ℤ) (r : Request) where
   pub settle_is : (p m : Field) (n : ℕ) (f : Filled) (month : Month) → FieldIs s place Kind.Natural p → FieldIs s p.place Kind.Month m
-      → n ≡ words_left_lem (rest_of_line s m.place) → FilledIs (next_numbers false (length e - 0) n (rest_of_line s m.place)) s e 0 f g
+      → n ≡ words_left (rest_of_line s m.place) → FilledIs (next_numbers false (length e - 0) n (rest_of_line s m.place)) s e 0 f g
       → month ≡ month_numbered m.value → r ≡ closed (rest_of_line s f.place) (Request.Settle p.value month f.end)
       → ParsedIs (settle_of (length e) (rest_of_line s place)) e r g
   unfolding settle_of figures_of

@@ -10,8 +10,8 @@ use Rattle.words.specs.declared.numbers.Signed.{Signed}
 use Rattle.journal.specs.declared.Reason.{Reason}
 use Rattle.journal.specs.declared.fields.Kind.{Kind}
 
--- 'The journal': the first words of its lines, in the order in which it lists them; and of paper 02 the line that ends the first stretch of a journal
--- (Ask 3), and that of a deletion (Ask 4).
+-- 'The journal': the first words of its lines, in the order in which it lists them; and paper 02, Ask 3: the line that ends the first stretch
+-- of a journal.
 unfoldable pub call_names : List (List ℕ)
 call_names =
     text "fresh"
@@ -27,7 +27,6 @@ call_names =
     ∷ text "report"
     ∷ text "batch"
     ∷ text "role-retired"
-    ∷ text "delete"
     ∷ []
 
 -- "the role's name in lower case", in the order of their numbers: paper 01, 'One participant's file'.

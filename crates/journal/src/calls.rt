@@ -1,7 +1,7 @@
 // The calls that have no lists, each from the place after its first word.
 ghost use Rattle.std.specs.Prelude.{◌≡◌};
 ghost use Rattle.journal.specs.Fields.{rest_of_line};
-ghost use Rattle.journal.specs.Grammar.{fresh_of, admit_of, cash_of, letter_of, lodge_of, release_of, annual_of, advance_of, statement_of, delete_of};
+ghost use Rattle.journal.specs.Grammar.{fresh_of, admit_of, cash_of, letter_of, lodge_of, release_of, annual_of, advance_of, statement_of};
 ghost use Rattle.journal.specs.Grammar.{day_numbered, month_numbered};
 
 use crate::Request;
@@ -128,13 +128,4 @@ pub fn statement(s: &[u8], place: Place) -> Request
     let p = take_field(s, place, Kind::Natural);
     let after = p.place;
     closed(s, after, Request::Statement(p.value))
-}
-
-// delete P
-pub fn delete(s: &[u8], place: Place) -> Request
-    ensures { result ≡ delete_of (rest_of_line s.now place) }
-{
-    let p = take_field(s, place, Kind::Natural);
-    let after = p.place;
-    closed(s, after, Request::Delete(p.value))
 }

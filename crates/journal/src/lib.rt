@@ -66,7 +66,6 @@ pub enum Request {
     Special(Lengths),
     Batch(usize),
     RoleRetired,
-    Delete(u64),
     Report,
     Error(Reason),
 }
@@ -90,7 +89,6 @@ fn call(k: usize, s: &[u8], place: Place, numbers: &mut [i64]) -> Request
         10 => closed(s, place, Request::Report),
         11 => batch::batch(s, place, numbers),
         12 => closed(s, place, Request::RoleRetired),
-        13 => calls::delete(s, place),
         _ => Request::Error(Reason::NoCall),
     }
 }
@@ -107,7 +105,7 @@ fn read_words(s: &[u8], numbers: &mut [i64]) -> Request
         return Request::Nothing;
     }
     let names =
-        b"fresh admit lodge release settle annual advance statement calls special report batch role-retired delete";
+        b"fresh admit lodge release settle annual advance statement calls special report batch role-retired";
     let k = place_of(&s[start..end], names);
     call(k, s, Place::At(end), numbers)
 }

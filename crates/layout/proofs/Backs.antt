@@ -1,6 +1,6 @@
 -- The words of a part of a file lead back to it.
 -- Assumes nothing.
-use Prim.Native.Nat.{ℕ, ◌+◌, ◌*◌, ◌/◌, ◌%◌, ◌<◌}
+use Prim.Native.Nat.{ℕ, ◌+◌, ◌<◌}
 use mathlib.Core.Path.{◌≡◌, refl, sym}
 use mathlib.Core.Bool.{Bool, true, false}
 use mathlib.Core.List.{List, [], ◌∷◌}
@@ -10,7 +10,7 @@ use borrow.Author.Tests.{eq-eqb, ne_eqb}
 use lib.ListN.{set}
 use lib.IntN.{ℤ}
 use mir.Syntax.{w64}
-use mir.Val.{Fits, SFits, to_z, of_z}
+use mir.Val.{SFits, to_z, of_z}
 use mir.Facts.{to_z-of_z}
 use Rattle.file.specs.declared.Position.{Position}
 use Rattle.file.specs.declared.Position.TheVariants.{Empty, Cash, Letter}
@@ -18,7 +18,7 @@ use Rattle.file.specs.declared.Slot.{Slot}
 use Rattle.file.specs.declared.OpenCall.{OpenCall}
 use Rattle.file.specs.declared.MonthTotal.{MonthTotal}
 use Rattle.layout.specs.Parts.{number_of, flag_of, flag_word, signed_of_word, zigzag_of, slot_of_words, open_call_of_words, total_of_words}
-use Rattle.layout.specs.Parts.{admitted_of, leaving_of, status_word, first_word, last_word}
+use Rattle.layout.specs.Parts.{first_word, last_word}
 use Rattle.layout.specs.Parts.{position_of, written, SlotBack, CallBack, TotalBack}
 use Rattle.layout.proofs.Zigzag.{signed_back}
 
@@ -44,41 +44,6 @@ call_back c h = simp (number-back c.last.0 h)
 pub flag-back : (b : Bool) → flag_of (flag_word b) ≡ b
 flag-back true = refl
 flag-back false = refl
-
-flag_small : (b : Bool) → flag_word b < 2
-flag_small true = omega arith
-flag_small false = omega arith
-
--- The sums of a status fit their word.
-pub double-fits : (b : Bool) (r : ℕ) → r ≡ flag_word b → Fits w64 (2 * r)
-double-fits b r e = omega (arith, flag_small b)
-
-pub status-fits : (a b : Bool) (q r : ℕ) → q ≡ flag_word a → r ≡ flag_word b → Fits w64 (q + 2 * r)
-status-fits a b q r d e = omega (arith, flag_small a, flag_small b)
-
--- What the word of a status says.
-pub admitted-is : (w : ℕ) (r : Bool) → r ≡ flag_of (w % 2) → r ≡ admitted_of w
-unfolding admitted_of
-admitted-is w r e = e
-
-pub leaving-is : (w : ℕ) (r : Bool) → r ≡ flag_of (w / 2) → r ≡ leaving_of w
-unfolding leaving_of
-leaving-is w r e = e
-
--- The word of a status leads back to it.
-pub admitted-back : (a b : Bool) → admitted_of (status_word a b) ≡ a
-unfolding admitted_of
-admitted-back true true = refl
-admitted-back true false = refl
-admitted-back false true = refl
-admitted-back false false = refl
-
-pub leaving-back : (a b : Bool) → leaving_of (status_word a b) ≡ b
-unfolding leaving_of
-leaving-back true true = refl
-leaving-back true false = refl
-leaving-back false true = refl
-leaving-back false false = refl
 
 pub total-back : (t : MonthTotal) → t.month.0 < small → TotalBack t
 unfolding total_of_words

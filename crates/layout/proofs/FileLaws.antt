@@ -19,11 +19,11 @@ use Rattle.file.specs.declared.Position.TheVariants.{Empty}
 use Rattle.file.specs.Position.{slot_of}
 use Rattle.file.specs.Calls.{call_of}
 use Rattle.file.specs.Totals.{no_total}
-use Rattle.layout.specs.Parts.{flag_of, admitted_of, leaving_of, slot_of_words, open_call_of_words, total_of_words, slot_words, open_call_words, total_words, written, SlotBack}
+use Rattle.layout.specs.Parts.{flag_of, slot_of_words, open_call_of_words, total_of_words, slot_words, open_call_words, total_words, written, SlotBack}
 use Rattle.layout.specs.Parts.{CallBack, TotalBack}
 use Rattle.layout.specs.Files.{slot_in, call_in, month_total_in, slots_of_words, calls_of_words, totals_of_words, file_of_words, words_at, flat, own_words}
 use Rattle.layout.specs.Files.{file_words, Put, PutRows}
-use Rattle.layout.proofs.Backs.{flag-back, admitted-back, leaving-back}
+use Rattle.layout.proofs.Backs.{flag-back}
 use Rattle.layout.proofs.Written.{written_next, written_in}
 use Rattle.layout.proofs.Rows.{flat-length, flat-at}
 
@@ -85,12 +85,11 @@ unfolding totals_of_words
 totals-long w = refl
 
 -- a file from its parts
-pub taken_is : (w : ℕ → ℕ) (a b e : Bool) (s : List Slot) (c : List OpenCall) (t : List MonthTotal)
-    → a ≡ admitted_of (w 1) → b ≡ leaving_of (w 1) → e ≡ flag_of (w 5) → s ≡ slots_of_words w → c ≡ calls_of_words w → t ≡ totals_of_words w
+pub taken_is : (w : ℕ → ℕ) (a e : Bool) (s : List Slot) (c : List OpenCall) (t : List MonthTotal)
+    → a ≡ flag_of (w 1) → e ≡ flag_of (w 5) → s ≡ slots_of_words w → c ≡ calls_of_words w → t ≡ totals_of_words w
     → ◌≡◌ {A = File}
     (record {
       admitted = a;
-      leaving = b;
       role = w 2;
       firm = w 3;
       slots = s;
@@ -103,7 +102,7 @@ pub taken_is : (w : ℕ → ℕ) (a b e : Bool) (s : List Slot) (c : List OpenCa
     })
     (file_of_words w)
 unfolding file_of_words
-taken_is w a b e s c t p o q r u v = simp (p, o, q, r, u, v)
+taken_is w a e s c t p q r u v = simp (p, q, r, u, v)
 
 -- ---- a file is read from its words 1 to 96
 
@@ -140,8 +139,7 @@ module _ (w v : ℕ → ℕ) (same : (k : ℕ) → 1 ≤ k → k ≤ 96 → w k 
   unfolding file_of_words
   file-ext =
       λ i. record {
-        admitted = admitted_of (same 1 (omega arith) (omega arith) i);
-        leaving = leaving_of (same 1 (omega arith) (omega arith) i);
+        admitted = flag_of (same 1 (omega arith) (omega arith) i);
         role = same 2 (omega arith) (omega arith) i;
         firm = same 3 (omega arith) (omega arith) i;
         slots = slots-ext i;
@@ -258,8 +256,7 @@ module _ (f : File) (eight : length f.slots ≡ 8) (four : length f.calls ≡ 4)
   unfolding file_of_words file_words
   file-back =
       λ i. record {
-        admitted = admitted-back f.admitted f.leaving i;
-        leaving = leaving-back f.admitted f.leaving i;
+        admitted = flag-back f.admitted i;
         role = f.role;
         firm = f.firm;
         slots = slots-back word f.slots (slot_of Empty) eight bs slot-words i;

@@ -8,10 +8,7 @@ ghost use Rattle.layout.specs.Parts.{slot_words, open_call_words, total_words, w
 ghost use Rattle.layout.specs.Files.{slot_in, call_in, month_total_in, slots_of_words, calls_of_words};
 ghost use Rattle.layout.specs.Files.{totals_of_words, file_of_words, words_at, own_words, Put, PutRows};
 
-use crate::parts::{
-    admitted, call, flag, flag_word, leaving, put_call, put_slot, put_total, slot, status_word,
-    total,
-};
+use crate::parts::{call, flag, flag_word, put_call, put_slot, put_total, slot, total};
 use calendar::{Day, Month};
 use file::cover::counts;
 use file::{File, MonthTotal, NextAmount, OpenCall, Position, Slot};
@@ -99,8 +96,7 @@ pub fn file_at(words: &[u64], at: usize) -> File
     requires { at + 97 ≤ length words.now }
     ensures { result ≡ file_of_words (words_at words.now at) }
 {
-    let admitted = admitted(words[at + 1]);
-    let leaving = leaving(words[at + 1]);
+    let admitted = flag(words[at + 1]);
     let next = NextAmount {
         set: flag(words[at + 5]),
         amount: words[at + 6],
@@ -110,7 +106,6 @@ pub fn file_at(words: &[u64], at: usize) -> File
     let totals = totals(words, at);
     File {
         admitted,
-        leaving,
         role: words[at + 2],
         firm: words[at + 3],
         slots,
@@ -168,9 +163,9 @@ fn put_own(words: &mut [u64], at: usize, file: File)
     ensures { words.new ≡ written words.old (at + 1) (own_words file) }
 {
     let next = file.next;
-    let status = status_word(file.admitted, file.leaving);
+    let admitted = flag_word(file.admitted);
     let set = flag_word(next.set);
-    words[at + 1] = status;
+    words[at + 1] = admitted;
     words[at + 2] = file.role;
     words[at + 3] = file.firm;
     words[at + 4] = file.count as u64;

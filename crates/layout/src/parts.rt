@@ -1,6 +1,5 @@
 // The parts of a file as words, and back.
 ghost use Rattle.std.specs.Prelude.{◌≡◌, ◌+◌, ◌≤◌, ◌<◌, [], ◌∷◌, length};
-ghost use Rattle.layout.specs.Parts.{admitted_of, leaving_of, status_word};
 ghost use Rattle.layout.specs.Parts.{flag_of, number_of, signed_of_word, zigzag_of, flag_word, position_of, slot_of_words};
 ghost use Rattle.layout.specs.Parts.{open_call_of_words, total_of_words, kind_word, first_word, last_word, slot_words, open_call_words};
 ghost use Rattle.layout.specs.Parts.{total_words, written, SlotBack, CallBack, TotalBack};
@@ -21,27 +20,6 @@ pub fn flag_word(flag: bool) -> u64
     ensures { result ≡ flag_word flag }
 {
     if flag { 1 } else { 0 }
-}
-
-// Whether the status of a participant, in one word, says that it is admitted: the word is odd.
-pub fn admitted(status: u64) -> bool
-    ensures { result ≡ admitted_of status }
-{
-    flag(status % 2)
-}
-
-// .. and whether it is under deletion: the word has 2 more (paper 02, Ask 4).
-pub fn leaving(status: u64) -> bool
-    ensures { result ≡ leaving_of status }
-{
-    flag(status / 2)
-}
-
-// A status as a word.
-pub fn status_word(admitted: bool, leaving: bool) -> u64
-    ensures { result ≡ status_word admitted leaving }
-{
-    flag_word(admitted) + 2 * flag_word(leaving)
 }
 
 // A word as a number of 32 bits.

@@ -19,7 +19,7 @@ use Rattle.laws.specs.Cases.{clash, cond-true, or-first, or-second}
 use Rattle.laws.specs.Integers.{nat_abs-add, sum_of, sum_of-turn}
 use Rattle.laws.specs.Signed.{fits_nat_abs}
 use Rattle.laws.specs.Read.{read}
-use Rattle.manual.specs.Figures.{bound, wrong_count, all_within, out_of_range_lem, summed}
+use Rattle.manual.specs.Figures.{bound, wrong_count, all_within, out_of_range, summed}
 use Rattle.manual.specs.declared.Sum.TheVariants.{Total, Refused}
 
 -- ---- one figure
@@ -81,7 +81,7 @@ module _ (t : Bool) (l : List ℤ) (s i : ℕ) (f : SFits w64 (get_or l i (pos 0
 
   -- cause 11
   pub out_of_range_lem : 5 ≤ length l → t ≡ false → Refused 11 ≡ summed l
-  unfolding summed wrong_count out_of_range_lem
+  unfolding summed wrong_count out_of_range
   out_of_range_lem g p = rw (le-ltb (length l) 5 g, le-ltb 16 (length l) few, sym (one_out p))
 
   in-range : t ≡ true → all_within (drop (i + 1) l) ≡ all_within l
@@ -113,7 +113,7 @@ unfolding sum_of
 all-summed l i z h p = sym (+ℤ_idr z) ∙ (rw (drop_of_length-le l h) at p)
 
 pub sum-ends : (l : List ℤ) (s i : ℕ) → length l ≤ i → 5 ≤ length l → length l ≤ 16 → SoFar l s i → Total (to_z w64 s) ≡ summed l
-unfolding summed wrong_count out_of_range_lem
+unfolding summed wrong_count out_of_range
 sum-ends l s i h g few inv =
     ap Total (all-summed l i (to_z w64 s) h inv.3)
     ∙ rw (le-ltb (length l) 5 g, le-ltb 16 (length l) few, sym (all-passed l i h inv.1))

@@ -1,6 +1,6 @@
--- The largest of totals, and at least an amount, as a running maximum: the amount, raised by each total in turn. Assumes nothing.
+-- The annual amount as a running maximum: the minimum, raised by each total in turn. Assumes nothing.
 use Prim.Native.Nat.{ℕ, ◌+◌, ◌≤◌, ◌<◌}
-use mathlib.Core.Path.{◌≡◌, refl, sym, ◌∙◌, ap}
+use mathlib.Core.Path.{◌≡◌, sym, ◌∙◌, ap}
 use mathlib.Core.List.{List, [], ◌∷◌}
 use native.Mathlib.Numerals.{add-one}
 use lib.ListN.{length, get_or, drop, drop_of_length-le}
@@ -14,9 +14,7 @@ use Rattle.laws.specs.Cases.{split}
 use Rattle.laws.specs.Integers.{larger, larger-comm, larger-assoc, above-natural}
 use Rattle.laws.specs.Read.{read}
 use Rattle.manual.specs.Minimum.{minimum_of}
-use Rattle.manual.specs.Largest.{largest_total, largest_at_least}
-use Rattle.manual.specs.Annual.{annual_amount}
-use Rattle.manual.specs.Deletion.{deletion_amount}
+use Rattle.manual.specs.Annual.{largest_total, annual_amount}
 
 -- an amount, raised by each total of a list in turn
 unfoldable pub raised_by : ℕ → List ℤ → ℕ
@@ -39,30 +37,20 @@ raised_by-largest m a (b ∷ l) =
     ∙ sym (larger-assoc (largest_total b l) a (pos m))
     ∙ ap (λ (z : ℤ). larger z (pos m)) (larger-comm (largest_total b l) a)
 
--- the loop begins with the amount, and all totals to come
-pub raised_by-begins : (least : ℕ) (l : List ℤ) → raised_by least (drop 0 l) ≡ largest_at_least least l
-unfolding raised_by largest_at_least
-raised_by-begins least [] = refl
-raised_by-begins least (a ∷ l) = ap nat_abs (raised_by-largest least a l)
+-- the loop begins with the minimum, and all totals to come
+pub raised_by-begins : (role m : ℕ) (l : List ℤ) → m ≡ minimum_of role → raised_by m (drop 0 l) ≡ annual_amount role l
+unfolding raised_by annual_amount
+raised_by-begins role m [] e = e
+raised_by-begins role m (a ∷ l) e = rw e (ap nat_abs (raised_by-largest (minimum_of role) a l))
 
 -- a turn raises the amount by the next total
-pub raised_by-turn : (least m r i : ℕ) (l : List ℤ) → i < length l → SFits w64 (get_or l i (pos 0))
-    → r ≡ nat_abs (larger (read (get_or l i (pos 0))) (pos m)) → raised_by m (drop i l) ≡ largest_at_least least l
-    → raised_by r (drop (i + 1) l) ≡ largest_at_least least l
+pub raised_by-turn : (role m r i : ℕ) (l : List ℤ) → i < length l → SFits w64 (get_or l i (pos 0))
+    → r ≡ nat_abs (larger (read (get_or l i (pos 0))) (pos m)) → raised_by m (drop i l) ≡ annual_amount role l
+    → raised_by r (drop (i + 1) l) ≡ annual_amount role l
 unfolding raised_by
-raised_by-turn least m r i l h f e p = rw (e, to_z-of_z f, add-one i) (rw (drop-cons l i (pos 0) h) at p)
+raised_by-turn role m r i l h f e p = rw (e, to_z-of_z f, add-one i) (rw (drop-cons l i (pos 0) h) at p)
 
 -- with no total left, the amount is the answer
-pub raised_by-ends : (least m i : ℕ) (l : List ℤ) → length l ≤ i → raised_by m (drop i l) ≡ largest_at_least least l → m ≡ largest_at_least least l
+pub raised_by-ends : (role m i : ℕ) (l : List ℤ) → length l ≤ i → raised_by m (drop i l) ≡ annual_amount role l → m ≡ annual_amount role l
 unfolding raised_by
-raised_by-ends least m i l h p = rw (drop_of_length-le l h) at p
-
--- ---- the amounts
-
-pub annual-is : (role m r : ℕ) (l : List ℤ) → m ≡ minimum_of role → r ≡ largest_at_least m l → r ≡ annual_amount role l
-unfolding annual_amount
-annual-is role m r l e h = h ∙ ap (λ (n : ℕ). largest_at_least n l) e
-
-pub deletion-is : (r : ℕ) (l : List ℤ) → r ≡ largest_at_least 0 l → r ≡ deletion_amount l
-unfolding deletion_amount
-deletion-is r l h = h
+raised_by-ends role m i l h p = rw (drop_of_length-le l h) at p

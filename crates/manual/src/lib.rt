@@ -1,9 +1,7 @@
 // The Guarantee Manual's formulas (002, version 2.0, as paper 01 condenses it), on plain numbers.
 pub mod annual;
 pub mod charge;
-pub mod deletion;
 pub mod figures;
-mod largest; // largest.rt: the largest of totals, and at least an amount
 pub mod minimum;
 pub mod monthly;
 

@@ -30,7 +30,7 @@ use Rattle.printing.specs.Hex.{last_hex, hex_byte, hex_bytes, hex_words}
 use Rattle.printing.specs.Lines.{IsByte, call_words, printed}
 use Rattle.printing.specs.Placed.{Put}
 use Rattle.printing.specs.PlacedLaws.{Putting, putting-goes, putting-ends, put-none, put_then, put-blank, put_first}
-use Rattle.printing.proofs.PlainWords.{word_byte_lem, IsWord}
+use Rattle.printing.proofs.PlainWords.{word_byte, IsWord}
 
 -- The last digit of a number.
 
@@ -132,8 +132,8 @@ unfolding last_hex
 last-range n =
     split (ltb (n % 16) 10) (λ t. rw t (omega arith, omega (arith, ltb-true (n % 16) 10 t))) (λ t. rw t (omega arith, omega arith))
 
-word_byte_lem : (b : ℕ) → 48 ≤ b → b ≤ 102 → word_byte_lem b ≡ true
-unfolding word_byte_lem solid control blank
+word_byte_lem : (b : ℕ) → 48 ≤ b → b ≤ 102 → word_byte b ≡ true
+unfolding word_byte solid control blank
 word_byte_lem b lo hi =
     rw (
       ne_eqb b 32 (λ q. omega arith),
@@ -144,15 +144,15 @@ word_byte_lem b lo hi =
       le-ltb b 32 (omega arith),
     )
 
-last_word : (n : ℕ) → word_byte_lem (last_hex n) ≡ true
+last_word : (n : ℕ) → word_byte (last_hex n) ≡ true
 last_word n = let r = last-range n in word_byte_lem (last_hex n) r.0 r.1
 
-hex-word : (zs : List ℤ) → each word_byte_lem (hex_bytes zs) ≡ true
+hex-word : (zs : List ℤ) → each word_byte (hex_bytes zs) ≡ true
 unfolding hex_bytes hex_byte
-hex-word [] = every-nil word_byte_lem
+hex-word [] = every-nil word_byte
 hex-word (z ∷ zs) =
-    every-cons word_byte_lem (last_hex (nat_abs z / 16)) (last_hex (nat_abs z) ∷ hex_bytes zs) (last_word (nat_abs z / 16))
-    (every-cons word_byte_lem (last_hex (nat_abs z)) (hex_bytes zs) (last_word (nat_abs z)) (hex-word zs))
+    every-cons word_byte (last_hex (nat_abs z / 16)) (last_hex (nat_abs z) ∷ hex_bytes zs) (last_word (nat_abs z / 16))
+    (every-cons word_byte (last_hex (nat_abs z)) (hex_bytes zs) (last_word (nat_abs z)) (hex-word zs))
 
 pub file-words : (zs : List ℤ) → All IsWord (hex_words zs)
 unfolding hex_words

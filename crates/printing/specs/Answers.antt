@@ -38,7 +38,6 @@ answer_words (Answer.Calls n) = text "calls" ∷ decimal n ∷ []
 answer_words (Answer.Special c) = text "special" ∷ decimal c ∷ []
 answer_words (Answer.Batch n) = text "batch" ∷ decimal n ∷ []
 answer_words (Answer.RefusedPair n i) = text "refused" ∷ decimal n ∷ decimal i ∷ []
-answer_words (Answer.Deletion a c) = text "deletion" ∷ decimal a ∷ decimal c ∷ []
 answer_words (Answer.Error l e) = text "error" ∷ decimal l ∷ reason_text e ∷ []
 answer_words Answer.Nothing = []
 

@@ -76,7 +76,6 @@ pub fn put_answer(out: &mut [u8], at: usize, answer: Answer) -> usize
         Answer::Special(cents) => put_one(out, at, b"special", cents),
         Answer::Batch(n) => put_one(out, at, b"batch", n),
         Answer::RefusedPair(n, i) => put_two(out, at, b"refused", n as u64, i),
-        Answer::Deletion(amount, called) => put_two(out, at, b"deletion", amount, called),
         Answer::Error(line, why) => put_error(out, at, line, why),
         Answer::Nothing => put_text(out, at, b""),
     }

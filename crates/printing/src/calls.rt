@@ -119,7 +119,6 @@ pub fn put_call(out: &mut [u8], at: usize, request: Request, numbers: &[i64]) ->
         Request::Special(n) => put_special(out, at, n, numbers),
         Request::Batch(n) => put_batch(out, at, n, numbers),
         Request::RoleRetired => put_text(out, at, b"role-retired"),
-        Request::Delete(p) => put_one(out, at, b"delete", p),
         Request::Report => put_text(out, at, b"report"),
         Request::Error(_) => put_text(out, at, b""),
     }

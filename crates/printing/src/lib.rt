@@ -14,8 +14,8 @@ pub use calls::{end_of, put_call};
 
 // An answer to a line: E is the sum of a settlement's figures, ASKED what a call asks for and LAST_FREE_DAY its last free day; the amount
 // and the months of an annual run; the days opened; a statement's firm amount, cover, shortfall, days charged and accrued charge; the calls
-// made; a special guarantee in cents; how many settlements a batch made, or its refusal and the index of the pair; a deletion's amount, and 1 if it
-// became a call, 0 if not; the line that is no call, and why. Nothing is said to an empty line.
+// made; a special guarantee in cents; how many settlements a batch made, or its refusal and the index of the pair; the line that is no call,
+// and why. Nothing is said to an empty line.
 #[derive(Drop)]
 pub enum Answer {
     Done,
@@ -30,7 +30,6 @@ pub enum Answer {
     Special(u64),
     Batch(u64),
     RefusedPair(u32, u64),
-    Deletion(u64, u64),
     Error(u64, Reason),
     Nothing,
 }

@@ -3,7 +3,7 @@
 use Prim.Native.Nat.{ℕ, ◌+◌, ◌-◌, ◌*◌, ◌≤◌}
 use native.Mathlib.Omega.{arith}
 use mathlib.Core.Path.{◌≡◌, sym, ap, subst, ◌∙◌}
-use mathlib.Core.Bool.{Bool, true, false, ◌&&◌}
+use mathlib.Core.Bool.{◌&&◌}
 use mathlib.Core.List.{List, [], ◌∷◌}
 use borrow.Author.Tests.{ltb-false}
 use lib.Dec.{ltb}
@@ -16,7 +16,7 @@ use Rattle.calendar.specs.Civil.{month_of}
 use Rattle.manual.specs.Figures.{sum_of}
 use Rattle.manual.specs.Laws.{summed-total}
 use Rattle.file.specs.declared.File.{File}
-use Rattle.file.specs.Answer.{Answer, refused, done, annual, days_opened, batched, deletion, Cause, decide, accepted, statement_says}
+use Rattle.file.specs.Answer.{Answer, refused, done, annual, days_opened, batched, Cause, decide, accepted, statement_says}
 use Rattle.file.specs.Fields.{shortfall_of}
 use Rattle.file.specs.Totals.{total_at}
 use Rattle.file.specs.TotalLaws.{totals-length}
@@ -25,19 +25,18 @@ use Rattle.file.specs.Release.{release_answer}
 use Rattle.file.specs.CheckLaws.{settled-answer}
 use Rattle.file.specs.Settle.{settlement_calls, check_due, settled_answer, settle_answer}
 use Rattle.file.specs.Annual.{annual_totals, annual_amount_of, annual_answer}
-use Rattle.file.specs.Deletion.{deletion_amount_of, deletion_calls, deletion_answer}
 use Rattle.file.specs.Statement.{file_statement}
 use Rattle.file.specs.Sound.{Sound}
 use Rattle.file.specs.KeepsPositions.{sound-cover}
-use Rattle.file.specs.KeepsCalls.{annual-bound, deletion-bound}
-use Rattle.layout.specs.Parts.{flag_word, slot_of_words}
+use Rattle.file.specs.KeepsCalls.{annual-bound}
+use Rattle.layout.specs.Parts.{slot_of_words}
 use Rattle.layout.specs.Files.{slots_of_words, file_of_words, words_at}
 use Rattle.layout.specs.Words.{place, book_of_words}
 use Rattle.layout.specs.WellFormed.{WellFormed}
 use Rattle.batch.specs.declared.Form.{Form}
 use Rattle.batch.specs.declared.Form.TheVariants.{Parts, Refused}
 use Rattle.batch.specs.Batch.{form_of}
-use Rattle.book.specs.Call.{Act, admit, lodge, release, settle, annual_run, delete, Call, on, advance, statement, calls_made, batch}
+use Rattle.book.specs.Call.{Act, admit, lodge, release, settle, annual_run, Call, on, advance, statement, calls_made, batch}
 use Rattle.book.specs.Call.{first_refused, batch_says}
 use Rattle.book.specs.Rule.{new_rule}
 use Rattle.book.specs.Account.{file_at, if_numbered, if_admitted, file_answer, part_answer, days_to_open, admits_retired, unless_retired, answer}
@@ -53,17 +52,8 @@ use Rattle.book.proofs.Functions.OnWords.{file-there}
 read_back : (n : ℕ) (z : ℤ) → n ≤ largest_signed → z ≡ pos n → read z ≡ pos n
 read_back n z h e = ap read e ∙ read-abs (pos n) (omega arith)
 
--- A flag's word is small.
-pub flag-within : (b : Bool) (n : ℕ) → n ≡ flag_word b → n ≤ largest_signed
-flag-within true n e = omega arith
-flag-within false n e = omega arith
-
-pub flag-six : (a n m : ℕ) (z : List ℤ) → z ≡ six 11 (pos a) (pos n) (pos 0) (pos 0) (pos 0) → n ≡ m
-    → z ≡ six 11 (pos a) (pos m) (pos 0) (pos 0) (pos 0)
-flag-six a n m z h e = h ∙ ap (λ (k : ℕ). six 11 (pos a) (pos k) (pos 0) (pos 0) (pos 0)) e
-
 -- Six words.
-pub six-read : (k a b c : ℕ) (w x y z : ℤ) → (k ≤ 11) × (a ≤ largest_signed) × (b ≤ largest_signed) × (c ≤ largest_signed)
+pub six-read : (k a b c : ℕ) (w x y z : ℤ) → (k ≤ 10) × (a ≤ largest_signed) × (b ≤ largest_signed) × (c ≤ largest_signed)
     → w ≡ pos k → x ≡ pos a → y ≡ pos b → z ≡ pos c
     → read w ∷ read x ∷ read y ∷ read z ∷ pos 0 ∷ pos 0 ∷ [] ≡ six k (pos a) (pos b) (pos c) (pos 0) (pos 0)
 six-read k a b c w x y z h p q r s =
@@ -107,13 +97,6 @@ annual-within f t s =
     let low = annual-bound f t s in
     decide-within _ (annual (annual_amount_of f t) (length (annual_totals f t))) (λ n. (omega arith, omega arith))
 
--- A deletion's.
-deletion-within : (f : File) (t : ℕ) → Sound t f → WithinSigned (deletion_answer f t)
-unfolding deletion_answer
-deletion-within f t s =
-    let low = deletion-bound f t s in
-    decide-within _ (deletion (deletion_amount_of f t) (deletion_calls f t)) (λ n. omega arith)
-
 -- A statement's.
 statement-within : (f : File) (t : ℕ) → Sound t f → length f.slots ≡ 8 → WithinSigned (statement_says (file_statement f t))
 unfolding file_statement shortfall_of
@@ -129,7 +112,6 @@ file-within f t (lodge k h) s = decide-within _ (lodge_answer f t k h) (λ n. de
 file-within f t (release k a) s = decide-within _ (release_answer f t k a) (λ n. decide-within _ done (λ n. tt))
 file-within f t (settle m figures) s = decide-within _ (settle_answer f t m figures) (λ n. settle-within f t m figures)
 file-within f t annual_run s = decide-within _ (annual_answer f t) (λ n. annual-within f t s)
-file-within f t delete s = decide-within _ (deletion_answer f t) (λ n. deletion-within f t s)
 
 -- .. also where an admission is refused with 23.
 registered-within : (a : Act) (x : Answer) → WithinSigned x → WithinSigned (unless_retired new_rule a x)

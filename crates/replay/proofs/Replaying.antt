@@ -18,12 +18,12 @@ use mir.Facts.{to_z-of_z}
 use Rattle.laws.specs.Clipped.{take-clipped, drop-clipped}
 use Rattle.file.specs.declared.Position.{Position}
 use Rattle.file.specs.declared.Position.TheVariants.{Cash, Letter}
-use Rattle.file.specs.Answer.{Answer, refused, done, called, covered, recorded, annual, days_opened, stated, counted, batched, refused_pair, deletion}
+use Rattle.file.specs.Answer.{Answer, refused, done, called, covered, recorded, annual, days_opened, stated, counted, batched, refused_pair}
 use Rattle.file.specs.Answer.{decide, accepted}
 use Rattle.layout.specs.Book.{Book}
 use Rattle.layout.specs.Words.{book_length, book_of_words}
 use Rattle.layout.specs.WellFormed.{WellFormed}
-use Rattle.book.specs.Call.{admit, lodge, release, settle, annual_run, delete, Call, on, advance, statement, calls_made, batch}
+use Rattle.book.specs.Call.{admit, lodge, release, settle, annual_run, Call, on, advance, statement, calls_made, batch}
 use Rattle.book.specs.Rule.{Rule, old_rule, new_rule}
 use Rattle.book.specs.Account.{fresh_book, fresh_answer, fresh_book_beside, applied, answer, step, run}
 use Rattle.book.specs.Reading.Decisions.{decision, events_of}
@@ -71,7 +71,7 @@ module _ (figures : List ℤ) (files : List ℕ) (k a b c d e : ℕ) (l : List �
       → GivenNumbers rule l (call_of_six figures files k a b c d e) z m
   is_call rule m call p g = subst (λ (y : Call). GivenNumbers rule l y z m) (sym p) g
 
-  -- A kind below 10 is the named one.
+  -- A kind below 9 is the named one.
   of-kind : (rule : Rule) (m : List ℕ) (n : ℕ) (call : Call) → k ≡ n → call_of_six figures files n a b c d e ≡ call → GivenNumbers rule l call z m
       → GivenNumbers rule l (call_of_six figures files k a b c d e) z m
   of-kind rule m n call p q g = is_call rule m call (ap (λ (y : ℕ). call_of_six figures files y a b c d e) p ∙ q) g
@@ -121,21 +121,17 @@ module _ (figures : List ℤ) (files : List ℕ) (k a b c d e : ℕ) (l : List �
     unfolding call_of_six
     as-batch file p q g = of-kind new_rule m 8 (batch file) p (ap batch (sym q)) (gave l m (batch file) x z g h)
 
-    pub as-delete : k ≡ 9 → GivenWords l (on a delete) x m → GivenNumbers new_rule l (call_of_six figures files k a b c d e) z m
-    unfolding call_of_six
-    as-delete p g = of-kind new_rule m 9 (on a delete) p refl (gave l m (on a delete) x z g h)
-
   module _ (x : Answer) (w : WellFormed l) (h : z ≡ six_numbers x) where
     pub as-statement : k ≡ 7 → Given (book_of_words l) (statement a) x (book_of_words l)
         → GivenNumbers new_rule l (call_of_six figures files k a b c d e) z l
     unfolding call_of_six
     as-statement p g = of-kind new_rule l 7 (statement a) p refl (asked l (statement a) x z w g h)
 
-    -- A kind above 9.
+    -- A kind above 8.
     pub as-count : (k ≡ 0 → ⊥) → (k ≡ 1 → ⊥) → (k ≡ 2 → ⊥) → (k ≡ 3 → ⊥) → (k ≡ 4 → ⊥) → (k ≡ 5 → ⊥) → (k ≡ 6 → ⊥) → (k ≡ 7 → ⊥)
-        → (k ≡ 8 → ⊥) → (k ≡ 9 → ⊥) → Given (book_of_words l) calls_made x (book_of_words l) → GivenNumbers new_rule l (call_of_six figures files k a b c d e) z l
+        → (k ≡ 8 → ⊥) → Given (book_of_words l) calls_made x (book_of_words l) → GivenNumbers new_rule l (call_of_six figures files k a b c d e) z l
     unfolding call_of_six
-    as-count n₀ n₁ n₂ n₃ n₄ n₅ n₆ n₇ n₈ n₉ g =
+    as-count n₀ n₁ n₂ n₃ n₄ n₅ n₆ n₇ n₈ g =
         is_call new_rule l calls_made
         (simp (
           ne_eqb k 0 n₀,
@@ -147,7 +143,6 @@ module _ (figures : List ℤ) (files : List ℕ) (k a b c d e : ℕ) (l : List �
           ne_eqb k 6 n₆,
           ne_eqb k 7 n₇,
           ne_eqb k 8 n₈,
-          ne_eqb k 9 n₉,
         ))
         (asked l calls_made x z w g h)
 
@@ -211,7 +206,6 @@ numbers-long (stated f c s d a) = refl
 numbers-long (counted n) = refl
 numbers-long (batched n) = refl
 numbers-long (refused_pair n i) = refl
-numbers-long (deletion a calls) = refl
 
 decided-long : (s first : ℕ) (calls : List ℕ) (figures : List ℤ) (files : List ℕ) (n : ℕ) → length (decided s first calls figures files n) ≡ 6 * n
 unfolding decided

@@ -10,7 +10,7 @@ use lib.Dec.{ltb, eqb}
 use lib.IntN.{ℤ}
 use Rattle.laws.specs.Cases.{split}
 use Rattle.layout.specs.Book.{Book}
-use Rattle.book.specs.Call.{admit, lodge, release, settle, annual_run, delete, Call, on, advance, statement, calls_made, batch}
+use Rattle.book.specs.Call.{admit, lodge, release, settle, annual_run, Call, on, advance, statement, calls_made, batch}
 use Rattle.book.specs.Rule.{old_rule, new_rule, under, history}
 use Rattle.book.specs.Account.{answer}
 use Rattle.replay.specs.Encoding.{call_of_six, call_at, calls_from, history_up_to, rule_of_place}
@@ -24,7 +24,6 @@ admits (on p (lodge k h)) = false
 admits (on p (release k a)) = false
 admits (on p (settle m figures)) = false
 admits (on p annual_run) = false
-admits (on p delete) = false
 admits (advance day budget) = false
 admits (statement p) = false
 admits calls_made = false
@@ -38,7 +37,6 @@ alike (on p (lodge k h)) e b = refl
 alike (on p (release k a)) e b = refl
 alike (on p (settle m figures)) e b = refl
 alike (on p annual_run) e b = refl
-alike (on p delete) e b = refl
 alike (advance day budget) e b = refl
 alike (statement p) e b = refl
 alike calls_made e b = refl
@@ -60,8 +58,7 @@ admits-six figures files k a b c d e n =
     (neither (eqb k 5) _ _ refl
     (neither (eqb k 6) _ _ refl
     (neither (eqb k 7) _ _ refl
-    (neither (eqb k 8) _ _ refl
-    (neither (eqb k 9) _ _ refl refl)))))))))
+    (neither (eqb k 8) _ _ refl refl))))))))
 
 -- ---- the history of the calls so far
 

@@ -87,7 +87,6 @@ fn apply(
         6 => encoded::advanced_numbers(book::advance(book, Day(clipped(a)), b)),
         7 => encoded::stated_numbers(book::statement(book, a)),
         8 => encoded::loaded_numbers(book::load(book, part_of_files(files, a, b))),
-        9 => encoded::deletion_numbers(book::delete(book, a)),
         _ => encoded::counted_numbers(book::calls_made(book)),
     }
 }

@@ -1,12 +1,11 @@
 // An answer as six numbers: which it is, then its values, then zeros.
 ghost use Rattle.std.specs.Prelude.{◌≡◌, ◌≤◌, pos};
-ghost use Rattle.file.specs.Answer.{counted, outcome_says, settled_says, annual_says, deletion_says, statement_says};
+ghost use Rattle.file.specs.Answer.{counted, outcome_says, settled_says, annual_says, statement_says};
 ghost use Rattle.book.specs.Call.{advanced_says, stated_says, loaded_says};
 ghost use Rattle.replay.specs.Encoding.{largest_signed, six, six_numbers, WithinSigned};
 
 use book::{Advanced, Loaded, Stated};
-use file::{AnnualRun, Deletion, Outcome, Settled, Statement};
-use layout::parts::flag_word;
+use file::{AnnualRun, Outcome, Settled, Statement};
 
 // A number of a signed word.
 fn signed(x: u64) -> i64
@@ -18,7 +17,7 @@ fn signed(x: u64) -> i64
 
 // A number that says which answer it is, its first three values, and zeros for the others.
 fn values(kind: u64, a: u64, b: u64, c: u64) -> [i64; 6]
-    requires { (kind ≤ 11) × (a ≤ largest_signed) × (b ≤ largest_signed) × (c ≤ largest_signed) }
+    requires { (kind ≤ 10) × (a ≤ largest_signed) × (b ≤ largest_signed) × (c ≤ largest_signed) }
     ensures { result ≡ six kind (pos a) (pos b) (pos c) (pos 0) (pos 0) }
 {
     [signed(kind), signed(a), signed(b), signed(c), 0, 0]
@@ -101,17 +100,6 @@ pub fn loaded_numbers(answer: Loaded) -> [i64; 6]
     match answer {
         Loaded::Parts(n) => values(9, n as u64, 0, 0),
         Loaded::Refused(n, pair) => values(10, n as u64, pair as u64, 0),
-    }
-}
-
-// The numbers of a deletion's answer.
-pub fn deletion_numbers(answer: Deletion) -> [i64; 6]
-    requires { WithinSigned (deletion_says answer) }
-    ensures { result ≡ six_numbers (deletion_says answer) }
-{
-    match answer {
-        Deletion::Placed(amount, called) => values(11, amount, flag_word(called), 0),
-        Deletion::Refused(n) => values(0, n as u64, 0, 0),
     }
 }
 

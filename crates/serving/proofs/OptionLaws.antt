@@ -10,7 +10,7 @@ use Rattle.printing.specs.PlacedLaws.{put_then}
 use Rattle.dialogue.specs.declared.Place.{Place}
 use Rattle.serving.specs.declared.options.Options.{Options}
 use Rattle.serving.specs.Options.{option_names, is_dashed, with_option, with_load, with_argument}
-use Rattle.serving.specs.End.{end_line_lem}
+use Rattle.serving.specs.End.{end_line}
 
 pub empty-dashed : (a : List ℕ) → length a ≡ 0 → false ≡ is_dashed a
 empty-dashed [] e = refl
@@ -65,8 +65,8 @@ not-awaited o r i a t e = e ∙ sym (cond-false o.awaits (with_load o i a) (with
 
 pub end_line_lem : (p : Place) (n : ℕ) (e f g h i j : List ℕ) (a b c d r : ℕ) → Put (text "end ") e 0 a f
     → Put (decimal p.line) f a b g → Put (text " ") g b c h
-    → n ≡ p.line - p.refused → Put (decimal n) h c d i → Put (10 ∷ []) i d r j → Put (end_line_lem p) e 0 r j
-unfolding end_line_lem
+    → n ≡ p.line - p.refused → Put (decimal n) h c d i → Put (10 ∷ []) i d r j → Put (end_line p) e 0 r j
+unfolding end_line
 end_line_lem p n e f g h i j a b c d r u v w m x y =
     rw (← m)
     (put_then _ (10 ∷ []) e i j 0 d r

@@ -29,7 +29,7 @@ Answers calls from standard input, one a line. With JOURNAL the book is kept in 
 
 // The version: its second number grows with what is kept or answered otherwise than before.
 pub fn put_version() {
-    write_whole(libc::STDOUT_FILENO, b"ledger 1.5\n");
+    write_whole(libc::STDOUT_FILENO, b"ledger 1.4\n");
 }
 
 // How many lines were neither refused nor an error.

@@ -19,7 +19,7 @@ use Rattle.special.specs.declared.Special.{Special}
 use Rattle.special.specs.declared.Special.TheVariants.{Guarantee, Refused}
 use Rattle.special.specs.Ranges.{rates_in_range, zeros_in_range, excesses_in_range, Amounts}
 use Rattle.special.specs.Ratio.{usable, ratio}
-use Rattle.special.specs.Causes.{wrong_lengths, outside_ranges, too_few_lem, causes}
+use Rattle.special.specs.Causes.{wrong_lengths, outside_ranges, too_few, causes}
 use Rattle.special.specs.Guarantee.{amount, special_guarantee}
 use Rattle.special.specs.Best.{kept, empty, BestOf}
 use Rattle.special.proofs.Usable.{usable-all}
@@ -91,8 +91,8 @@ module _ {medium low : List ℤ} {marks : List ℕ} {zm zl em el : List ℤ} (p 
     all-medium : BestOf medium bm
     all-medium = rw usable-all at hm
 
-    too_few_lem : too_few_lem medium (usable low marks) ≡ ltb bm.n 3 || ltb bl.n 3
-    unfolding too_few_lem
+    too_few_lem : too_few medium (usable low marks) ≡ ltb bm.n 3 || ltb bl.n 3
+    unfolding too_few
     too_few_lem = rw (all-medium.number, hl.number)
 
     pub refused-18 : ltb bm.n 3 || ltb bl.n 3 ≡ true → Refused 18 ≡ answer medium low marks zm zl em el

@@ -26,7 +26,7 @@ use Rattle.file.specs.Release.{release_floor, slots_left, release_answer, releas
 use Rattle.file.specs.Sound.{SoundPosition}
 use Rattle.file.proofs.Lodgings as lodgings
 use Rattle.file.proofs.Releases as releases
-use Rattle.layout.specs.Parts.{admitted_of, slot_words, SlotBack, written}
+use Rattle.layout.specs.Parts.{flag_of, slot_words, SlotBack, written}
 use Rattle.layout.specs.Files.{file_of_words, slot_in, slots_of_words, calls_of_words, words_at}
 use Rattle.layout.specs.Words.{place, file_in_words, today_in}
 use Rattle.layout.specs.WellFormed.{WellFormed}
@@ -49,7 +49,7 @@ module _ (l : List ℕ) (p k : ℕ) where
   t = today_in l
 
   -- What is read of the file.
-  flag_is : (a : Bool) → a ≡ admitted_of (get_or l (place p + 1) 0) → a ≡ f.admitted
+  flag_is : (a : Bool) → a ≡ flag_of (get_or l (place p + 1) 0) → a ≡ f.admitted
   unfolding file_of_words
   flag_is a e = e
 
@@ -59,7 +59,7 @@ module _ (l : List ℕ) (p k : ℕ) where
 
   -- ---- a lodging
 
-  module _ (h : Position) (a : Bool) (ea : a ≡ admitted_of (get_or l (place p + 1) 0)) where
+  module _ (h : Position) (a : Bool) (ea : a ≡ flag_of (get_or l (place p + 1) 0)) where
     pub lodge-unknown : a ≡ false → refused 2 ≡ file_answer f t (lodge k h)
     unfolding file_answer
     lodge-unknown e = not-admitted f (lodge_answer f t k h) (sym (flag_is a ea) ∙ e)
@@ -95,7 +95,7 @@ module _ (l : List ℕ) (p k : ℕ) where
 
   -- ---- a release
 
-  module _ (n : ℕ) (a : Bool) (ea : a ≡ admitted_of (get_or l (place p + 1) 0)) where
+  module _ (n : ℕ) (a : Bool) (ea : a ≡ flag_of (get_or l (place p + 1) 0)) where
     pub release-unknown : a ≡ false → refused 2 ≡ file_answer f t (release k n)
     unfolding file_answer
     release-unknown e = not-admitted f (release_answer f t k n) (sym (flag_is a ea) ∙ e)

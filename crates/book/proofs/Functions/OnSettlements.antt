@@ -24,7 +24,7 @@ use Rattle.file.specs.Position.{cover_through}
 use Rattle.file.specs.Settle.{outside_months, check_due, deposited, settle_answer}
 use Rattle.file.specs.Sound.{SoundPosition}
 use Rattle.file.proofs.Settling as settling
-use Rattle.layout.specs.Parts.{admitted_of, open_call_of_words}
+use Rattle.layout.specs.Parts.{flag_of, open_call_of_words}
 use Rattle.layout.specs.Files.{file_of_words, slots_of_words, calls_of_words, words_at}
 use Rattle.layout.specs.Words.{place, file_in_words, today_in}
 use Rattle.layout.specs.WellFormed.{WellFormed}
@@ -44,7 +44,7 @@ module _ (l : List ℕ) (p : ℕ) where
   abbrev t : ℕ
   t = today_in l
 
-  module _ (a : Bool) (ea : a ≡ admitted_of (get_or l (place p + 1) 0)) (outside due : Bool) (sum : Sum) where
+  module _ (a : Bool) (ea : a ≡ flag_of (get_or l (place p + 1) 0)) (outside due : Bool) (sum : Sum) where
     flag_is : a ≡ f.admitted
     unfolding file_of_words
     flag_is = ea

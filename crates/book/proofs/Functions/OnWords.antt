@@ -16,7 +16,7 @@ use Rattle.file.specs.declared.File.{File}
 use Rattle.file.specs.declared.AnnualRun.{AnnualRun}
 use Rattle.file.specs.declared.Slot.{Slot}
 use Rattle.file.specs.declared.Statement.{Statement}
-use Rattle.file.specs.Answer.{Answer, refused, done, called, covered, recorded, annual, days_opened, stated, counted, batched, refused_pair, deletion}
+use Rattle.file.specs.Answer.{Answer, refused, done, called, covered, recorded, annual, days_opened, stated, counted, batched, refused_pair}
 use Rattle.file.specs.Answer.{accepted, annual_says, statement_says}
 use Rattle.file.specs.Admit.{no_file, admitted_file}
 use Rattle.file.specs.Annual.{annual_amount_of, annual_answer, annual_file}
@@ -24,14 +24,14 @@ use Rattle.file.specs.Fields.{cover_of, shortfall_of, with_next, set_to}
 use Rattle.file.specs.Position.{cover_through, cover_on}
 use Rattle.file.specs.Sound.{Sound, SoundPosition}
 use Rattle.file.specs.Statement.{file_statement}
-use Rattle.layout.specs.Parts.{admitted_of, written}
+use Rattle.layout.specs.Parts.{flag_of, written}
 use Rattle.layout.specs.Files.{file_of_words, slots_of_words, words_at, Put}
 use Rattle.layout.specs.Words.{book_length, place, file_in_words, today_in, book_of_words, book_words}
 use Rattle.layout.specs.WellFormed.{SoundBook, WellFormed}
 use Rattle.layout.proofs.BookLaws.{book-long, book-file, put-book, put-length, made-book, canonical-put, canonical-made, fresh_words, fresh-words}
 use Rattle.layout.proofs.BookLaws.{canonical-fresh}
 use Rattle.layout.proofs.PartLaws.{next-put}
-use Rattle.book.specs.Call.{Act, admit, settle, annual_run, delete, Call, on, statement, calls_made, is_called}
+use Rattle.book.specs.Call.{Act, admit, settle, annual_run, Call, on, statement, calls_made, is_called}
 use Rattle.book.specs.Rule.{Rule, old_rule, new_rule}
 use Rattle.book.specs.Account.{file_at, fresh_book, if_admitted, admits_retired, file_answer, file_after, calls_added, answer, step, applied}
 use Rattle.book.specs.Reading.Decisions.{cause}
@@ -93,7 +93,7 @@ pub day-within : (l : List ℕ) (t : ℕ) → WellFormed l → t ≡ today_in l 
 unfolding book_of_words
 day-within l t w e = rw e w.sound.day
 
-pub room : (l : List ℕ) (n : ℕ) → WellFormed l → n ≤ 4 → get_or l 2 0 + n < 18446744073709551616
+room : (l : List ℕ) (n : ℕ) → WellFormed l → n ≤ 4 → get_or l 2 0 + n < 18446744073709551616
 unfolding book_of_words
 room l n w h = count_fits (book_of_words l) n w.sound h
 
@@ -114,7 +114,7 @@ unfolding file_at
 file-there l p h = book-file l p h
 
 -- Whether it is admitted, and its role.
-pub there-admitted : (l : List ℕ) (p : ℕ) (r : Bool) → p ≤ 63 → r ≡ admitted_of (get_or l (place p + 1) 0) → r ≡ (file_at (book_of_words l) p).admitted
+pub there-admitted : (l : List ℕ) (p : ℕ) (r : Bool) → p ≤ 63 → r ≡ flag_of (get_or l (place p + 1) 0) → r ≡ (file_at (book_of_words l) p).admitted
 unfolding file_of_words
 there-admitted l p r h e = e ∙ sym (ap (λ (z : File). z.admitted) (file-there l p h))
 
@@ -148,7 +148,6 @@ amount_in (stated f c s d a) = 0
 amount_in (counted n) = 0
 amount_in (batched n) = 0
 amount_in (refused_pair n i) = 0
-amount_in (deletion a c) = 0
 
 pub above-given : (l : List ℕ) (p : ℕ) (a : Act) → WellFormed l → 63 < p → GivenWords l (on p a) (refused 1) l
 above-given l p a w h = nothing_written l (on p a) (refused 1) w (above (book_of_words l) p a h)
@@ -166,7 +165,7 @@ module _ (l : List ℕ) (p : ℕ) (w : WellFormed l) (low : p ≤ 63) where
   file-sound f t e q = rw (e, q) (subst (Sound (today_in l)) (file-there l p low) (sound-file (book_of_words l) p w.sound))
 
   -- what is said of the file in the words is said of the book's file
-  pub said : {X : Type 0} (F : File → X) (x : X) → x ≡ F (file_in_words l p) → x ≡ F (file_at (book_of_words l) p)
+  said : {X : Type 0} (F : File → X) (x : X) → x ≡ F (file_in_words l p) → x ≡ F (file_at (book_of_words l) p)
   said F x e = e ∙ ap F (sym (file-there l p low))
 
   module _ (m : List ℕ) (g : File) (put : Put l (place p) g m) where
@@ -178,7 +177,7 @@ module _ (l : List ℕ) (p : ℕ) (w : WellFormed l) (low : p ≤ 63) where
         (canonical-put l m p g w.canonical low put)
 
     -- the file and a count
-    pub both : (a : Act) (x : Answer) (n : ℕ) → Given (book_of_words l) (on p a) x (stored_in (book_of_words l) p g n) → GivenWords l (on p a) x (set m 2 n)
+    both : (a : Act) (x : Answer) (n : ℕ) → Given (book_of_words l) (on p a) x (stored_in (book_of_words l) p g n) → GivenWords l (on p a) x (set m 2 n)
     both a x n h =
         in_words l (set m 2 n) (on p a) x w (subst (Given (book_of_words l) (on p a) x) (sym (stored-book l m p g low put n w.long)) h)
         (length-set m 2 n ∙ put-length l m p g low put)
@@ -262,7 +261,7 @@ module _ (l : List ℕ) (p : ℕ) (w : WellFormed l) (low : p ≤ 63) where
         ∙ sym (go.1 ∙ cond-true (accepted (annual_answer f t)) (with_next f (set_to (annual_amount_of f t))) f own))
 
   -- whether it is admitted, by its word
-  module _ (a : Bool) (ea : a ≡ admitted_of (get_or l (place p + 1) 0)) where
+  module _ (a : Bool) (ea : a ≡ flag_of (get_or l (place p + 1) 0)) where
     flag_is : a ≡ (file_at (book_of_words l) p).admitted
     flag_is = there-admitted l p a low ea
 

@@ -13,13 +13,13 @@ use Rattle.laws.specs.Tabulated.{set-table-as}
 use Rattle.file.specs.declared.OpenCall.{OpenCall}
 use Rattle.file.specs.declared.Position.{Position}
 use Rattle.file.specs.Answer.{refused, Cause, done, decide, accepted}
-use Rattle.file.specs.Position.{cover_on, in_force, filled, emptied_on, less_released, not_releasable, outside_amounts, slot_of, position_at_lem}
+use Rattle.file.specs.Position.{cover_on, in_force, filled, emptied_on, less_released, not_releasable, outside_amounts, slot_of, position_at}
 use Rattle.file.specs.Calls.{largest, amounts_of}
 use Rattle.file.specs.Fields.{with_slots}
 use Rattle.file.specs.Release.{release_floor, slots_left, release_answer, released_file}
 use Rattle.book.specs.Account.{if_admitted, file_answer, file_after}
 use Rattle.book.specs.Call.{release}
-use Rattle.book.specs.Reading.Events.{Own, act, admitted_in, leaving_in, role_in}
+use Rattle.book.specs.Reading.Events.{Own, act, admitted_in, role_in}
 use Rattle.book.specs.Reading.Holdings.{last_lodged, released_since, left_at, position_in, lodged_where, released_where, cover_in}
 use Rattle.book.specs.Reading.Months.{next_in}
 use Rattle.book.specs.Reading.Calls.{base_in, calls_in, firm_in, open_in}
@@ -60,7 +60,7 @@ unfolding slots_left file_in
 released-slots t k a own place full allowed =
     let new = act t (release k a) ∷ own in
     set-table-as 8 (λ j. slot_of (position_in t j own)) (λ j. slot_of (position_in t j new)) k
-    (slot_of (less_released a (position_at_lem (slots_in t own) k)))
+    (slot_of (less_released a (position_at (slots_in t own) k)))
     (ap (λ (p : Position). slot_of (less_released a p)) (position_at_lem t k own place) ∙ ap slot_of (released-here t k a own full allowed))
     (λ j ne. ap slot_of (released-elsewhere t k j a own ne))
 
@@ -128,7 +128,7 @@ release-answer s k a own lw =
     let t = today_in s own in
     let left = ltb (cover_on t (slots_left (file_in t own) k a)) (release_floor (file_in t own)) in
     let stays = ltb (cover_left t k a own) (must_stay t own) in
-    decide-same (cause 5 (ltb 7 k)) (causes_at a (position_at_lem (slots_in t own) k) left) (causes_at a (position_in t k own) stays) done done
+    decide-same (cause 5 (ltb 7 k)) (causes_at a (position_at (slots_in t own) k) left) (causes_at a (position_in t k own) stays) done done
     (λ e.
     ap (λ (p : Position). decide refused (causes_at a p left) done) (position_at_lem t k own e)
     ∙ causes-same a (position_in t k own) left stays (little-left s k a own lw e))
@@ -147,12 +147,11 @@ releasing-answers s k a own lw =
 released-kept : (s k a : ℕ) (own : List Own) → Lawful s own → NoneHolds (own_causes (today_in s own) own (release k a))
     → with_slots (file_in (today_in s own) own) (slots_left (file_in (today_in s own) own) k a)
     ≡ file_in (today_in s own) (act (today_in s own) (release k a) ∷ own)
-unfolding admitted_in leaving_in role_in firm_in base_in calls_in open_in next_in ring_in own_causes
+unfolding admitted_in role_in firm_in base_in calls_in open_in next_in ring_in own_causes
 released-kept s k a own lw none =
     let t = today_in s own in
     with-slots-of t own (act t (release k a) ∷ own) (slots_left (file_in t own) k a)
     (released-slots t k a own none.1.0 (not-false (filled (position_in t k own)) none.1.1.0) none.1.1.1.1.0)
-    refl
     refl
     refl
     refl

@@ -2,7 +2,6 @@
 -- Assumes nothing.
 use Rattle.answering.proofs.CallLaws.{as-nothing, as-fresh, as-admit, as-cash, as-letter, as-release}
 use Rattle.answering.proofs.CallLaws.{as-settle, as-annual, as-advance, as-statement, as-calls, as-special, as-batch, as-mark}
-use Rattle.answering.proofs.CallLaws.{as-delete}
 use Rattle.answering.proofs.CallLaws.{as-report, as-error}
 use borrow.Author.Rules.{rules}
 use Rattle.answering.proofs.calls.apply.Statement.{statement}
@@ -116,20 +115,11 @@ loaded-shown-requires c κs = search rules
 enum-told-3 : tie.Need-enum-told-3
 enum-told-3 c = search rules
 
-enum-known-request-12 : tie.Need-enum-known-request-12
-enum-known-request-12 c = search rules
-
-delete-requires : tie.Need-delete-requires
-delete-requires c κs = search rules
-
-deletion-shown-requires : tie.Need-deletion-shown-requires
-deletion-shown-requires c κs = search rules
-
 enum-told-4 : tie.Need-enum-told-4
 enum-told-4 c = search rules
 
-enum-known-request-13 : tie.Need-enum-known-request-13
-enum-known-request-13 c = search rules
+enum-known-request-12 : tie.Need-enum-known-request-12
+enum-known-request-12 c = search rules
 
 returns : tie.Need-returns
 returns c = search (as-nothing, rules)
@@ -206,17 +196,11 @@ returns-13 c = search (as-batch, rules)
 returns-14 : tie.Need-returns-14
 returns-14 c = search (as-mark, rules)
 
-same-length-12 : tie.Need-same-length-12
-same-length-12 c = search rules
-
 returns-15 : tie.Need-returns-15
-returns-15 c = search (as-delete, rules)
+returns-15 c = search (as-report, rules)
 
 returns-16 : tie.Need-returns-16
-returns-16 c = search (as-report, rules)
-
-returns-17 : tie.Need-returns-17
-returns-17 c = search (as-error, rules)
+returns-16 c = search (as-error, rules)
 
 pub apply-spec : {M : Type 1} → statement M
 apply-spec =
@@ -258,11 +242,8 @@ apply-spec =
     load-file-requires
     loaded-shown-requires
     enum-told-3
-    enum-known-request-12
-    delete-requires
-    deletion-shown-requires
     enum-told-4
-    enum-known-request-13
+    enum-known-request-12
     returns
     same_length
     returns-2
@@ -288,7 +269,5 @@ apply-spec =
     same-length-11
     returns-13
     returns-14
-    same-length-12
     returns-15
-    returns-16
-    returns-17)
+    returns-16)

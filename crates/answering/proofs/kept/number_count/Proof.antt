@@ -1,36 +1,151 @@
 -- `answering::kept::number_count` meets its contract: the request decides.
--- What is asked in each arm stands first, in the order of the arms, and then what each of them returns.
 -- Assumes nothing.
-use mathlib.Core.Path.{refl}
-use Rattle.answering.proofs.KeptLaws.{count_none, count-settle, count-special, count-batch}
+use Rattle.answering.proofs.KeptLaws.{count-settle, count-special, count-batch}
 use borrow.Author.Rules.{rules}
 use Rattle.answering.proofs.kept.number_count.Statement.{statement}
 use Rattle.answering.proofs.kept.number_count.Tie as tie
+
+enum_told : tie.Need-enum-told
+enum_told c = search rules
+
+enum-told-2 : tie.Need-enum-told-2
+enum-told-2 c = search rules
+
+enum-told-3 : tie.Need-enum-told-3
+enum-told-3 c = search rules
+
+enum-told-4 : tie.Need-enum-told-4
+enum-told-4 c = search rules
+
+enum-told-5 : tie.Need-enum-told-5
+enum-told-5 c = search rules
+
+enum-told-6 : tie.Need-enum-told-6
+enum-told-6 c = search rules
+
+enum-known-request : tie.Need-enum-known-request
+enum-known-request c = search rules
+
+smaller-requires : tie.Need-smaller-requires
+smaller-requires c κs = search rules
+
+enum-told-7 : tie.Need-enum-told-7
+enum-told-7 c = search rules
+
+enum-told-8 : tie.Need-enum-told-8
+enum-told-8 c = search rules
+
+enum-told-9 : tie.Need-enum-told-9
+enum-told-9 c = search rules
+
+enum-told-10 : tie.Need-enum-told-10
+enum-told-10 c = search rules
+
+enum-known-request-2 : tie.Need-enum-known-request-2
+enum-known-request-2 c = search rules
+
+listed-requires : tie.Need-listed-requires
+listed-requires c κs = search rules
+
+enum-known-request-3 : tie.Need-enum-known-request-3
+enum-known-request-3 c = search rules
+
+smaller-requires-2 : tie.Need-smaller-requires-2
+smaller-requires-2 c κs = search rules
+
+enum-told-11 : tie.Need-enum-told-11
+enum-told-11 c = search rules
+
+enum-told-12 : tie.Need-enum-told-12
+enum-told-12 c = search rules
+
+enum-told-13 : tie.Need-enum-told-13
+enum-told-13 c = search rules
+
+returns : tie.Need-returns
+returns c = search rules
+
+returns-2 : tie.Need-returns-2
+returns-2 c = search rules
+
+returns-3 : tie.Need-returns-3
+returns-3 c = search rules
+
+returns-4 : tie.Need-returns-4
+returns-4 c = search rules
+
+returns-5 : tie.Need-returns-5
+returns-5 c = search rules
+
+returns-6 : tie.Need-returns-6
+returns-6 c = search rules
+
+returns-7 : tie.Need-returns-7
+returns-7 c = search (count-settle, rules)
+
+returns-8 : tie.Need-returns-8
+returns-8 c = search rules
+
+returns-9 : tie.Need-returns-9
+returns-9 c = search rules
+
+returns-10 : tie.Need-returns-10
+returns-10 c = search rules
+
+returns-11 : tie.Need-returns-11
+returns-11 c = search rules
+
+returns-12 : tie.Need-returns-12
+returns-12 c = search (count-special, rules)
+
+returns-13 : tie.Need-returns-13
+returns-13 c = search (count-batch, rules)
+
+returns-14 : tie.Need-returns-14
+returns-14 c = search rules
+
+returns-15 : tie.Need-returns-15
+returns-15 c = search rules
+
+returns-16 : tie.Need-returns-16
+returns-16 c = search rules
 
 pub number-count-spec : {M : Type 1} → statement M
 number-count-spec =
     tie.close
     (tie.spec
-    (λ c. search rules) (λ c. search rules) (λ c. search rules) (λ c. search rules) (λ c. search rules) (λ c. search rules)
-    (λ c. search rules) (λ c κs. search rules)
-    (λ c. search rules) (λ c. search rules) (λ c. search rules) (λ c. search rules)
-    (λ c. search rules) (λ c κs. search rules)
-    (λ c. search rules) (λ c κs. search rules)
-    (λ c. search rules) (λ c. search rules) (λ c. search rules) (λ c. search rules)
-    (λ c. count_none _ _ _ c.enum_told.given.1 refl)
-    (λ c. count_none _ _ _ c.enum-told2.given.1 refl)
-    (λ c. count_none _ _ _ c.enum-told3.given.1 refl)
-    (λ c. count_none _ _ _ c.enum-told4.given.1 refl)
-    (λ c. count_none _ _ _ c.enum-told5.given.1 refl)
-    (λ c. count_none _ _ _ c.enum-told6.given.1 refl)
-    (λ c. search (count-settle, rules))
-    (λ c. count_none _ _ _ c.enum-told7.given.1 refl)
-    (λ c. count_none _ _ _ c.enum-told8.given.1 refl)
-    (λ c. count_none _ _ _ c.enum-told9.given.1 refl)
-    (λ c. count_none _ _ _ c.enum-told10.given.1 refl)
-    (λ c. search (count-special, rules))
-    (λ c. search (count-batch, rules))
-    (λ c. count_none _ _ _ c.enum-told11.given.1 refl)
-    (λ c. count_none _ _ _ c.enum-told12.given.1 refl)
-    (λ c. count_none _ _ _ c.enum-told13.given.1 refl)
-    (λ c. count_none _ _ _ c.enum-told14.given.1 refl))
+    enum_told
+    enum-told-2
+    enum-told-3
+    enum-told-4
+    enum-told-5
+    enum-told-6
+    enum-known-request
+    smaller-requires
+    enum-told-7
+    enum-told-8
+    enum-told-9
+    enum-told-10
+    enum-known-request-2
+    listed-requires
+    enum-known-request-3
+    smaller-requires-2
+    enum-told-11
+    enum-told-12
+    enum-told-13
+    returns
+    returns-2
+    returns-3
+    returns-4
+    returns-5
+    returns-6
+    returns-7
+    returns-8
+    returns-9
+    returns-10
+    returns-11
+    returns-12
+    returns-13
+    returns-14
+    returns-15
+    returns-16)

@@ -12,17 +12,17 @@ mul_at c = search rules
 add_at : tie.Need-overflow-add-at
 add_at c = search rules
 
-add-admitted : tie.Need-overflow-add-admitted
-add-admitted c = search rules
+add-flag : tie.Need-overflow-add-flag
+add-flag c = search rules
 
-mul-admitted : tie.Need-overflow-mul-admitted
-mul-admitted c = search rules
+mul-flag : tie.Need-overflow-mul-flag
+mul-flag c = search rules
 
-shared-slice-read-admitted : tie.Need-shared-slice-read-admitted
-shared-slice-read-admitted c = search rules
+shared-slice-read-flag : tie.Need-shared-slice-read-flag
+shared-slice-read-flag c = search rules
 
-admitted-requires : tie.Need-admitted-requires
-admitted-requires c κs = search rules
+flag-requires : tie.Need-flag-requires
+flag-requires c κs = search rules
 
 returns : tie.Need-returns
 returns c = search (settle-unknown, not-true, rules)
@@ -54,10 +54,10 @@ settle-answer-spec =
     (tie.spec
     mul_at
     add_at
-    add-admitted
-    mul-admitted
-    shared-slice-read-admitted
-    admitted-requires
+    add-flag
+    mul-flag
+    shared-slice-read-flag
+    flag-requires
     returns
     returns-2
     enum-known-sum

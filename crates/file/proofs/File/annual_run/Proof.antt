@@ -1,9 +1,8 @@
--- `file::File::annual_run` meets its contract: refused outside the annual days, and under deletion; otherwise what the window found are the recorded
--- totals of months P − 14 to P − 3, and the amount is theirs.
+-- `file::File::annual_run` meets its contract: refused outside the annual days; otherwise what the window found are the recorded totals of
+-- months P − 14 to P − 3, and the amount is theirs.
 -- Assumes nothing.
 use borrow.Author.Rules.{rules}
-use Rattle.file.proofs.Windows.{window-inside, window-count}
-use Rattle.file.proofs.Runs.{window-months, run-refused, run-leaving, run-done}
+use Rattle.file.proofs.Windows.{window-months, window-inside, window-count, run-refused, run-done}
 use Rattle.file.proofs.File.annual_run.Statement.{statement}
 use Rattle.file.proofs.File.annual_run.Tie as tie
 
@@ -12,9 +11,6 @@ in-annual-days-requires c κs = search rules
 
 returns : tie.Need-returns
 returns c = run-refused _ _ _ c.before.in-annual-days.ensures c.if1.true
-
-returns-2 : tie.Need-returns-2
-returns-2 c = run-leaving _ _ _ c.before.before.in-annual-days.ensures c.before.if1.false c.if2.true
 
 month-of-requires : tie.Need-month-of-requires
 month-of-requires c κs = search rules
@@ -37,13 +33,12 @@ slice-aggregate-annual-amount c = window-count _ _ c.before.before.window.ensure
 annual-amount-requires : tie.Need-annual-amount-requires
 annual-amount-requires c κs = search rules
 
-returns-3 : tie.Need-returns-3
-returns-3 c =
+returns-2 : tie.Need-returns-2
+returns-2 c =
     let w = c.before.before.before in
     let e = w.before.before in
     let m = e.before.before in
-    let k = m.before in
-    run-done _ _ _ k.before.before.in-annual-days.ensures k.before.if1.false k.if2.false _ _ _ _ _ m.month-of.ensures
+    run-done _ _ _ _ _ _ _ _ m.before.before.in-annual-days.ensures m.before.if1.false m.month-of.ensures
     e.before.months-before.ensures e.months-before2.ensures w.window.ensures c.annual-amount.ensures
 
 pub annual-run-spec : {M : Type 1} → statement M
@@ -52,7 +47,6 @@ annual-run-spec =
     (tie.spec
     in-annual-days-requires
     returns
-    returns-2
     month-of-requires
     months-before-requires
     months-before-requires-2
@@ -60,4 +54,4 @@ annual-run-spec =
     array-share-prefix-recorded
     slice-aggregate-annual-amount
     annual-amount-requires
-    returns-3)
+    returns-2)

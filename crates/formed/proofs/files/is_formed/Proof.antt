@@ -12,23 +12,20 @@ is-canonical-requires c κs = search rules
 returns : tie.Need-returns
 returns c = search (canonical-fails, not-true, rules)
 
-add-admitted : tie.Need-overflow-add-admitted
-add-admitted c = search rules
+add-if2 : tie.Need-overflow-add-if2
+add-if2 c = search rules
 
-mul-admitted : tie.Need-overflow-mul-admitted
-mul-admitted c = search rules
+mul-if2 : tie.Need-overflow-mul-if2
+mul-if2 c = search rules
 
-shared-slice-read-admitted : tie.Need-shared-slice-read-admitted
-shared-slice-read-admitted c = search rules
-
-admitted-requires : tie.Need-admitted-requires
-admitted-requires c κs = search rules
+shared-slice-read-if2 : tie.Need-shared-slice-read-if2
+shared-slice-read-if2 c = search rules
 
 is-blank-requires : tie.Need-is-blank-requires
 is-blank-requires c κs = search rules
 
 returns-2 : tie.Need-returns-2
-returns-2 c = search (blank-formed, not-true, not-false, rules)
+returns-2 c = search (blank-formed, not-false, rules)
 
 is-sound-requires : tie.Need-is-sound-requires
 is-sound-requires c κs = search rules
@@ -42,10 +39,9 @@ is-formed-spec =
     (tie.spec
     is-canonical-requires
     returns
-    add-admitted
-    mul-admitted
-    shared-slice-read-admitted
-    admitted-requires
+    add-if2
+    mul-if2
+    shared-slice-read-if2
     is-blank-requires
     returns-2
     is-sound-requires

@@ -7,11 +7,11 @@ use Rattle.layout.proofs.FileLaws.{own-written}
 use Rattle.layout.proofs.files.put_own.Statement.{statement}
 use Rattle.layout.proofs.files.put_own.Tie as tie
 
-status-word-requires : tie.Need-status-word-requires
-status-word-requires c κs = search rules
-
 flag-word-requires : tie.Need-flag-word-requires
 flag-word-requires c κs = search rules
+
+flag-word-requires-2 : tie.Need-flag-word-requires-2
+flag-word-requires-2 c κs = search rules
 
 add_words : tie.Need-overflow-add-words
 add_words c = search rules
@@ -95,8 +95,8 @@ pub put-own-spec : {M : Type 1} → statement M
 put-own-spec =
     tie.close
     (tie.spec
-    status-word-requires
     flag-word-requires
+    flag-word-requires-2
     add_words
     mul_words
     slice-write-words

@@ -29,8 +29,6 @@ put-call-spec =
     (λ c. search rules) (λ c. search rules) (λ c κs. search rules)
     (λ c. search rules) (λ c. search rules) (λ c κs. search rules)
     (λ c. search rules) (λ c. search rules) (λ c κs. search rules)
-    (λ c. search rules) (λ c. search rules) (λ c κs. search rules)
-    (λ c. search rules) (λ c. search (call-is, rules))
     (λ c. search rules) (λ c. search (call-is, rules))
     (λ c. search rules) (λ c. search (call-is, rules))
     (λ c. search rules) (λ c. search (call-is, rules))

@@ -4,7 +4,7 @@
 use borrow.Author.Rules.{rules}
 use Rattle.replay.proofs.Numbers.{asked-within, given-within}
 use Rattle.replay.proofs.Replaying.{as-admit, as-cash, as-letter, as-release, as-settle, as-annual, as-advance, as-statement}
-use Rattle.replay.proofs.Replaying.{as-batch, as-delete, as-count}
+use Rattle.replay.proofs.Replaying.{as-batch, as-count}
 use Rattle.replay.proofs.apply.apply.Statement.{statement}
 use Rattle.replay.proofs.apply.apply.Tie as tie
 
@@ -77,12 +77,6 @@ load-requires c κs = search rules
 loaded-numbers-requires : tie.Need-loaded-numbers-requires
 loaded-numbers-requires c κs = search rules
 
-delete-requires : tie.Need-delete-requires
-delete-requires c κs = search rules
-
-deletion-numbers-requires : tie.Need-deletion-numbers-requires
-deletion-numbers-requires c κs = search (given-within, rules)
-
 calls-made-requires : tie.Need-calls-made-requires
 calls-made-requires c κs = search rules
 
@@ -147,13 +141,7 @@ same-length-10 : tie.Need-same-length-10
 same-length-10 c = search rules
 
 returns-10 : tie.Need-returns-10
-returns-10 c = search (as-delete, rules)
-
-same-length-11 : tie.Need-same-length-11
-same-length-11 c = search rules
-
-returns-11 : tie.Need-returns-11
-returns-11 c = search (as-count, rules)
+returns-10 c = search (as-count, rules)
 
 pub apply-spec : {M : Type 1} → statement M
 apply-spec =
@@ -182,8 +170,6 @@ apply-spec =
     part-of-files-requires
     load-requires
     loaded-numbers-requires
-    delete-requires
-    deletion-numbers-requires
     calls-made-requires
     counted-numbers-requires
     same_length
@@ -205,6 +191,4 @@ apply-spec =
     same-length-9
     returns-9
     same-length-10
-    returns-10
-    same-length-11
-    returns-11)
+    returns-10)

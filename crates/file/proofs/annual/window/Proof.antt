@@ -1,4 +1,4 @@
--- `file::window::window` meets its contract. The loop's invariant: what was found are the recorded totals of the window's months before those
+-- `file::annual::window` meets its contract. The loop's invariant: what was found are the recorded totals of the window's months before those
 -- that are left. The measure is the number of months left.
 -- Assumes nothing.
 use borrow.Author.Rules.{rules}
@@ -9,12 +9,12 @@ use Rattle.laws.specs.Lists.{length-unmap}
 use Rattle.file.specs.Totals.{total_at, totals_from}
 use Rattle.file.specs.Window.{recorded_in}
 use Rattle.file.proofs.Windows.{window-none, window-short, window-next, window-all}
-use Rattle.file.proofs.window.window.Statement.{statement}
-use Rattle.file.proofs.window.window.Tie as tie
+use Rattle.file.proofs.annual.window.Statement.{statement}
+use Rattle.file.proofs.annual.window.Tie as tie
 
 abbrev invariant-loop : tie.invariant-loop
 invariant-loop end totals found₀ left₀ found left =
-    (left ≤ left₀) × (left₀ ≤ 13) × (left₀ ≤ end.0) × (length totals ≡ 16)
+    (left ≤ left₀) × (left₀ ≤ 12) × (left₀ ≤ end.0) × (length totals ≡ 16)
     × (found ≡ recorded_in (totals_from (total_at totals) (end.0 - left₀) (left₀ - left)))
 
 abbrev decreases-loop : tie.decreases-loop

@@ -1,10 +1,10 @@
--- `file::window::with_month` meets its contract: a place that isn't recorded, or is another month's, adds nothing; a recorded one takes the
+-- `file::annual::with_month` meets its contract: a place that isn't recorded, or is another month's, adds nothing; a recorded one takes the
 -- next place.
 -- Assumes nothing.
 use borrow.Author.Rules.{rules}
 use Rattle.file.proofs.Windows.{month-empty, month-other, month-recorded}
-use Rattle.file.proofs.window.with_month.Statement.{statement}
-use Rattle.file.proofs.window.with_month.Tie as tie
+use Rattle.file.proofs.annual.with_month.Statement.{statement}
+use Rattle.file.proofs.annual.with_month.Tie as tie
 
 returns : tie.Need-returns
 returns c = month-empty _ _ _ c.if1.true

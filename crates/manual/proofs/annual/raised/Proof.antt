@@ -1,10 +1,10 @@
--- `manual::largest::raised` meets its contract: the larger of the two is the total where it exceeds the amount, else the amount.
+-- `manual::annual::raised` meets its contract: the larger of the two is the total where it exceeds the amount, else the amount.
 -- Assumes nothing.
 use borrow.Author.Rules.{rules}
 use Rattle.laws.specs.Integers.{cast_fits}
 use Rattle.manual.proofs.Machine.{cast-above, larger-total, larger-amount}
-use Rattle.manual.proofs.largest.raised.Statement.{statement}
-use Rattle.manual.proofs.largest.raised.Tie as tie
+use Rattle.manual.proofs.annual.raised.Statement.{statement}
+use Rattle.manual.proofs.annual.raised.Tie as tie
 
 exceeds-requires : tie.Need-exceeds-requires
 exceeds-requires c κs = search rules
