@@ -1,4 +1,5 @@
 // What one line of the journal gives: the call that it is, made on the book, and its answer.
+#![tactic(auto)]
 
 mod shown; // shown.rt: the answers of the book's calls as answers of the journal
 mod guarantee; // guarantee.rt: the special guarantee of lists in a row

@@ -1,4 +1,5 @@
 // The file of one month for all participants (paper 02, Ask 1): whether its bytes are a batch, and its parts.
+#![tactic(auto)]
 mod bytes; // bytes.rt: numbers in the bytes of a file
 mod pairs; // pairs.rt: what a file says of its month, its pairs and their parts
 mod parts; // parts.rt: one part, and its figures
@@ -11,7 +12,7 @@ pub use parts::{Part, sum_part};
 pub use reader::{BatchReader, part_at};
 
 // What a file is: a batch of so many parts, or the number of its refusal and the index of the pair that it concerns.
-#[derive(Drop)]
+#[derive(Clone, Copy)]
 pub enum Form {
     Parts(u32),
     Refused(u32, u32),

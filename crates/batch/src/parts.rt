@@ -10,7 +10,7 @@ use manual::Sum;
 use manual::figures::{within, wrong_count};
 
 // A part: its participant, how many figures it has, and where it begins.
-#[derive(Drop)]
+#[derive(Clone, Copy)]
 pub struct Part {
     pub participant: u64,
     pub rows: usize,

@@ -5,7 +5,7 @@ ghost use Rattle.batch.specs.Parts.{PartIs};
 use crate::parts::{Part, part_in};
 
 // The lent file, and the index of a pair.
-#[derive(Drop)]
+#[derive(Clone, Copy)]
 pub struct BatchReader<'a> {
     pub file: &'a [u8],
     pub at: u32,

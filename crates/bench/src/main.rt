@@ -1,6 +1,7 @@
 // A benchmark of the book: one advance over the whole calendar for 64 participants, mixed calls without and with advances, questions, and
 // a month by settlements and by a batch. It writes what was done; with an argument it makes ten times as many calls and a hundred times as many
 // questions, and writes a sum of all answers and the processor time of each part too.
+#![tactic(auto)]
 use mixed::Plan;
 
 mod answers;

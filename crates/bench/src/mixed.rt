@@ -6,7 +6,7 @@ use calendar::Day;
 use std::num::wrapping_add_u64;
 
 // A day to start on, and rounds of so many calls and one advance of so many days.
-#[derive(Drop)]
+#[derive(Clone, Copy)]
 pub struct Plan {
     pub start: u32,
     pub rounds: u64,

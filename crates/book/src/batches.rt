@@ -22,13 +22,13 @@ use file::settle::{check_due, outside_months};
 use layout::parts::number;
 
 // What the settlement of a part answers, in a row of such answers.
-#[derive(Drop)]
+#[derive(Clone, Copy)]
 pub struct PartAnswer {
     pub answer: Settled,
 }
 
 // How a batch is judged: what it answers, and where that is no refusal what its parts do.
-#[derive(Drop)]
+#[derive(Clone, Copy)]
 pub struct Judged {
     pub loaded: Loaded,
     pub answers: [PartAnswer; 64],

@@ -6,7 +6,7 @@ use crate::year::length_in;
 use crate::{Day, LAST_DAY, Month, day_of_month, first_day, month_of};
 
 // A date: a year, a month from 1 to 12 and a day of the month from 1.
-#[derive(Drop)]
+#[derive(Clone, Copy)]
 pub struct Date {
     pub year: u32,
     pub month: u32,
@@ -14,14 +14,14 @@ pub struct Date {
 }
 
 // The day of a date, or that there is no such date in 2020 to 2099.
-#[derive(Drop)]
+#[derive(Clone, Copy)]
 pub enum DateDay {
     On(Day),
     NoDate,
 }
 
 // The date of a day, or that the day is above the last.
-#[derive(Drop)]
+#[derive(Clone, Copy)]
 pub enum Dated {
     Date(Date),
     NoDate,

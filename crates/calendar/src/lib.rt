@@ -1,5 +1,6 @@
 // The civil calendar from 1 January 2020 to 31 December 2099, by numbered days and months: day 0 is 1 January 2020 and
 // month 0 is January 2020. A day number and a month number are types of their own, converted only here.
+#![tactic(auto)]
 ghost use Rattle.std.specs.Prelude.{◌≡◌, eqb};
 ghost use Rattle.calendar.specs.Civil.{month_of, first_day_of, day_of_month_of, is_september, in_september};
 ghost use Rattle.calendar.specs.Civil.{place_of, in_annual_days, is_first_october};
@@ -13,11 +14,11 @@ pub use date::{Date, DateDay, Dated, date_of, day_of_date};
 use year::{length_in, place_in_leap_year, year_day};
 
 // A day, counted from 1 January 2020.
-#[derive(Drop)]
+#[derive(Clone, Copy)]
 pub struct Day(pub u32);
 
 // A month, counted from January 2020.
-#[derive(Drop)]
+#[derive(Clone, Copy)]
 pub struct Month(pub u32);
 
 // The last day, 31 December 2099, and the number of months.

@@ -38,7 +38,7 @@ pub fn length_in(year: u32, place: u32) -> u32
 
 // A day by its year, counted from 2020, and by its number in the year, from 0, as a leap year counts: 1 March is 60 in
 // every year.
-#[derive(Drop)]
+#[derive(Clone, Copy)]
 pub struct YearDay {
     pub year: u32,
     pub day: u32,

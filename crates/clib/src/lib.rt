@@ -3,6 +3,7 @@
 //
 // Each answer begins with its refusal: 0 for an accepted call, the number of paper 01 (1 to 19) or of paper 02 (from 20 on) for a refused one, or
 // 100 for words that are not as many as a book's, which are neither read nor written. A value that has no meaning beside an answer is 0.
+#![tactic(auto)]
 mod calls; // calls.rt: the calls that change a book
 mod numbers; // numbers.rt: answers as numbers
 mod questions; // questions.rt: the questions, and the special guarantee
@@ -10,7 +11,7 @@ mod questions; // questions.rt: the questions, and the special guarantee
 // What a settlement answers: its kind is 1 called, 2 covered, 3 recorded; the month's total in cents; where it is called, the cents asked
 // beyond what is deposited, and the last free day.
 #[repr(C)]
-#[derive(Drop)]
+#[derive(Clone, Copy)]
 pub struct GuaranteeSettled {
     pub refusal: u64,
     pub kind: u64,
@@ -21,7 +22,7 @@ pub struct GuaranteeSettled {
 
 // What a batch answers: how many parts were settled; where it is refused, the index from 0 of the pair that the refusal concerns.
 #[repr(C)]
-#[derive(Drop)]
+#[derive(Clone, Copy)]
 pub struct GuaranteeBatch {
     pub refusal: u64,
     pub parts: u64,
@@ -30,7 +31,7 @@ pub struct GuaranteeBatch {
 
 // What an annual run answers: the next amount in cents, and how many months were recorded.
 #[repr(C)]
-#[derive(Drop)]
+#[derive(Clone, Copy)]
 pub struct GuaranteeAnnual {
     pub refusal: u64,
     pub amount: u64,
@@ -39,7 +40,7 @@ pub struct GuaranteeAnnual {
 
 // What an advance answers: how many days it opened.
 #[repr(C)]
-#[derive(Drop)]
+#[derive(Clone, Copy)]
 pub struct GuaranteeAdvanced {
     pub refusal: u64,
     pub opened: u64,
@@ -47,7 +48,7 @@ pub struct GuaranteeAdvanced {
 
 // A statement: firm amount, cover and shortfall in cents, days charged, and the accrued charge in mills.
 #[repr(C)]
-#[derive(Drop)]
+#[derive(Clone, Copy)]
 pub struct GuaranteeStatement {
     pub refusal: u64,
     pub firm: u64,
@@ -59,7 +60,7 @@ pub struct GuaranteeStatement {
 
 // The count of calls made.
 #[repr(C)]
-#[derive(Drop)]
+#[derive(Clone, Copy)]
 pub struct GuaranteeCount {
     pub refusal: u64,
     pub count: u64,
@@ -67,7 +68,7 @@ pub struct GuaranteeCount {
 
 // A day.
 #[repr(C)]
-#[derive(Drop)]
+#[derive(Clone, Copy)]
 pub struct GuaranteeDay {
     pub refusal: u64,
     pub day: u64,
@@ -75,7 +76,7 @@ pub struct GuaranteeDay {
 
 // A special guarantee in cents.
 #[repr(C)]
-#[derive(Drop)]
+#[derive(Clone, Copy)]
 pub struct GuaranteeSpecial {
     pub refusal: u64,
     pub cents: u64,

@@ -10,7 +10,7 @@ use calendar::{Day, Month, in_annual_days, month_of, months_before, months_betwe
 use manual::annual::annual_amount;
 
 // The recorded totals of up to twelve months, in their order, with zeros behind them.
-#[derive(Drop)]
+#[derive(Clone, Copy)]
 struct Recorded {
     totals: [i64; 12],
     count: usize,

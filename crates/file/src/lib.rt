@@ -1,4 +1,5 @@
 // One participant's file: its positions, open calls, next amount, month totals and charges (paper 01, 'One participant's file').
+#![tactic(auto)]
 ghost use Rattle.std.specs.Prelude.{◌≡◌, ◌%◌};
 
 use calendar::{Day, Month};
@@ -12,7 +13,7 @@ pub mod release;
 pub mod settle;
 
 // A position of a file: nothing, cash with its amount, or a letter with its amount, first and last day, both included.
-#[derive(Drop)]
+#[derive(Clone, Copy)]
 pub enum Position {
     Empty,
     Cash(u64),
@@ -20,27 +21,27 @@ pub enum Position {
 }
 
 // A place for a position.
-#[derive(Drop)]
+#[derive(Clone, Copy)]
 pub struct Slot {
     pub position: Position,
 }
 
 // An open call: its amount and its last free day.
-#[derive(Drop)]
+#[derive(Clone, Copy)]
 pub struct OpenCall {
     pub amount: u64,
     pub last: Day,
 }
 
 // The next amount, set or unset; an unset one has the amount 0.
-#[derive(Drop)]
+#[derive(Clone, Copy)]
 pub struct NextAmount {
     pub set: bool,
     pub amount: u64,
 }
 
 // A month's total, where one is recorded.
-#[derive(Drop)]
+#[derive(Clone, Copy)]
 pub struct MonthTotal {
     pub recorded: bool,
     pub month: Month,
@@ -56,7 +57,7 @@ pub fn ring_place(month: Month) -> usize
 
 // A participant's file. The open calls are the first `count` of `calls`, oldest first, with zeros behind them; a month's total, where
 // recorded, is at its `ring_place` of `totals`.
-#[derive(Drop)]
+#[derive(Clone, Copy)]
 pub struct File {
     pub admitted: bool,
     pub role: u64,
@@ -71,14 +72,14 @@ pub struct File {
 }
 
 // What an admission, a lodging or a release answers: done, or the number of the first cause that refuses it.
-#[derive(Drop)]
+#[derive(Clone, Copy)]
 pub enum Outcome {
     Done,
     Refused(u32),
 }
 
 // What a settlement answers: called (E, asked, last free day), covered (E), recorded only (E), or the number of its refusal.
-#[derive(Drop)]
+#[derive(Clone, Copy)]
 pub enum Settled {
     Called(u64, u64, Day),
     Covered(i64),
@@ -87,14 +88,14 @@ pub enum Settled {
 }
 
 // What an annual run answers: the amount and how many months were recorded, or the number of its refusal.
-#[derive(Drop)]
+#[derive(Clone, Copy)]
 pub enum AnnualRun {
     Amount(u64, u64),
     Refused(u32),
 }
 
 // A statement: firm amount, cover, shortfall, days charged, accrued charge.
-#[derive(Drop)]
+#[derive(Clone, Copy)]
 pub struct Statement {
     pub firm: u64,
     pub cover: u64,
@@ -104,7 +105,7 @@ pub struct Statement {
 }
 
 // A file beside the answer of an annual run.
-#[derive(Drop)]
+#[derive(Clone, Copy)]
 pub struct FileAnnual {
     pub answer: AnnualRun,
     pub file: File,

@@ -42,7 +42,7 @@ fn emptied_slots(mut slots: [Slot; 8], day: Day) -> [Slot; 8]
 }
 
 // The open calls that stay after an opening, with zeros behind them, and the firm amount raised to those that end.
-#[derive(Drop)]
+#[derive(Clone, Copy)]
 struct CallsLeft {
     calls: [OpenCall; 4],
     count: usize,
@@ -93,7 +93,7 @@ fn calls_left(calls: [OpenCall; 4], count: usize, firm: u64, day: Day) -> CallsL
 }
 
 // The firm amount and the next amount after an opening.
-#[derive(Drop)]
+#[derive(Clone, Copy)]
 struct Effect {
     firm: u64,
     next: NextAmount,

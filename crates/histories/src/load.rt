@@ -5,7 +5,7 @@ ghost use Rattle.std.specs.Prelude.{◌≤◌};
 use crate::text::{number_at, signed};
 
 // Where the text goes on, and how many figures and bytes of files are kept so far.
-#[derive(Drop)]
+#[derive(Clone, Copy)]
 pub struct Place {
     pub next: usize,
     pub kept: usize,

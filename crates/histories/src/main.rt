@@ -1,5 +1,6 @@
 // Plays long random histories on the book, and prints every answer. data/ holds the histories, and the file stdout what the reference says
 // (reference/histories.py): the gate compares the two.
+#![tactic(auto)]
 ghost use Rattle.std.specs.Prelude.{◌≤◌};
 
 use calendar::Day;

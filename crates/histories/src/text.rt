@@ -1,7 +1,7 @@
 // The numbers of a history's text: decimal, some with a minus, with blanks or line ends between them.
 
 // A number: whether a minus stands before it, its size, and where the text goes on.
-#[derive(Drop)]
+#[derive(Clone, Copy)]
 pub struct Number {
     pub negative: bool,
     pub size: u64,

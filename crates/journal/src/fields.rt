@@ -8,7 +8,7 @@ use crate::{Reason, Request};
 use words::{Number, day_in, month_in, natural_of, place_of, word_at};
 
 // What is due at a word's place.
-#[derive(Drop)]
+#[derive(Clone, Copy)]
 pub enum Kind {
     Natural,
     Role,
@@ -18,14 +18,14 @@ pub enum Kind {
 }
 
 // A place in a line from which words are left, or the fault that was met.
-#[derive(Drop)]
+#[derive(Clone, Copy)]
 pub enum Place {
     At(usize),
     Failed(Reason),
 }
 
 // The next word, from start up to, not including, end, and the place after it.
-#[derive(Drop)]
+#[derive(Clone, Copy)]
 pub struct Next {
     pub start: usize,
     pub end: usize,
@@ -33,7 +33,7 @@ pub struct Next {
 }
 
 // The number that a word gives, and the place after it.
-#[derive(Drop)]
+#[derive(Clone, Copy)]
 pub struct Field {
     pub value: u64,
     pub place: Place,

@@ -1,4 +1,5 @@
 // One line of the journal: the call that it is, read from its bytes.
+#![tactic(auto)]
 ghost use Rattle.std.specs.Prelude.{length};
 ghost use Rattle.words.specs.Words.{words as Words·words};
 ghost use Rattle.journal.specs.Fields.{rest_of_line};
@@ -17,7 +18,7 @@ use words::{content_end, has_control, place_of, word_at};
 
 // What is wrong with a line. The last three are said by a kept journal: `fresh` stands only as its first call, a line without its newline may be
 // a part of one, and where it is only read no call changes it.
-#[derive(Drop)]
+#[derive(Clone, Copy)]
 pub enum Reason {
     ControlByte,
     NoCall,
@@ -36,7 +37,7 @@ pub enum Reason {
 }
 
 // How long each of the seven lists of `special` is.
-#[derive(Drop)]
+#[derive(Clone, Copy)]
 pub struct Lengths {
     pub medium: usize,
     pub low: usize,
@@ -50,7 +51,7 @@ pub struct Lengths {
 // What a line is: nothing, a call with its arguments, or an error. Participants come first, then positions, then amounts; a settlement has
 // the number of its figures, a special guarantee the lengths of its lists, and a batch the number of its file's bytes. `role-retired` is no
 // call to the book but ends the first stretch of a journal (paper 02, Ask 3), and has no arguments.
-#[derive(Drop)]
+#[derive(Clone, Copy)]
 pub enum Request {
     Nothing,
     Fresh(Day),

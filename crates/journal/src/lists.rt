@@ -12,21 +12,21 @@ use crate::{Lengths, Reason, Request};
 use words::{Signed, signed_of, unsigned_of, word_at};
 
 // A word as a number of a list, and the place after it.
-#[derive(Drop)]
+#[derive(Clone, Copy)]
 pub struct Item {
     pub value: Signed,
     pub place: Place,
 }
 
 // Where the numbers written end, and the place after their words.
-#[derive(Drop)]
+#[derive(Clone, Copy)]
 pub struct Filled {
     pub end: usize,
     pub place: Place,
 }
 
 // How long each list is, and the place after them.
-#[derive(Drop)]
+#[derive(Clone, Copy)]
 pub struct Listed {
     pub lengths: [usize; 7],
     pub place: Place,

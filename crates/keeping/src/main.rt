@@ -1,5 +1,6 @@
 // A test of the kept way: the ledger keeps the journal that its argument names, and then the file is printed behind a line `--`, so that the
 // gate compares the answers and what was kept.
+#![tactic(auto)]
 
 // Prints the first 65,536 bytes of a file.
 fn print_file(name: &[u8]) {

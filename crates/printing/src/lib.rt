@@ -1,4 +1,5 @@
 // Lines as they are printed, without their newline: calls in their numeric form, and answers.
+#![tactic(auto)]
 use calendar::Day;
 use journal::Reason;
 
@@ -16,7 +17,7 @@ pub use calls::{end_of, put_call};
 // and the months of an annual run; the days opened; a statement's firm amount, cover, shortfall, days charged and accrued charge; the calls
 // made; a special guarantee in cents; how many settlements a batch made, or its refusal and the index of the pair; the line that is no call,
 // and why. Nothing is said to an empty line.
-#[derive(Drop)]
+#[derive(Clone, Copy)]
 pub enum Answer {
     Done,
     Refused(u32),

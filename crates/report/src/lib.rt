@@ -1,4 +1,5 @@
 // The report: a table of all admitted participants, for people.
+#![tactic(auto)]
 ghost use Rattle.std.specs.Prelude.{[], ◌∷◌};
 ghost use Rattle.layout.specs.Words.{book_of_words};
 ghost use Rattle.layout.specs.WellFormed.{WellFormed};

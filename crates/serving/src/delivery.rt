@@ -6,7 +6,7 @@ use dialogue::Place;
 use storage::{Journal, about_line, append, failed, write_whole};
 
 // How far an input is taken: the place, the bytes of complete lines, and the journal's file, with whether all is well.
-#[derive(Drop)]
+#[derive(Clone, Copy)]
 pub struct Progress {
     pub place: Place,
     pub bytes: u64,

@@ -298,7 +298,7 @@ fn take_file(
 }
 
 // What is answered: standard input to its end, and behind it a file as one batch, each where it is asked for; and whether the end is said.
-#[derive(Drop)]
+#[derive(Clone, Copy)]
 pub struct Sources {
     pub input: bool,
     pub load: bool,

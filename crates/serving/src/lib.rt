@@ -1,5 +1,6 @@
 // The ways to run the ledger: as a filter from standard input to standard output, with a journal that is kept in a file, and reading one. The lines
 // themselves are taken by `dialogue`, and the files and streams are those of `storage`: here the one's bytes become the other's.
+#![tactic(auto)]
 ghost use Rattle.std.specs.Prelude.{◌<◌, ◌≤◌, length};
 ghost use Rattle.layout.specs.WellFormed.{WellFormed};
 

@@ -7,7 +7,7 @@ use words::place_of;
 // What the arguments ask for: the options, whether the usage or the version is asked for, whether there is one that is none of these, the place of
 // the journal's name among the arguments, 0 if there is none, whether the next one is the name of the file to be entered, and the place of that name,
 // 0 if there is none.
-#[derive(Drop)]
+#[derive(Clone, Copy)]
 pub struct Options {
     pub bail: bool,
     pub end: bool,

@@ -12,14 +12,14 @@ use dialogue::{Place, Way, answer_lines};
 use storage::Journal;
 
 // How far an input is taken, and how many bytes of a part are.
-#[derive(Drop)]
+#[derive(Clone, Copy)]
 pub struct Taken {
     pub progress: Progress,
     pub used: usize,
 }
 
 // How far an input is taken, with the journal's file, and how many bytes of a part are.
-#[derive(Drop)]
+#[derive(Clone, Copy)]
 struct Some {
     place: Place,
     journal: Journal,

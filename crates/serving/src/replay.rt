@@ -15,7 +15,7 @@ const MOST: usize = 20480;
 
 // How a journal was replayed: whether it may be gone on with, how many calls it has, whether its first stretch lasts, and the bytes of its complete
 // lines.
-#[derive(Drop)]
+#[derive(Clone, Copy)]
 pub struct Replayed {
     pub ok: bool,
     pub kept: u64,

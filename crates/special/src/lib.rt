@@ -1,4 +1,5 @@
 // The special guarantee of paper 01, 'Special guarantee' (002, section 7), on lent lists.
+#![tactic(auto)]
 ghost use Rattle.std.specs.Prelude.{◌≡◌};
 ghost use Rattle.special.specs.Guarantee.{special_guarantee};
 
@@ -12,7 +13,7 @@ use inputs::{out_of_range, wrong_lengths};
 use rates::best_of;
 
 // The guarantee in cents, or the number of the cause that refuses the lists.
-#[derive(Drop)]
+#[derive(Clone, Copy)]
 pub enum Special {
     Guarantee(u64),
     Refused(u32),

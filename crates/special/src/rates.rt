@@ -11,7 +11,7 @@ use crate::quotients::nearest_whole;
 const BELOW: i64 = -100001;
 
 // The three largest of the rates seen, largest first, and how many were seen.
-#[derive(Drop)]
+#[derive(Clone, Copy)]
 pub struct Best {
     pub a: i64,
     pub b: i64,

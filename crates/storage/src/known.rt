@@ -8,7 +8,7 @@ use crate::waiting::time_of;
 use libc::{PATH_MAX, types};
 
 // Whether it is known, whether the file is a regular one, its size in bytes, and the numbers of its device and of itself there.
-#[derive(Drop)]
+#[derive(Clone, Copy)]
 pub struct Facts {
     pub ok: bool,
     pub regular: bool,

@@ -1,4 +1,5 @@
 // All that touches the outside of a ledger program: the standard streams, the file of a kept journal with its lock, and messages.
+#![tactic(auto)]
 mod files; // files.rt: regular files, opened, made and cut
 mod kept; // kept.rt: the file of a kept journal
 mod known; // known.rt: what the system knows of a file

@@ -7,7 +7,7 @@ use crate::messages::{failed, too_long};
 use crate::waiting::read_part;
 
 // Whether a file was read, and how many bytes it has.
-#[derive(Drop)]
+#[derive(Clone, Copy)]
 pub struct Contents {
     pub ok: bool,
     pub bytes: usize,

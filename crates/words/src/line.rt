@@ -5,7 +5,7 @@ ghost use Rattle.words.specs.Words.{words, place_in, blanks_in, solid_in};
 ghost use Rattle.words.specs.Found.{ContentIs, WordIs};
 
 // The place of a word in a text: from start up to, not including, end. No word: start is end.
-#[derive(Drop)]
+#[derive(Clone, Copy)]
 pub struct Word {
     pub start: usize,
     pub end: usize,

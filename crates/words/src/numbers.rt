@@ -14,14 +14,14 @@ const LARGEST_SIGNED: i64 = 9_223_372_036_854_775_807;
 const LEAST_SIGNED: i64 = -9_223_372_036_854_775_808;
 
 // A natural number, or that a word is none.
-#[derive(Drop)]
+#[derive(Clone, Copy)]
 pub enum Number {
     Value(u64),
     NoNumber,
 }
 
 // A signed number, or that a word is none.
-#[derive(Drop)]
+#[derive(Clone, Copy)]
 pub enum Signed {
     Value(i64),
     NoNumber,
