@@ -1,6 +1,7 @@
 // The civil calendar from 1 January 2020 to 31 December 2099, by numbered days and months: day 0 is 1 January 2020 and
 // month 0 is January 2020. A day number and a month number are types of their own, converted only here.
 #![tactic(auto)]
+
 ghost use Rattle.std.specs.Prelude.{◌≡◌, eqb};
 ghost use Rattle.calendar.specs.Civil.{month_of, first_day_of, day_of_month_of, is_september, in_september};
 ghost use Rattle.calendar.specs.Civil.{place_of, in_annual_days, is_first_october};

@@ -12,7 +12,7 @@ read x = to_z w64 (of_z w64 x)
 
 -- It is the number, where that fits.
 pub read_is : (x : ℤ) → mag x < 2 ^ 63 → read x ≡ x
-read_is x f = to_z-of_z (record { sfits = f })
+read_is x f = to_z-of_z {w = w64} (record { sfits = f })
 
 -- A number whose magnitude is below 2^63 is read as it is.
 pub read-abs : (x : ℤ) → nat_abs x < 2 ^ 63 → read x ≡ x

@@ -1,5 +1,6 @@
 // The Guarantee Manual's formulas (002, version 2.0, as paper 01 condenses it), on plain numbers.
 #![tactic(auto)]
+
 pub mod annual;
 pub mod charge;
 pub mod figures;
