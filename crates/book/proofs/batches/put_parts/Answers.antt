@@ -20,7 +20,7 @@ put_settled-requires c = (search rules, search (part_low, rules))
 pub loop-i-preserved : goal.loop-i-preserved
 loop-i-preserved c = let made =
     part-given _ _ _ _ _ c.requires.2 (search rules) _ c.part_at-part.ensures c.requires.1 _ c.loop-i.invariant.4 _ _ _
-    c.month.ensures (kept_there _ c.args.t4 c.loop-i.i c.args.parts _ c.loop-i.invariant.2 c.requires.1 (search rules)) c.put_settled.ensures in
+    c.month.ensures (kept_there _ c.args.answers c.loop-i.i c.args.parts _ c.loop-i.invariant.2 c.requires.1 (search rules)) c.put_settled.ensures in
     (search rules, c.loop-i.invariant.1, c.loop-i.invariant.2, made.formed, made-next _ _ _ _ _ _ c.loop-i.invariant.4 made)
 
 pub shape_of-words : goal.shape_of-words

@@ -10,7 +10,8 @@ overflow_add-result c = record { fits = search (day-room, rules) }
 
 pub returns-in-Covered : goal.returns-in-Covered
 returns-in-Covered c = check-covered _ _ c.requires.0 c.requires.1 _ c.number.ensures _ _ (search rules) _ c.deposited_today-deposited.ensures _
-    c.check.ensures c.enum_told-1.given.1
+    c.check.ensures
+    c.in-Covered.is
 
 pub returns-then-words-at-ge4 : goal.returns-then-words-at-ge4
 returns-then-words-at-ge4 c = search (check-fifth, rules)

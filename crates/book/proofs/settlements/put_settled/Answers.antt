@@ -8,10 +8,10 @@ pub returns-in-Called : goal.returns-in-Called
 returns-in-Called c = search (puts-called, rules)
 
 pub returns-in-Covered : goal.returns-in-Covered
-returns-in-Covered c = puts-covered _ _ _ (search rules) (search rules) _ _ _ _ c.answer-in-Covered-1.given.1 (search rules) c.put_month.ensures
+returns-in-Covered c = puts-covered _ _ _ (search rules) (search rules) _ _ _ _ c.in-Covered.is (search rules) c.put_month.ensures
 
 pub returns-in-Recorded : goal.returns-in-Recorded
-returns-in-Recorded c = puts-recorded _ _ _ (search rules) (search rules) _ _ _ _ c.answer-in-Recorded-1.given.1 (search rules) c.put_month-in-Recorded.ensures
+returns-in-Recorded c = puts-recorded _ _ _ (search rules) (search rules) _ _ _ _ c.in-Recorded.is (search rules) c.put_month-in-Recorded.ensures
 
 pub returns-in-Refused : goal.returns-in-Refused
 returns-in-Refused c = search (puts-nothing, rules)
