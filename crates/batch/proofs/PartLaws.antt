@@ -6,7 +6,7 @@ use mathlib.Core.Path.{◌≡◌, sym, ap, subst, ◌∙◌}
 use mathlib.Core.Bool.{Bool, true, false, ◌||◌}
 use mathlib.Core.List.{List}
 use mir.Syntax.{w64}
-use mir.Val.{SFits}
+use mir.Val.{SFits, to_z, of_z}
 use lib.Dec.{leb, ltb}
 use lib.IntN.{ℤ, pos, nat_abs, ◌+ℤ◌}
 use lib.ListN.{length, get_or}
@@ -67,9 +67,9 @@ module _ (file : List ℕ) (offset rows : ℕ) where
         subst (λ (z : ℤ). SFits w64 (s +ℤ read z)) (sym figure-is)
         (sum_fits t l s k there (omega (arith, long)) (omega (arith, long)) found inv e)
 
-    pub part-again : t ≡ true → SoFar l (read (s +ℤ read r)) (k + 1)
+    pub part-again : t ≡ true → SoFar l (to_z w64 (of_z w64 (s +ℤ read r))) (k + 1)
     part-again e =
-        subst (λ (z : ℤ). SoFar l (read (s +ℤ read z)) (k + 1)) (sym figure-is)
+        subst (λ (z : ℤ). SoFar l (to_z w64 (of_z w64 (s +ℤ read z))) (k + 1)) (sym figure-is)
         (sum-again t l s k there (omega (arith, long)) (omega (arith, long)) found inv e)
 
   pub part-ends : (s : ℤ) (k : ℕ) → rows ≤ k → 5 ≤ rows → rows ≤ 16 → SoFar l s k → Total s ≡ summed l
