@@ -21,7 +21,7 @@ use Rattle.file.specs.declared.File.{File}
 use Rattle.file.specs.Answer.{Answer, refused, called, covered, recorded, decide}
 use Rattle.file.specs.Calls.{amounts_of}
 use Rattle.file.specs.CallLaws.{amounts-places}
-use Rattle.file.specs.Fields.{open_calls, open_amounts, cover_of}
+use Rattle.file.specs.Fields.{open_calls, open_amounts}
 use Rattle.file.specs.Settle.{outside_months, check_due, deposited, settlement_calls, check_says, settled_answer, settle_answer}
 use Rattle.file.specs.DueCheck.{is_fifth, check_answer}
 use Rattle.file.specs.Sound.{Sound}

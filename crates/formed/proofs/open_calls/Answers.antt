@@ -1,9 +1,6 @@
 -- `formed::open_calls` meets its contract: the sum so far is that of the files that were passed, at most four for each.
 -- Assumes nothing.
-use Prim.Native.Nat.{◌*◌, ◌≤◌, ◌-◌}
-use mathlib.Core.Path.{◌≡◌}
 use borrow.Author.Rules.{rules}
-use Rattle.formed.specs.Checks.{open_below}
 use Rattle.formed.proofs.BookChecks.{open_none, open_turn, open-small, open-fits, open-all}
 use Rattle.formed.proofs.open_calls.Goals as goal
 

@@ -2,9 +2,7 @@
 -- Assumes nothing.
 use Prim.Native.Nat.{◌*◌, ◌≤◌, ◌-◌}
 use mathlib.Core.Path.{◌≡◌}
-use borrow.Author.Rules.{rules}
 use Rattle.formed.specs.Checks.{open_below}
-use Rattle.formed.proofs.BookChecks.{open_none, open_turn, open-small, open-fits, open-all}
 use Rattle.formed.proofs.open_calls.Given as goal
 
 abbrev pub invariant-loop-i : goal.invariant-loop-i

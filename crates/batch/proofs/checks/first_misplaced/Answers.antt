@@ -1,10 +1,7 @@
 -- `batch::checks::first_misplaced` meets its contract. The loop's invariant: none of the first i parts is misplaced. The measure is the number of
 -- pairs left.
 -- Assumes nothing.
-use Rattle.batch.proofs.CheckLaws.{Passed, passed_first, passed-next, misplaced-found, misplaced-none}
-use Rattle.batch.specs.Batch.{count_in, misplaced}
-use Prim.Native.Nat.{◌≤◌, ◌-◌}
-use mathlib.Core.Path.{◌≡◌}
+use Rattle.batch.proofs.CheckLaws.{passed_first, passed-next, misplaced-found, misplaced-none}
 use borrow.Author.Rules.{rules}
 use Rattle.batch.proofs.checks.first_misplaced.Goals as goal
 

@@ -1,11 +1,10 @@
 -- `batch::checks::first_wrong` meets its contract. The loop's invariant: none of the first i parts is wrong, and their participants are marked. The
 -- measure is the number of pairs left.
 -- Assumes nothing.
-use Rattle.batch.proofs.CheckLaws.{Passed, Seen, passed_first, seen_first, seen_next, right-next, wrong-length, wrong-twice, wrong-none}
+use Rattle.batch.proofs.CheckLaws.{Passed, Seen}
 use Rattle.batch.specs.Batch.{count_in, wrong_part}
 use Prim.Native.Nat.{◌≤◌, ◌-◌}
 use mathlib.Core.Path.{◌≡◌}
-use borrow.Author.Rules.{rules}
 use Rattle.batch.proofs.checks.first_wrong.Given as goal
 
 abbrev pub invariant-loop-i : goal.invariant-loop-i

@@ -1,7 +1,6 @@
 -- `file::File::annual_run` meets its contract: refused outside the annual days; otherwise what the window found are the recorded totals of
 -- months P − 14 to P − 3, and the amount is theirs.
 -- Assumes nothing.
-use borrow.Author.Rules.{rules}
 use Rattle.file.proofs.Windows.{window-months, window-inside, window-count, run-refused, run-done}
 use Rattle.file.proofs.File.annual_run.Goals as goal
 

@@ -2,12 +2,7 @@
 -- that are left. The measure is the number of months left.
 -- Assumes nothing.
 use borrow.Author.Rules.{rules}
-use Prim.Native.Nat.{◌≤◌, ◌-◌}
-use mathlib.Core.Path.{◌≡◌}
-use lib.ListN.{length}
 use Rattle.laws.specs.Lists.{length-unmap}
-use Rattle.file.specs.Totals.{total_at, totals_from}
-use Rattle.file.specs.Window.{recorded_in}
 use Rattle.file.proofs.Windows.{window-none, window-short, window-next, window-all}
 use Rattle.file.proofs.annual.window.Goals as goal
 

@@ -3,11 +3,8 @@
 -- Assumes nothing.
 use Prim.Native.Nat.{◌+◌, ◌-◌, ◌≤◌}
 use mathlib.Core.Path.{◌≡◌}
-use borrow.Author.Rules.{rules}
 use lib.ListN.{length, drop}
-use Rattle.laws.specs.Lists.{length-unmap}
 use Rattle.file.specs.Position.{cover_through}
-use Rattle.file.proofs.Sums.{cover-step, cover-fits, cover-whole}
 use Rattle.file.proofs.cover.cover.Given as goal
 
 abbrev pub invariant-loop-i : goal.invariant-loop-i

@@ -1,12 +1,8 @@
 -- `file::opening::calls_left` meets its contract. The loop's invariant: what is left is what the opening leaves of the first i calls. The
 -- measure is the number of calls not yet passed.
 -- Assumes nothing.
-use Prim.Native.Nat.{◌≤◌, ◌-◌}
-use mathlib.Core.Path.{◌≡◌}
 use native.Mathlib.Omega.{arith}
 use borrow.Author.Rules.{rules}
-use lib.ListN.{length, take}
-use Rattle.file.specs.Ending.{calls_left}
 use Rattle.laws.specs.Lists.{length-unmap}
 use Rattle.file.proofs.AtOpening.{left-none, left-short, left-next, left-all}
 use Rattle.file.proofs.opening.calls_left.Goals as goal

@@ -3,12 +3,8 @@
 -- Assumes nothing.
 use Prim.Native.Nat.{◌≤◌, ◌-◌}
 use mathlib.Core.Path.{◌≡◌}
-use native.Mathlib.Omega.{arith}
-use borrow.Author.Rules.{rules}
 use lib.ListN.{length, take}
 use Rattle.file.specs.Ending.{calls_left}
-use Rattle.laws.specs.Lists.{length-unmap}
-use Rattle.file.proofs.AtOpening.{left-none, left-short, left-next, left-all}
 use Rattle.file.proofs.opening.calls_left.Given as goal
 
 abbrev pub invariant-loop-i : goal.invariant-loop-i

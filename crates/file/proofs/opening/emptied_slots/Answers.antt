@@ -1,13 +1,10 @@
 -- `file::opening::emptied_slots` meets its contract. The loop's invariant: the first i slots are emptied as the contract says, the others are
 -- as they came. The measure is the number of slots left.
 -- Assumes nothing.
-use Prim.Native.Nat.{◌≤◌, ◌-◌}
-use mathlib.Core.Path.{◌≡◌, ◌∙◌}
+use mathlib.Core.Path.{◌∙◌}
 use borrow.Author.Rules.{rules}
-use lib.ListN.{length}
-use Rattle.laws.specs.Places.{up_to}
 use Rattle.laws.specs.Lists.{length-unmap}
-use Rattle.file.proofs.AtOpening.{slot_at, slots-none, slots-lapsed, slots-stay, slots-all}
+use Rattle.file.proofs.AtOpening.{slots-none, slots-lapsed, slots-stay, slots-all}
 use Rattle.file.proofs.opening.emptied_slots.Goals as goal
 use Rattle.file.proofs.opening.emptied_slots.Goals.{then-is_lapsed, else-is_lapsed}
 

@@ -2,13 +2,10 @@
 -- as they came. The measure is the number of slots left.
 -- Assumes nothing.
 use Prim.Native.Nat.{◌≤◌, ◌-◌}
-use mathlib.Core.Path.{◌≡◌, ◌∙◌}
-use mathlib.Core.Logic.{⊎_elim}
-use borrow.Author.Rules.{rules}
+use mathlib.Core.Path.{◌≡◌}
 use lib.ListN.{length}
 use Rattle.laws.specs.Places.{up_to}
-use Rattle.laws.specs.Lists.{length-unmap}
-use Rattle.file.proofs.AtOpening.{slot_at, slots-none, slots-lapsed, slots-stay, slots-all}
+use Rattle.file.proofs.AtOpening.{slot_at}
 use Rattle.file.proofs.opening.emptied_slots.Given as goal
 
 abbrev pub invariant-loop-i : goal.invariant-loop-i

@@ -1,6 +1,5 @@
 -- `file::opening::taken_effect` meets its contract, by the two tests: the next amount is set, and the day is a 1 October.
 -- Assumes nothing.
-use borrow.Author.Rules.{rules}
 use Rattle.file.proofs.AtOpening.{effect-taken, effect-unset, effect-other}
 use Rattle.file.proofs.opening.taken_effect.Goals as goal
 use Rattle.file.proofs.opening.taken_effect.Goals.{else-next-via-then-next+else-is_first_october, else-next-via-else-next}

@@ -2,11 +2,7 @@
 -- is the count of the calls that are left.
 -- Assumes nothing.
 use borrow.Author.Rules.{rules}
-use Prim.Native.Nat.{◌-◌, ◌≤◌}
-use mathlib.Core.Path.{◌≡◌}
-use lib.ListN.{length, take}
 use Rattle.laws.specs.Lists.{length-unmap}
-use Rattle.file.specs.Calls.{largest, amounts_of}
 use Rattle.file.proofs.Releases.{largest-none, largest_step, largest-all}
 use Rattle.file.proofs.release.largest_open.Goals as goal
 

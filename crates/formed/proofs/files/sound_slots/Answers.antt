@@ -1,10 +1,7 @@
 -- `formed::files::sound_slots` meets its contract: each slot that was passed is sound, and one that is not decides it.
 -- Assumes nothing.
-use Prim.Native.Nat.{◌≤◌, ◌-◌}
 use borrow.Author.Tests.{not-true, not-false}
 use borrow.Author.Rules.{rules}
-use Rattle.formed.specs.Decides.{Below}
-use Rattle.formed.specs.Checks.{SlotAt}
 use Rattle.formed.proofs.Decided.{below-start, below-turn, below_all, below_fails}
 use Rattle.formed.proofs.files.sound_slots.Goals as goal
 

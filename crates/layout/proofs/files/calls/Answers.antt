@@ -1,9 +1,7 @@
 -- `layout::files::calls` meets its contract: the first k open calls are read.
 -- Assumes nothing.
 use borrow.Author.Rules.{rules}
-use Prim.Native.Nat.{◌-◌}
-use Rattle.laws.specs.Places.{Filling, filling-first, filling-all}
-use Rattle.layout.specs.Files.{words_at, calls_of_words}
+use Rattle.laws.specs.Places.{filling-first, filling-all}
 use Rattle.layout.proofs.FileLaws.{calls-next, calls-long}
 use Rattle.layout.proofs.files.calls.Goals as goal
 

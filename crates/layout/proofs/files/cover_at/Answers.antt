@@ -1,11 +1,6 @@
 -- `layout::files::cover_at` meets its contract: the sum so far and what the positions that are left count for make up the whole.
 -- Assumes nothing.
 use borrow.Author.Rules.{rules}
-use Prim.Native.Nat.{◌≤◌, ◌+◌, ◌-◌}
-use mathlib.Core.Path.{◌≡◌}
-use lib.ListN.{drop}
-use Rattle.file.specs.Position.{cover_through}
-use Rattle.layout.specs.Files.{slots_of_words, words_at}
 use Rattle.layout.proofs.CoverLaws.{cover-none, cover-step, cover-fits, cover-end}
 use Rattle.layout.proofs.files.cover_at.Goals as goal
 

@@ -1,6 +1,5 @@
 -- `layout::files::file_at` meets its contract: the parts are those read at their places.
 -- Assumes nothing.
-use borrow.Author.Rules.{rules}
 use Rattle.layout.specs.Files.{words_at}
 use Rattle.layout.proofs.FileLaws.{taken_is}
 use Rattle.layout.proofs.files.file_at.Goals as goal

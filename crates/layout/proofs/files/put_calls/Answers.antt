@@ -1,11 +1,6 @@
 -- `layout::files::put_calls` meets its contract: the first i open calls are put.
 -- Assumes nothing.
-use Prim.Native.Nat.{◌≤◌, ◌-◌}
-use mathlib.Core.Path.{◌≡◌}
 use borrow.Author.Rules.{rules}
-use lib.ListN.{length}
-use Rattle.layout.specs.Parts.{open_call_words, CallBack}
-use Rattle.layout.specs.Files.{SoFar}
 use Rattle.layout.proofs.Rows.{calls-none, calls-turn, calls-all, kept-length}
 use Rattle.layout.proofs.files.put_calls.Goals as goal
 

@@ -1,9 +1,7 @@
 -- `layout::files::slots` meets its contract: the first k positions are read.
 -- Assumes nothing.
 use borrow.Author.Rules.{rules}
-use Prim.Native.Nat.{◌-◌}
-use Rattle.laws.specs.Places.{Filling, filling-first, filling-all}
-use Rattle.layout.specs.Files.{words_at, slots_of_words}
+use Rattle.laws.specs.Places.{filling-first, filling-all}
 use Rattle.layout.proofs.FileLaws.{slots_next, slots-long}
 use Rattle.layout.proofs.files.slots.Goals as goal
 

@@ -1,10 +1,8 @@
 -- `layout::files::slots` meets its contract: the first k positions are read.
 -- Assumes nothing.
-use borrow.Author.Rules.{rules}
 use Prim.Native.Nat.{◌-◌}
-use Rattle.laws.specs.Places.{Filling, filling-first, filling-all}
+use Rattle.laws.specs.Places.{Filling}
 use Rattle.layout.specs.Files.{words_at, slots_of_words}
-use Rattle.layout.proofs.FileLaws.{slots_next, slots-long}
 use Rattle.layout.proofs.files.slots.Given as goal
 
 abbrev pub invariant-loop-k : goal.invariant-loop-k

@@ -1,9 +1,7 @@
 -- `layout::files::totals` meets its contract: the first k month totals are read.
 -- Assumes nothing.
 use borrow.Author.Rules.{rules}
-use Prim.Native.Nat.{◌-◌}
-use Rattle.laws.specs.Places.{Filling, filling-first, filling-all}
-use Rattle.layout.specs.Files.{words_at, totals_of_words}
+use Rattle.laws.specs.Places.{filling-first, filling-all}
 use Rattle.layout.proofs.FileLaws.{totals-next, totals-long}
 use Rattle.layout.proofs.files.totals.Goals as goal
 
