@@ -1,13 +1,12 @@
 -- Texts taken byte by byte: what a loop at place i knows of what is left of a text.
 -- Assumes nothing.
-use Rattle.std.proofs.Common.{◌≡◌, ℕ, zero, suc, ◌+◌, ◌-◌, ◌*◌, ◌<◌, ◌≤◌, Bool, true, false, cond, ◌&&◌, eqb, ltb, List, [], ◌∷◌, ◌++◌, length, get_or, drop, set, sym, refl, ◌∙◌, append-nil, add-one, arith, drop_of_length-le, drop-cons, get_or-set_same, le-ltb, lt-ltb, eq-eqb, ne_eqb}
+use Rattle.std.proofs.Common.{◌≡◌, ℕ, zero, suc, ◌+◌, ◌-◌, ◌*◌, ◌<◌, ◌≤◌, Bool, true, false, cond, ◌&&◌, eqb, ltb, List, [], ◌∷◌, ◌++◌, length, get_or, drop, set, sym, refl, ◌∙◌, add-one, arith, drop_of_length-le, drop-cons, le-ltb, lt-ltb, eq-eqb, ne_eqb}
 use lib.ListN.{get_or-append, get_or-eq_default}
 use Rattle.laws.specs.Cases.{split, cond-true, cond-false}
 use Rattle.laws.specs.Lists.{table}
 use Rattle.laws.specs.Places.{Filling, filling-first, filling-next}
 use Rattle.laws.specs.Tabulated.{length-table, get_d-table}
-use Rattle.libc.specs.Io.{Ended}
-use Rattle.storage.specs.Texts.{with_zeros, path_of, zero_free, shown_byte, shown_padded, digit_more, number_from, process_in, behind_slash}
+use Rattle.storage.specs.Texts.{with_zeros, zero_free, shown_byte, shown_padded, digit_more, number_from, process_in, behind_slash}
 
 -- ---- a byte of two texts one behind the other
 
@@ -52,14 +51,6 @@ pub shown-next : (n : ℕ) (s before now : List ℕ) (i x : ℕ) → Filling n i
     → Filling n (i + 1) (shown_padded n s) before (set now i x)
 unfolding shown_padded
 shown-next n s before now i x w h e = table-next n (λ k. shown_byte (get_or s k 0)) i before now x w h e
-
--- a name's path, and its end
-pub path-is : (s p : List ℕ) → p ≡ with_zeros 4096 (s ++ []) → set p 4095 0 ≡ path_of s
-unfolding path_of
-path-is s p e = rw (e, append-nil s)
-
-pub path-ends : (p : List ℕ) → length p ≡ 4096 → Ended (set p 4095 0)
-path-ends p l = get_or-set_same p 4095 0 1 (omega arith)
 
 -- ---- a byte as it is shown
 

@@ -1,5 +1,4 @@
 pub mod Bytes
+pub mod Growth
 pub mod Journals
-pub mod Lent
-pub mod Signs
 pub mod WholeLaws

@@ -1,20 +1,20 @@
 -- Texts as lists of bytes: filled up with zeros, made paths, shown, and read as numbers.
 -- Assumes nothing.
-use Rattle.std.specs.Prelude.{ℕ, suc, ◌+◌, ◌-◌, ◌*◌, Bool, true, false, cond, List, [], ◌∷◌, ◌==◌, nat_lt, slice_index, slice_set}
+use Rattle.std.specs.Prelude.{◌≡◌, ℕ, suc, ◌+◌, ◌-◌, ◌*◌, Bool, true, false, cond, ◌&&◌, List, [], ◌∷◌, length, ◌==◌, nat_lt, slice_index}
 use Rattle.laws.specs.Lists.{table}
 
 -- The first n bytes of a text, with zeros behind it where it is shorter.
 unfoldable pub with_zeros : ℕ → List ℕ → List ℕ
 with_zeros n s = table n (λ k. slice_index s k)
 
--- A name as the system takes it: 4,096 bytes, the last of them 0.
-unfoldable pub path_of : List ℕ → List ℕ
-path_of s = slice_set (with_zeros 4096 s) 4095 0
-
 -- Whether no byte of a text is 0.
 unfoldable pub zero_free : List ℕ → Bool
 zero_free [] = true
 zero_free (b ∷ s) = cond (b == 0) false (zero_free s)
+
+-- A name as the system takes it: the whole name, of fewer than 4,096 bytes and none of them 0.
+abbrev pub IsPathOf : List ℕ → List ℕ → Type 0
+IsPathOf name path = (path ≡ name) × ((nat_lt (length name) 4096 && zero_free name) ≡ true)
 
 -- A byte as it is shown: `?` stands for one that is below 32 or above 126.
 unfoldable pub shown_byte : ℕ → ℕ

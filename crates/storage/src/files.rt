@@ -4,59 +4,112 @@ ghost use Rattle.storage.specs.Texts.{behind_slash};
 
 use crate::known::{facts_at, facts_of};
 use crate::messages::{about, failed};
+use crate::texts::path_in;
+use std::fs::{File, OpenOptions, Permissions};
+use std::io::ErrorKind;
+use std::os::fd::AsRawFd;
+use std::os::unix::fs::PermissionsExt;
+use std::{fs, io};
 
 // Whether a name may be opened: it leads to a regular file or to none. If not, that is said, and nothing is opened: a pipe would wait.
-pub fn may_open(name: &[u8]) -> bool {
-    let facts = facts_at(name);
-    if facts.ok {
-        if !facts.regular {
-            about(name, b"not a regular file");
+pub fn may_open(rt: &HostRuntime, name: &[u8]) -> bool {
+    match facts_at(rt, name) {
+        Ok(facts) => {
+            if !facts.regular {
+                about(rt, name, b"not a regular file");
+            }
+            facts.regular
         }
-        return facts.regular;
+        Err(error) => {
+            if (name.len() == 0) | (error.kind() != ErrorKind::NotFound) {
+                failed(rt, name, error);
+                return false;
+            }
+            true
+        }
     }
-    if (name.len() == 0) | (os::errno() != libc::ENOENT) {
-        failed(name);
-        return false;
-    }
-    true
 }
 
 // A descriptor in the place of a standard stream is closed before a word is said, or the word would stand in the file.
-fn refuse_low(name: &[u8], file: i32) -> i32 {
-    libc::close(file);
-    about(name, b"not opened, since a standard stream is closed");
-    -1
+fn refuse_low(rt: &HostRuntime, name: &[u8], file: File) {
+    drop(file);
+    about(rt, name, b"not opened, since a standard stream is closed");
 }
 
-// A descriptor as it was opened for a name, or -1 if it is not a regular file's beside the standard streams, which is said.
-pub fn checked(name: &[u8], file: i32) -> i32 {
-    if file < 0 {
-        failed(name);
-        return -1;
+// A file that was opened for a name, if it is a regular one beside the standard streams; if not, that is said.
+fn checked_file(rt: &HostRuntime, name: &[u8], file: File) -> Option<File> {
+    if file.as_raw_fd() < 3 {
+        refuse_low(rt, name, file);
+        return None;
     }
-    if file < 3 {
-        return refuse_low(name, file);
+    match facts_of(&file) {
+        Ok(facts) => {
+            if !facts.regular {
+                about(rt, name, b"not a regular file");
+                return None;
+            }
+            Some(file)
+        }
+        Err(error) => {
+            failed(rt, name, error);
+            None
+        }
     }
-    let facts = facts_of(file);
-    if !facts.ok {
-        failed(name);
-        libc::close(file);
-        return -1;
-    }
-    if !facts.regular {
-        about(name, b"not a regular file");
-        libc::close(file);
-        return -1;
-    }
-    file
 }
 
-// Opens a regular file for reading; below zero if it can't be had, which is said.
-pub fn open_read(name: &[u8]) -> i32 {
-    if !may_open(name) {
-        return -1;
+// A file as it was opened for a name, or none if it is not a regular one beside the standard streams, which is said.
+pub fn checked(rt: &HostRuntime, name: &[u8], opened: io::Result<File>) -> Option<File> {
+    match opened {
+        Ok(file) => checked_file(rt, name, file),
+        Err(error) => {
+            failed(rt, name, error);
+            None
+        }
     }
-    checked(name, os::open_read(name))
+}
+
+// The file at a name, opened for reading.
+fn opened_to_read(rt: &HostRuntime, name: &[u8]) -> io::Result<File> {
+    File::open(rt, path_in(name)?)
+}
+
+// The file at a name, opened for reading and writing.
+fn opened_to_update(rt: &HostRuntime, name: &[u8]) -> io::Result<File> {
+    OpenOptions::new()
+        .read(true)
+        .write(true)
+        .open(rt, path_in(name)?)
+}
+
+// The file at a name, opened for writing at its end.
+pub fn opened_to_append(rt: &HostRuntime, name: &[u8]) -> io::Result<File> {
+    OpenOptions::new().append(true).open(rt, path_in(name)?)
+}
+
+// A file made at a name that leads to none.
+pub fn created(rt: &HostRuntime, name: &[u8]) -> io::Result<File> {
+    OpenOptions::new()
+        .write(true)
+        .create_new(true)
+        .open(rt, path_in(name)?)
+}
+
+// Removes the file at a name.
+pub fn remove(rt: &HostRuntime, name: &[u8]) -> io::Result<()> {
+    fs::remove_file(rt, path_in(name)?)
+}
+
+// Makes a file its owner's alone.
+pub fn own(file: &File) -> io::Result<()> {
+    file.set_permissions(Permissions::from_mode(0o600))
+}
+
+// Opens a regular file for reading; none if it can't be had, which is said.
+pub fn open_read(rt: &HostRuntime, name: &[u8]) -> Option<File> {
+    if !may_open(rt, name) {
+        return None;
+    }
+    checked(rt, name, opened_to_read(rt, name))
 }
 
 // The place behind a byte if it is a slash, else the place found before.
@@ -80,84 +133,86 @@ fn behind_slash(name: &[u8]) -> usize
     found
 }
 
+// Forces a directory to disk.
+fn force_directory(rt: &HostRuntime, directory: &[u8]) -> io::Result<()> {
+    opened_to_read(rt, directory)?.sync_all()
+}
+
 // Forces a directory to disk, and answers whether that succeeded; if not, it is said.
-fn sync_open(directory: &[u8]) -> bool {
-    let file = os::open_read(directory);
-    if file < 0 {
-        failed(directory);
-        return false;
+fn sync_open(rt: &HostRuntime, directory: &[u8]) -> bool {
+    match force_directory(rt, directory) {
+        Ok(()) => true,
+        Err(error) => {
+            failed(rt, directory, error);
+            false
+        }
     }
-    let forced = libc::fsync(file) == 0;
-    if !forced {
-        failed(directory);
-    }
-    libc::close(file);
-    forced
 }
 
 // Forces a file's directory to disk, so that a file that was made stays.
-fn sync_directory(name: &[u8]) -> bool {
+fn sync_directory(rt: &HostRuntime, name: &[u8]) -> bool {
     let n = behind_slash(name);
     if n == 0 {
-        return sync_open(b".");
+        return sync_open(rt, b".");
     }
-    sync_open(&name[..n])
+    sync_open(rt, &name[..n])
+}
+
+// Makes a new file its owner's alone and forces it to disk.
+fn own_and_force(file: &File) -> io::Result<()> {
+    own(file)?;
+    file.sync_all()
 }
 
 // Makes a new file its owner's alone and forces it to disk, and answers whether that succeeded; if not, it is said.
-fn settle(name: &[u8], file: i32) -> bool {
-    if libc::fchmod(file, 0o600) != 0 {
-        failed(name);
-        return false;
+fn settle(rt: &HostRuntime, name: &[u8], file: File) -> bool {
+    match own_and_force(&file) {
+        Ok(()) => true,
+        Err(error) => {
+            failed(rt, name, error);
+            false
+        }
     }
-    if libc::fsync(file) != 0 {
-        failed(name);
-        return false;
-    }
-    true
 }
 
 // Makes a file, empty and on disk, and answers whether that succeeded; if not, it is said, and there is no file.
-fn make(name: &[u8]) -> bool {
-    let file = os::create(name);
-    if file < 0 {
-        failed(name);
-        return false;
-    }
-    let settled = settle(name, file);
-    libc::close(file);
-    if settled {
-        if sync_directory(name) {
-            return true;
+fn make(rt: &HostRuntime, name: &[u8]) -> bool {
+    match created(rt, name) {
+        Ok(file) => {
+            if settle(rt, name, file) {
+                if sync_directory(rt, name) {
+                    return true;
+                }
+            }
+            let _ = remove(rt, name);
+            false
+        }
+        Err(error) => {
+            failed(rt, name, error);
+            false
         }
     }
-    os::unlink(name);
-    false
 }
 
-// Opens a regular file for reading and writing, making it if it is absent; below zero if it can't be had, which is said.
-pub fn open_or_make(name: &[u8]) -> i32 {
-    let file = os::open_update(name);
-    if 0 <= file {
-        return checked(name, file);
+// Opens a regular file for reading and writing, making it if it is absent; none if it can't be had, which is said.
+pub fn open_or_make(rt: &HostRuntime, name: &[u8]) -> Option<File> {
+    match opened_to_update(rt, name) {
+        Ok(file) => checked_file(rt, name, file),
+        Err(error) => {
+            if error.kind() != ErrorKind::NotFound {
+                failed(rt, name, error);
+                return None;
+            }
+            if !make(rt, name) {
+                return None;
+            }
+            checked(rt, name, opened_to_update(rt, name))
+        }
     }
-    if os::errno() != libc::ENOENT {
-        failed(name);
-        return -1;
-    }
-    if !make(name) {
-        return -1;
-    }
-    checked(name, os::open_update(name))
 }
 
-// Cuts a file to its first bytes and forces it to disk, and answers whether that succeeded.
-pub fn cut(file: i32, bytes: u64) -> bool {
-    if 9223372036854775807 < bytes {
-        return false;
-    }
-    if libc::ftruncate(file, bytes as i64) != 0 {
-        return false;
-    }
-    libc::fdatasync(file) == 0
+// Cuts a file to its first bytes and forces it to disk.
+pub fn cut(file: &File, bytes: u64) -> io::Result<()> {
+    file.set_len(bytes)?;
+    file.sync_data()
 }

@@ -2,17 +2,20 @@
 ghost use Rattle.std.specs.Prelude.{◌≡◌, ◌-◌, ◌&&◌, nat_le, nat_lt};
 ghost use Rattle.storage.specs.Kept.{no_journal, opened_journal, grown_by, stopped_of, continued_as, Continued, Appended};
 
-use crate::files;
-use crate::files::{checked, cut, may_open};
-use crate::known::{Facts, facts_at, facts_of, is_same, leads_to};
+use crate::files::{checked, cut, may_open, open_or_make, opened_to_append};
+use crate::handles::{Handles, journal_in};
+use crate::known::{Facts, facts_at, facts_of, facts_on, facts_or_none, is_same, leads_to};
 use crate::locks::{Lock, drop_lock, is_lock_held, take_lock};
 use crate::messages::{about, failed};
-use crate::waiting::write_whole;
+use crate::waiting::write_to;
+use std::fs::File;
+use std::io;
 use std::num::wrapping_add_u64;
+use std::os::fd::AsRawFd;
 
 // A kept journal's file: its descriptor, below zero if it can't be had; whether all is well; where it ends as this program left it; and the numbers
 // of the file and of its lock.
-#[derive(Drop)]
+#[derive(Clone, Copy)]
 pub struct Journal {
     pub file: i32,
     pub ok: bool,
@@ -85,134 +88,193 @@ fn continued(journal: Journal, file: i32, end: u64) -> Journal
     }
 }
 
-// Whether a descriptor is open on the file at a name.
-fn leads_from(file: i32, name: &[u8]) -> bool {
-    let facts = facts_at(name);
-    if !facts.ok {
-        return false;
+// Whether a stream, by the name that the system keeps for it, is the file with these facts.
+fn is_stream_of(rt: &HostRuntime, stream: &str, facts: Facts) -> bool {
+    is_same(
+        facts_or_none(facts_on(rt, stream)),
+        facts.device,
+        facts.inode,
+    )
+}
+
+// Whether a stream, by the name that the system keeps for it, is open on the file at a name.
+fn leads_from(rt: &HostRuntime, stream: &str, name: &[u8]) -> bool {
+    match facts_at(rt, name) {
+        Ok(facts) => is_stream_of(rt, stream, facts),
+        Err(_) => false,
     }
-    is_same(facts_of(file), facts.device, facts.inode)
 }
 
 // Whether a name leads to the file of a standard stream, which is said: what is kept would be read again, or answers would stand among the calls.
 // Where it is standard error nothing is said, since that would stand there too.
-fn is_stream(name: &[u8]) -> bool {
-    if leads_from(libc::STDERR_FILENO, name) {
+fn is_stream(rt: &HostRuntime, name: &[u8]) -> bool {
+    if leads_from(rt, "/proc/self/fd/2", name) {
         return true;
     }
-    if leads_from(libc::STDIN_FILENO, name) | leads_from(libc::STDOUT_FILENO, name) {
-        about(name, b"is standard input or output too; nothing is kept");
+    if leads_from(rt, "/proc/self/fd/0", name) | leads_from(rt, "/proc/self/fd/1", name) {
+        about(
+            rt,
+            name,
+            b"is standard input or output too; nothing is kept",
+        );
         return true;
     }
     false
+}
+
+// The journal that was just opened with its lock, and whose file is now among the open ones.
+fn opened(rt: &HostRuntime, handles: &mut Handles, name: &[u8], file: File, lock: Lock) -> Journal {
+    let number = file.as_raw_fd();
+    let facts = facts_of(&file);
+    handles.journal = Some(file);
+    if let Err(error) = facts {
+        failed(rt, name, error);
+    }
+    journal_of(number, facts_or_none(facts), lock)
 }
 
 // Opens the journal with a name to be kept, making it if it is absent, and takes its lock. If it can't be had that is said, and there is no lock.
-pub fn open_kept(name: &[u8]) -> Journal {
-    if !may_open(name) {
+pub fn open_kept(rt: &HostRuntime, handles: &mut Handles, name: &[u8]) -> Journal {
+    if !may_open(rt, name) {
         return no_journal();
     }
-    if is_stream(name) {
+    if is_stream(rt, name) {
         return no_journal();
     }
-    let lock = take_lock(name);
+    let lock = take_lock(rt, handles, name);
     if !lock.taken {
         return no_journal();
     }
-    let file = files::open_or_make(name);
-    if file < 0 {
-        drop_lock(name, lock.device, lock.inode);
-        return no_journal();
+    match open_or_make(rt, name) {
+        Some(file) => opened(rt, handles, name, file, lock),
+        None => {
+            drop_lock(rt, name, lock.device, lock.inode);
+            no_journal()
+        }
     }
-    let facts = facts_of(file);
-    if !facts.ok {
-        failed(name);
-    }
-    journal_of(file, facts, lock)
 }
 
 // Whether the journal's name still leads to its file, and its lock is still this program's; if not, that is said.
-fn is_held(name: &[u8], journal: Journal) -> bool {
-    if !leads_to(name, journal.device, journal.inode) {
+fn is_held(rt: &HostRuntime, name: &[u8], journal: Journal) -> bool {
+    if !leads_to(rt, name, journal.device, journal.inode) {
         about(
+            rt,
             name,
             b"the name leads to another file or to none; nothing more is kept",
         );
         return false;
     }
-    is_lock_held(name, journal.lock_device, journal.lock_inode)
+    is_lock_held(rt, name, journal.lock_device, journal.lock_inode)
+}
+
+// The facts of the journal's file.
+fn facts_of_journal(handles: &Handles) -> io::Result<Facts> {
+    facts_of(journal_in(handles)?)
+}
+
+// Cuts the journal's file to its first bytes and forces it to disk.
+fn cut_journal(handles: &Handles, bytes: u64) -> io::Result<()> {
+    cut(journal_in(handles)?, bytes)
 }
 
 // Cuts off what the file has behind its complete lines, and answers whether the file now ends there; if not, that is said.
-fn cut_rest(name: &[u8], file: i32, end: u64) -> bool {
-    let facts = facts_of(file);
-    if facts.ok & (facts.size < end) {
-        about(name, b"changed by another program");
-        return false;
-    }
-    if facts.ok & (facts.size == end) {
-        return true;
-    }
-    if facts.ok {
-        if cut(file, end) {
-            return true;
+fn cut_rest(rt: &HostRuntime, handles: &Handles, name: &[u8], end: u64) -> bool {
+    match facts_of_journal(handles) {
+        Ok(facts) => {
+            if facts.size < end {
+                about(rt, name, b"changed by another program");
+                return false;
+            }
+            if facts.size == end {
+                return true;
+            }
+            match cut_journal(handles, end) {
+                Ok(()) => true,
+                Err(error) => {
+                    failed(rt, name, error);
+                    false
+                }
+            }
+        }
+        Err(error) => {
+            failed(rt, name, error);
+            false
         }
     }
-    failed(name);
-    false
 }
 
-// The file opened for appending, if it is the journal's; else -1, which is said.
-fn open_append(name: &[u8], journal: Journal) -> i32 {
-    let file = checked(name, os::open_append(name));
-    if file < 0 {
-        return -1;
+// The file opened for appending, if it is the journal's; else none, which is said.
+fn open_append(rt: &HostRuntime, name: &[u8], journal: Journal) -> Option<File> {
+    match checked(rt, name, opened_to_append(rt, name)) {
+        Some(file) => {
+            if !is_same(
+                facts_or_none(facts_of(&file)),
+                journal.device,
+                journal.inode,
+            ) {
+                drop(file);
+                about(
+                    rt,
+                    name,
+                    b"the name leads to another file or to none; nothing more is kept",
+                );
+                return None;
+            }
+            Some(file)
+        }
+        None => None,
     }
-    if !is_same(facts_of(file), journal.device, journal.inode) {
-        libc::close(file);
-        about(
-            name,
-            b"the name leads to another file or to none; nothing more is kept",
-        );
-        return -1;
-    }
-    file
 }
 
 // The journal ready to be appended to, after its complete lines, which are so many bytes, were replayed; what the file has behind them is cut off.
 // If that fails it is said.
-pub fn continue_kept(name: &[u8], journal: Journal, end: u64) -> Journal
+pub fn continue_kept(
+    rt: &HostRuntime,
+    handles: &mut Handles,
+    name: &[u8],
+    journal: Journal,
+    end: u64,
+) -> Journal
     ensures { Continued journal end result }
 {
     if !journal.ok {
         return journal;
     }
-    if !is_held(name, journal) {
+    if !is_held(rt, name, journal) {
         return stopped(journal);
     }
-    if !cut_rest(name, journal.file, end) {
+    if !cut_rest(rt, handles, name, end) {
         return stopped(journal);
     }
-    let file = open_append(name, journal);
-    if file < 0 {
-        return stopped(journal);
+    match open_append(rt, name, journal) {
+        Some(file) => {
+            let number = file.as_raw_fd();
+            handles.journal = Some(file);
+            continued(journal, number, end)
+        }
+        None => stopped(journal),
     }
-    libc::close(journal.file);
-    continued(journal, file, end)
 }
 
 // Whether the journal is as this program left it; if not, that is said.
-fn is_as_left(name: &[u8], journal: Journal) -> bool {
-    let facts = facts_of(journal.file);
-    if !facts.ok {
-        failed(name);
-        return false;
+fn is_as_left(rt: &HostRuntime, handles: &Handles, name: &[u8], journal: Journal) -> bool {
+    match facts_of_journal(handles) {
+        Ok(facts) => {
+            if facts.size != journal.end {
+                about(
+                    rt,
+                    name,
+                    b"changed by another program; nothing more is kept",
+                );
+                return false;
+            }
+            is_held(rt, name, journal)
+        }
+        Err(error) => {
+            failed(rt, name, error);
+            false
+        }
     }
-    if facts.size != journal.end {
-        about(name, b"changed by another program; nothing more is kept");
-        return false;
-    }
-    is_held(name, journal)
 }
 
 // Whether a file that ends here has grown by no more than so many bytes behind an end.
@@ -226,53 +288,59 @@ fn has_grown(facts: Facts, end: u64, bytes: u64) -> bool
 }
 
 // Cuts the file back to its end, after so many bytes failed to be appended. If it can't be told that none of them is there, that is said.
-fn cut_back(name: &[u8], journal: Journal, bytes: u64) {
-    let facts = facts_of(journal.file);
+fn cut_back(rt: &HostRuntime, handles: &Handles, name: &[u8], journal: Journal, bytes: u64) {
+    let facts = facts_or_none(facts_of_journal(handles));
     if facts.ok & (facts.size == journal.end) {
         return;
     }
     if has_grown(facts, journal.end, bytes) {
-        if cut(journal.file, journal.end) {
+        if cut_journal(handles, journal.end).is_ok() {
             return;
         }
     }
     about(
+        rt,
         name,
         b"the last lines may be kept though they were not answered",
     );
 }
 
-// Writes the bytes at the journal's end and forces them to disk, and answers whether that succeeded.
-fn write_forced(file: i32, bytes: &[u8]) -> bool {
-    if !write_whole(file, bytes) {
-        return false;
-    }
-    libc::fdatasync(file) == 0
+// Writes the bytes at the journal's end and forces them to disk.
+fn write_forced(rt: &HostRuntime, handles: &Handles, bytes: &[u8]) -> io::Result<()> {
+    let mut file = journal_in(handles)?;
+    write_to(rt, &mut file, bytes)?;
+    file.sync_data()
 }
 
 // Appends the bytes to the journal and forces them to disk. If anything is not as it was left nothing is written, and if the write fails the file
 // is cut back; either is said.
-pub fn append(name: &[u8], journal: Journal, bytes: &[u8]) -> Journal
+pub fn append(
+    rt: &HostRuntime,
+    handles: &Handles,
+    name: &[u8],
+    journal: Journal,
+    bytes: &[u8],
+) -> Journal
     ensures { Appended journal bytes.now result }
 {
     if !journal.ok {
         return journal;
     }
-    if !is_as_left(name, journal) {
+    if !is_as_left(rt, handles, name, journal) {
         return stopped(journal);
     }
-    if !write_forced(journal.file, bytes) {
-        failed(name);
-        cut_back(name, journal, bytes.len() as u64);
-        return stopped(journal);
+    match write_forced(rt, handles, bytes) {
+        Ok(()) => grown(journal, bytes.len()),
+        Err(error) => {
+            failed(rt, name, error);
+            cut_back(rt, handles, name, journal, bytes.len() as u64);
+            stopped(journal)
+        }
     }
-    grown(journal, bytes.len())
 }
 
 // Closes the journal's file, and removes its lock if that is still this program's.
-pub fn close_kept(name: &[u8], journal: Journal) {
-    if 3 <= journal.file {
-        libc::close(journal.file);
-    }
-    drop_lock(name, journal.lock_device, journal.lock_inode);
+pub fn close_kept(rt: &HostRuntime, handles: &mut Handles, name: &[u8], journal: Journal) {
+    handles.journal = None;
+    drop_lock(rt, name, journal.lock_device, journal.lock_inode);
 }

@@ -1,6 +1,9 @@
 // All that touches the outside of a ledger program: the standard streams, the file of a kept journal with its lock, and messages.
 #![tactic(auto)]
+
+mod arguments; // arguments.rt: the program's arguments
 mod files; // files.rt: regular files, opened, made and cut
+mod handles; // handles.rt: the files that are open, and what is read
 mod kept; // kept.rt: the file of a kept journal
 mod known; // known.rt: what the system knows of a file
 mod locks; // locks.rt: the lock of a kept journal
@@ -9,8 +12,9 @@ mod texts; // texts.rt: texts put together, shown and read
 mod waiting; // waiting.rt: reads and writes that wait
 mod whole; // whole.rt: a whole file, read at once
 
-pub use files::open_read;
+pub use arguments::{argument, argument_count};
+pub use handles::{Handles, Input, no_handles, open_journal, read_part};
 pub use kept::{Journal, append, close_kept, continue_kept, open_kept};
 pub use messages::{about, about_line, are_streams_open, failed, show_dropped};
-pub use waiting::{read_part, write_whole};
+pub use waiting::{Stream, write_whole};
 pub use whole::{Contents, read_whole};

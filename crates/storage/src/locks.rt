@@ -1,15 +1,18 @@
 // The lock of a kept journal: a file beside it, with the number of the process that keeps it.
-ghost use Rattle.std.specs.Prelude.{◌≡◌};
-ghost use Rattle.storage.specs.Known.{no_lock, natural_or};
+ghost use Rattle.std.specs.Prelude.{◌≡◌, ◌≤◌, IfOk};
+ghost use Rattle.storage.specs.Known.{no_lock};
 
-use crate::files::open_read;
-use crate::known::{facts_of, leads_to};
+use crate::files::{created, open_read, own, remove};
+use crate::handles::Handles;
+use crate::known::{Facts, facts_at, facts_of, facts_on, leads_to};
 use crate::messages::{about, failed, kept_by};
 use crate::texts::{join, process_in};
-use crate::waiting::{pause, read_part, write_whole};
-
-// There is no such process.
-const ESRCH: i32 = 3;
+use crate::waiting::{pause, read_from, write_to};
+use io::decimal;
+use std::fs;
+use std::fs::File;
+use std::io::{ErrorKind, Result};
+use std::os::fd::AsRawFd;
 
 // The lock can't be read.
 const UNREAD: u64 = 4294967295;
@@ -18,7 +21,7 @@ const UNREAD: u64 = 4294967295;
 const FOREIGN: u64 = 18446744073709551614;
 
 // Whether a lock was taken, and the numbers of its device and of its file there.
-#[derive(Drop)]
+#[derive(Clone, Copy)]
 pub struct Lock {
     pub taken: bool,
     pub device: u64,
@@ -36,55 +39,53 @@ fn no_lock() -> Lock
     }
 }
 
-// A process number as a natural number.
-fn number_of(process: i32) -> u64
-    ensures { result ≡ natural_or 0 process }
+// Fills a buffer with this process's number and a newline, and answers how many bytes they are. The system keeps the number behind the name
+// /proc/self.
+fn own_number(rt: &HostRuntime, line: &mut [u8; 32]) -> Result<usize>
+    ensures { IfOk result (λ n. n ≤ 32) }
 {
-    if process < 0 {
-        return 0;
-    }
-    process as u64
+    let number = fs::read_link(rt, "/proc/self")?;
+    Ok(join(number.as_str().as_bytes(), b"\n", line))
 }
 
 // Writes this process's number and a newline, in one piece.
-fn write_number(file: i32) -> bool {
-    let mut text = [0u8; 20];
+fn write_number(rt: &HostRuntime, mut file: &File) -> Result<()> {
     let mut line = [0u8; 32];
-    let k = io::decimal(number_of(libc::getpid()), &mut text);
-    let n = join(&text[..k], b"\n", &mut line);
-    write_whole(file, &line[..n])
+    let n = own_number(rt, &mut line)?;
+    write_to(rt, &mut file, &line[..n])
 }
 
-// Makes a new lock its owner's alone, with this process's number.
-fn sign(file: i32) -> bool {
-    if libc::fchmod(file, 0o600) != 0 {
-        return false;
-    }
-    write_number(file)
+// Makes a new lock its owner's alone, with this process's number, and answers its facts.
+fn sign(rt: &HostRuntime, file: &File) -> Result<Facts> {
+    own(file)?;
+    write_number(rt, file)?;
+    facts_of(file)
 }
 
 // A lock that was just made. Its descriptor stays open as long as the program runs, so that no other file gets its numbers.
-fn signed(file: i32, lock: &[u8]) -> Lock {
-    if file < 3 {
-        libc::close(file);
-        os::unlink(lock);
-        about(lock, b"not made, since a standard stream is closed");
+fn signed(rt: &HostRuntime, handles: &mut Handles, file: File, lock: &[u8]) -> Lock {
+    if file.as_raw_fd() < 3 {
+        drop(file);
+        let _ = remove(rt, lock);
+        about(rt, lock, b"not made, since a standard stream is closed");
         return no_lock();
     }
-    if sign(file) {
-        let facts = facts_of(file);
-        if facts.ok {
-            return Lock {
+    match sign(rt, &file) {
+        Ok(facts) => {
+            handles.lock = Some(file);
+            Lock {
                 taken: true,
                 device: facts.device,
                 inode: facts.inode,
-            };
+            }
+        }
+        Err(error) => {
+            failed(rt, lock, error);
+            drop(file);
+            let _ = remove(rt, lock);
+            no_lock()
         }
     }
-    failed(lock);
-    libc::close(file);
-    os::unlink(lock);
-    no_lock()
 }
 
 // The process number in the text of a lock: 0 if it is empty, FOREIGN if there is something else in it.
@@ -100,126 +101,161 @@ fn number_or_foreign(text: &[u8]) -> u64 {
 }
 
 // The process number in a lock: 0 if it is empty, FOREIGN if there is none in it, UNREAD if it can't be read, which is said.
-fn read_number(lock: &[u8]) -> u64 {
-    let file = open_read(lock);
-    if file < 0 {
-        return UNREAD;
+fn read_number(rt: &HostRuntime, lock: &[u8]) -> u64 {
+    match open_read(rt, lock) {
+        Some(file) => number_in_file(rt, lock, file),
+        None => UNREAD,
     }
+}
+
+// The same, of a lock that is open.
+fn number_in_file(rt: &HostRuntime, lock: &[u8], mut file: File) -> u64 {
     let mut text = [0u8; 32];
-    let got = read_part(file, &mut text);
-    if got < 0 {
-        failed(lock);
-        libc::close(file);
-        return UNREAD;
+    match read_from(rt, &mut file, &mut text) {
+        Ok(n) => number_or_foreign(&text[..n]),
+        Err(error) => {
+            failed(rt, lock, error);
+            UNREAD
+        }
     }
-    libc::close(file);
-    let n = io::count(got, &text);
-    number_or_foreign(&text[..n])
 }
 
 // The process number in a lock. Another ledger may be just making it, so an empty one is waited for, a second long.
-fn holder(lock: &[u8]) -> u64 {
-    let mut tries: u64 = 0;
-    while tries < 10 {
-        let number = read_number(lock);
+fn holder(rt: &HostRuntime, lock: &[u8]) -> u64 {
+    for _ in 0..10 {
+        let number = read_number(rt, lock);
         if number != 0 {
             return number;
         }
-        pause(100000000);
-        tries += 1;
+        pause(rt, 100);
     }
     0
 }
 
+// Whether a number is this process's own.
+fn is_own(rt: &HostRuntime, number: u64) -> Result<bool> {
+    let mut line = [0u8; 32];
+    let n = own_number(rt, &mut line)?;
+    Ok(process_in(&line[..n]) == number)
+}
+
+// Whether the system shows no process with a number. Of each that exists it has a directory in /proc, unless it hides those of others: then it hides
+// that of process 1 too, which always exists.
+fn is_not_shown(rt: &HostRuntime, number: u64) -> bool {
+    if facts_on(rt, "/proc/1").is_err() {
+        return false;
+    }
+    let mut digits = [0u8; 20];
+    let mut path = [0u8; 32];
+    let k = decimal(number, &mut digits);
+    let n = join(b"/proc/", &digits[..k], &mut path);
+    match facts_at(rt, &path[..n]) {
+        Ok(_) => false,
+        Err(error) => error.kind() == ErrorKind::NotFound,
+    }
+}
+
 // Whether the process with a number that stands in a lock is gone; 0 stands for none. Numbers are given again, so this process's own is another's
 // that is gone.
-fn is_gone(number: u64) -> bool {
+fn is_gone(rt: &HostRuntime, number: u64) -> bool {
     if number == 0 {
         return true;
     }
     if 2147483647 < number {
         return false;
     }
-    let process = number as i32;
-    if process == libc::getpid() {
-        return true;
+    match is_own(rt, number) {
+        Ok(own) => own || is_not_shown(rt, number),
+        Err(_) => false,
     }
-    if 0 <= libc::getpgid(process) {
-        return false;
-    }
-    os::errno() == ESRCH
 }
 
 // Whether a lock is left over from a process that is gone; if not, that is said. One that stays empty was left by a process that ended between
 // making and writing it. It is read once more at the end, in case another ledger took it.
-fn is_left_over(name: &[u8], lock: &[u8]) -> bool {
-    let number = holder(lock);
+fn is_left_over(rt: &HostRuntime, name: &[u8], lock: &[u8]) -> bool {
+    let number = holder(rt, lock);
     if number == UNREAD {
         return false;
     }
     if number == FOREIGN {
         about(
+            rt,
             lock,
             b"no process number in it; remove it if no ledger keeps the journal",
         );
         return false;
     }
-    if !is_gone(number) {
-        kept_by(name, number, lock);
+    if !is_gone(rt, number) {
+        kept_by(rt, name, number, lock);
         return false;
     }
-    if read_number(lock) != number {
-        about(lock, b"another ledger just took the lock");
+    if read_number(rt, lock) != number {
+        about(rt, lock, b"another ledger just took the lock");
         return false;
     }
     true
 }
 
+// A lock as it was made, or none if it was not, which is said.
+fn signed_if_made(
+    rt: &HostRuntime,
+    handles: &mut Handles,
+    made: Result<File>,
+    lock: &[u8],
+) -> Lock {
+    match made {
+        Ok(file) => signed(rt, handles, file, lock),
+        Err(error) => {
+            failed(rt, lock, error);
+            no_lock()
+        }
+    }
+}
+
 // Takes a lock that is left over.
-fn take_over(lock: &[u8]) -> Lock {
-    if os::unlink(lock) != 0 {
-        failed(lock);
-        return no_lock();
+fn take_over(rt: &HostRuntime, handles: &mut Handles, lock: &[u8]) -> Lock {
+    match remove(rt, lock) {
+        Ok(()) => signed_if_made(rt, handles, created(rt, lock), lock),
+        Err(error) => {
+            failed(rt, lock, error);
+            no_lock()
+        }
     }
-    let file = os::create(lock);
-    if file < 0 {
-        failed(lock);
-        return no_lock();
-    }
-    signed(file, lock)
 }
 
 // Takes the lock with a name of its own, if no other process has it; if it can't be had, that is said.
-fn take_named(name: &[u8], lock: &[u8]) -> Lock {
-    let file = os::create(lock);
-    if 0 <= file {
-        return signed(file, lock);
+fn take_named(rt: &HostRuntime, handles: &mut Handles, name: &[u8], lock: &[u8]) -> Lock {
+    match created(rt, lock) {
+        Ok(file) => signed(rt, handles, file, lock),
+        Err(error) => {
+            if error.kind() != ErrorKind::AlreadyExists {
+                failed(rt, lock, error);
+                return no_lock();
+            }
+            if is_left_over(rt, name, lock) {
+                return take_over(rt, handles, lock);
+            }
+            no_lock()
+        }
     }
-    if os::errno() != libc::EEXIST {
-        failed(lock);
-        return no_lock();
-    }
-    if is_left_over(name, lock) {
-        return take_over(lock);
-    }
-    no_lock()
 }
 
 // Takes the lock of the journal with a name; if it can't be had, that is said.
-pub fn take_lock(name: &[u8]) -> Lock {
+pub fn take_lock(rt: &HostRuntime, handles: &mut Handles, name: &[u8]) -> Lock {
     let mut buffer = [0u8; 8192];
     let n = join(name, b".lock", &mut buffer);
-    take_named(name, &buffer[..n])
+    take_named(rt, handles, name, &buffer[..n])
 }
 
 // Whether the lock of the journal with a name is still the one with these numbers; if not, that is said.
-pub fn is_lock_held(name: &[u8], device: u64, inode: u64) -> bool {
+pub fn is_lock_held(rt: &HostRuntime, name: &[u8], device: u64, inode: u64) -> bool {
     let mut buffer = [0u8; 8192];
     let n = join(name, b".lock", &mut buffer);
-    if leads_to(&buffer[..n], device, inode) {
+    if leads_to(rt, &buffer[..n], device, inode) {
         return true;
     }
     about(
+        rt,
         &buffer[..n],
         b"another ledger took the lock; nothing more is kept",
     );
@@ -227,20 +263,20 @@ pub fn is_lock_held(name: &[u8], device: u64, inode: u64) -> bool {
 }
 
 // Removes a lock with these numbers.
-fn drop_named(lock: &[u8], device: u64, inode: u64) {
-    if leads_to(lock, device, inode) {
-        if os::unlink(lock) != 0 {
-            failed(lock);
+fn drop_named(rt: &HostRuntime, lock: &[u8], device: u64, inode: u64) {
+    if leads_to(rt, lock, device, inode) {
+        if let Err(error) = remove(rt, lock) {
+            failed(rt, lock, error);
         }
     }
 }
 
 // Removes the lock of the journal with a name, if it is still the one with these numbers; 0 stands for none.
-pub fn drop_lock(name: &[u8], device: u64, inode: u64) {
+pub fn drop_lock(rt: &HostRuntime, name: &[u8], device: u64, inode: u64) {
     if inode == 0 {
         return;
     }
     let mut buffer = [0u8; 8192];
     let n = join(name, b".lock", &mut buffer);
-    drop_named(&buffer[..n], device, inode);
+    drop_named(rt, &buffer[..n], device, inode);
 }

@@ -1,12 +1,19 @@
 // Texts put together, made paths, shown, and read as numbers.
-ghost use Rattle.std.specs.Prelude.{◌≡◌, ◌+◌, min, ◌&&◌, ◌++◌, length, nat_lt, slice_index};
-ghost use Rattle.libc.specs.Io.{Ended};
-ghost use Rattle.storage.specs.Texts.{with_zeros, path_of, zero_free, shown_byte, shown_padded, digit_more, number_from, process_in};
+ghost use Rattle.std.specs.Prelude.{◌≡◌, ◌+◌, min, ◌&&◌, ◌++◌, length, nat_lt, slice_index, IfOk};
+ghost use Rattle.storage.specs.Texts.{with_zeros, IsPathOf, zero_free, shown_byte, shown_padded, digit_more, number_from, process_in};
 
-use libc::PATH_MAX;
+use std::io::Error;
+use std::{io, str};
 
-// The last place of a path.
-const LAST: usize = 4095;
+// The bytes of a path that the system takes, with a zero behind it.
+const PATH_MAX: usize = 4096;
+
+// The errors of a name that is no path: too many bytes, a zero among them, and no text.
+const ENAMETOOLONG: i32 = 36;
+
+const EINVAL: i32 = 22;
+
+const EILSEQ: i32 = 84;
 
 // Beyond every process number: digits that are none, or too many.
 const NO_NUMBER: u64 = 2147483648;
@@ -82,15 +89,20 @@ pub fn is_path(name: &[u8]) -> bool
     is_zero_free(name)
 }
 
-// A name as a path: zeros behind it, and at the last place.
-pub fn ended(name: &[u8]) -> [u8; PATH_MAX]
-    ensures value { result ≡ path_of name.now }
-    ensures ended { Ended result }
+// A name as a path. The library opens only names that are text in UTF-8.
+pub fn path_in(name: &[u8]) -> io::Result<&str>
+    ensures { IfOk result (λ path. IsPathOf name.now path.now) }
 {
-    let mut path = [0u8; PATH_MAX];
-    join(name, b"", &mut path);
-    path[LAST] = 0;
-    path
+    if !is_path(name) {
+        if PATH_MAX <= name.len() {
+            return Err(Error::from_raw_os_error(ENAMETOOLONG));
+        }
+        return Err(Error::from_raw_os_error(EINVAL));
+    }
+    match str::from_utf8(name) {
+        Ok(path) => Ok(path),
+        Err(_) => Err(Error::from_raw_os_error(EILSEQ)),
+    }
 }
 
 // A byte as it is shown: `?` for one that is no printed sign of ASCII.

@@ -1,92 +1,86 @@
 // Reads and writes that wait where a signal interrupted them, or where nothing is there yet.
 ghost use Rattle.std.specs.Prelude.{◌≡◌, length};
-ghost use Rattle.libc.specs.Io.{Moved};
-ghost use Rattle.storage.specs.Known.{time_of};
+ghost use Rattle.std.specs.Io.{ReadsAtMost, WritesAtMost};
 
-use libc::types::timespec;
+use std::io::{Error, ErrorKind, Read, Write};
+use std::time::Duration;
+use std::{io, thread};
 
 // The calls that one read or write makes at most, which no machine lives to make.
-const MOST: u64 = 18446744073709551615;
+const MOST: u64 = u64::MAX;
 
-// Some nanoseconds, fewer than a second has.
-pub fn time_of(nanoseconds: i64) -> timespec
-    ensures { result ≡ time_of nanoseconds }
-{
-    timespec {
-        tv_sec: 0,
-        tv_nsec: nanoseconds,
-    }
+// Where the program writes beside the journal.
+#[derive(Clone, Copy)]
+pub enum Stream {
+    Output,
+    Errors,
 }
 
-// One call of nanosleep.
-fn slept(asked: timespec, mut left: timespec) -> i32 {
-    libc::nanosleep(&asked, &mut left)
+// Waits for some milliseconds.
+pub fn pause(rt: &HostRuntime, milliseconds: u64) {
+    thread::sleep(rt, Duration::from_millis(milliseconds));
 }
 
-// Waits for some nanoseconds, or until a signal comes.
-pub fn pause(nanoseconds: i64) {
-    slept(time_of(nanoseconds), time_of(0));
-}
-
-// Whether the call that just failed is to be made again: a signal interrupted it, or nothing is there yet, which is waited for. If not, errno is
-// as that call left it.
-fn is_passing() -> bool {
-    let error = os::errno();
-    if error == libc::EAGAIN {
-        pause(5000000);
+// Whether the call that just failed is to be made again: a signal interrupted it, or nothing is there yet, which is waited for.
+fn is_passing(rt: &HostRuntime, error: Error) -> bool {
+    if error.kind() == ErrorKind::WouldBlock {
+        pause(rt, 5);
         return true;
     }
-    error == libc::EINTR
+    error.kind() == ErrorKind::Interrupted
 }
 
 // Whether a call that answered a number of bytes is over: it did not fail, or it is not to be made again.
-fn is_over(moved: isize) -> bool {
-    if 0 <= moved {
-        return true;
+fn is_over(rt: &HostRuntime, moved: io::Result<usize>) -> bool {
+    match moved {
+        Ok(_) => true,
+        Err(error) => !is_passing(rt, error),
     }
-    !is_passing()
 }
 
-// Reads a part of an input: -1 if it failed, 0 at the end.
-pub fn read_part(file: i32, buffer: &mut [u8]) -> isize
-    ensures { Moved (length buffer.old) result }
+// Reads a part of an input: 0 at the end.
+pub fn read_from<R: Read>(rt: &HostRuntime, from: &mut R, buffer: &mut [u8]) -> io::Result<usize>
+    ensures { ReadsAtMost result buffer.new }
 {
-    let mut tries: u64 = 0;
-    while tries < MOST {
-        tries += 1;
-        let got = libc::read(file, buffer);
-        if is_over(got) {
+    for _ in 0..MOST {
+        let got = from.read(buffer);
+        if is_over(rt, got) {
             return got;
         }
     }
-    -1
+    Err(Error::from(ErrorKind::Interrupted))
 }
 
-// Writes a part of the bytes, from the first one on: -1 if it failed.
-fn write_part(file: i32, bytes: &[u8]) -> isize
-    ensures { Moved (length bytes.now) result }
+// Writes a part of the bytes, from the first one on.
+fn write_part<W: Write>(rt: &HostRuntime, to: &mut W, bytes: &[u8]) -> io::Result<usize>
+    ensures { WritesAtMost result bytes.now }
 {
-    let mut tries: u64 = 0;
-    while tries < MOST {
-        tries += 1;
-        let put = libc::write(file, bytes);
-        if is_over(put) {
+    for _ in 0..MOST {
+        let put = to.write(bytes);
+        if is_over(rt, put) {
             return put;
         }
     }
-    -1
+    Err(Error::from(ErrorKind::Interrupted))
 }
 
-// Writes all bytes, and answers whether that succeeded. If not, some may be written, and errno says why.
-pub fn write_whole(file: i32, bytes: &[u8]) -> bool {
+// Writes all bytes. If that fails, some may be written.
+pub fn write_to<W: Write>(rt: &HostRuntime, to: &mut W, bytes: &[u8]) -> io::Result<()> {
     let mut done = 0;
     while done < bytes.len() {
-        let got = write_part(file, &bytes[done..]);
-        let put = io::count(got, &bytes[done..]);
+        let put = write_part(rt, to, &bytes[done..])?;
         if put == 0 {
-            return false;
+            return Err(Error::from(ErrorKind::WriteZero));
         }
         done += put;
     }
-    true
+    Ok(())
+}
+
+// Writes all bytes on a standard stream. If that fails, some may be written.
+pub fn write_whole(rt: &HostRuntime, stream: Stream, bytes: &[u8]) -> io::Result<()> {
+    match stream {
+        Stream::Output => write_to(rt, &mut rt.stdout(), bytes),
+        Stream::Errors => write_to(rt, &mut rt.stderr(), bytes),
+    }
 }

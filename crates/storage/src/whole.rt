@@ -4,7 +4,8 @@ ghost use Rattle.storage.specs.Whole.{no_contents, shorter_than, WholeRead};
 
 use crate::files::open_read;
 use crate::messages::{failed, too_long};
-use crate::waiting::read_part;
+use crate::waiting::read_from;
+use std::fs::File;
 
 // Whether a file was read, and how many bytes it has.
 #[derive(Clone, Copy)]
@@ -23,21 +24,30 @@ fn no_contents() -> Contents
     }
 }
 
-// Reads an open file until it ends, a read fails, where errno says why, or the slice is full.
-fn fill(file: i32, buffer: &mut [u8]) -> Contents
+// Reads the open file with a name until it ends, a read fails, which is said, or the slice is full.
+fn fill(rt: &HostRuntime, name: &[u8], mut file: File, buffer: &mut [u8]) -> Contents
     ensures { result.bytes ≤ length buffer.old }
 {
     let mut done = 0;
     while done < buffer.len() {
-        let got = read_part(file, &mut buffer[done..]);
-        let more = io::count(got, &buffer[done..]);
-        if more == 0 {
-            return Contents {
-                ok: 0 <= got,
-                bytes: done,
-            };
+        match read_from(rt, &mut file, &mut buffer[done..]) {
+            Ok(more) => {
+                if more == 0 {
+                    return Contents {
+                        ok: true,
+                        bytes: done,
+                    };
+                }
+                done += more;
+            }
+            Err(error) => {
+                failed(rt, name, error);
+                return Contents {
+                    ok: false,
+                    bytes: done,
+                };
+            }
         }
-        done += more;
     }
     Contents {
         ok: true,
@@ -46,7 +56,7 @@ fn fill(file: i32, buffer: &mut [u8]) -> Contents
 }
 
 // What was read of a file with a name, which must be shorter than so many bytes; if it is not, that is said, and nothing counts as read.
-fn shorter_than(name: &[u8], room: usize, read: Contents) -> Contents
+fn shorter_than(rt: &HostRuntime, name: &[u8], room: usize, read: Contents) -> Contents
     ensures { result ≡ shorter_than room read }
 {
     if !read.ok {
@@ -55,23 +65,20 @@ fn shorter_than(name: &[u8], room: usize, read: Contents) -> Contents
     if read.bytes < room {
         return read;
     }
-    too_long(name, room as u64);
+    too_long(rt, name, room as u64);
     no_contents()
 }
 
 // Reads the regular file with a name to its end into the front of a slice, which must be longer than the file. If it can't be had, or is not shorter
 // than the slice, that is said.
-pub fn read_whole(name: &[u8], buffer: &mut [u8]) -> Contents
+pub fn read_whole(rt: &HostRuntime, name: &[u8], buffer: &mut [u8]) -> Contents
     ensures { WholeRead (length buffer.old) result }
 {
-    let file = open_read(name);
-    if file < 0 {
-        return no_contents();
+    match open_read(rt, name) {
+        Some(file) => {
+            let read = fill(rt, name, file, buffer);
+            shorter_than(rt, name, buffer.len(), read)
+        }
+        None => no_contents(),
     }
-    let read = fill(file, buffer);
-    if !read.ok {
-        failed(name);
-    }
-    libc::close(file);
-    shorter_than(name, buffer.len(), read)
 }
