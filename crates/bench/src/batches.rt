@@ -131,21 +131,21 @@ fn report(timed: bool, text: &[u8], rounds: u64, sum: u64, took: u64) {
 }
 
 // October 2021 settled on 1 December 2021 for 64 participants with four letters each, whose cover is enough.
-pub fn run(timed: bool, rounds: u64) {
+pub fn run(rt: &HostRuntime, timed: bool, rounds: u64) {
     let mut book = [0u64; 6147];
     participants::admit_all(&mut book, 4);
     book::advance(&mut book, Day(700), 29219);
     let month = Month(21);
     let mut figures = [0i64; 1024];
     put_month(&mut figures);
-    let began = clock::now();
+    let began = clock::now(rt);
     let sum = settlements(&mut book, month, &figures, rounds);
-    let took = clock::since(began);
+    let took = clock::since(rt, began);
     report(timed, b"64 settlements: ", rounds, sum, took);
     let mut file = [0u8; 8836];
     put_file(&mut file, month);
-    let began = clock::now();
+    let began = clock::now(rt);
     let sum = batches(&mut book, &file, rounds);
-    let took = clock::since(began);
+    let took = clock::since(rt, began);
     report(timed, b"batches of 64 parts: ", rounds, sum, took);
 }

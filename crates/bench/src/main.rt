@@ -2,7 +2,9 @@
 // a month by settlements and by a batch. It writes what was done; with an argument it makes ten times as many calls and a hundred times as many
 // questions, and writes a sum of all answers and the processor time of each part too.
 #![tactic(auto)]
+
 use mixed::Plan;
+use std::env::{Env, FillError};
 
 mod answers;
 mod batches;
@@ -15,12 +17,18 @@ mod output;
 mod participants;
 mod questions;
 
-fn main() {
-    let timed = 1 < os::arg_count();
+// Whether the program was started with an argument besides its name.
+fn has_argument(rt: &HostRuntime) -> bool {
+    !matches!(rt.arg(1, &mut [0u8; 1]), Err(FillError::NotPresent))
+}
+
+fn main(rt: HostRuntime) {
+    let timed = has_argument(&rt);
     let rounds = if timed { 1000 } else { 100 };
-    calendar_opened::run(timed);
+    calendar_opened::run(&rt, timed);
     // 5 September 2021: annual runs are accepted, and a settlement is recorded only
     mixed::run(
+        &rt,
         timed,
         Plan {
             start: 613,
@@ -31,6 +39,7 @@ fn main() {
     );
     // 1 December 2021: annual runs are refused, and a settlement is checked
     mixed::run(
+        &rt,
         timed,
         Plan {
             start: 700,
@@ -41,6 +50,7 @@ fn main() {
     );
     // days are opened after each thousand calls
     mixed::run(
+        &rt,
         timed,
         Plan {
             start: 613,
@@ -50,6 +60,6 @@ fn main() {
         },
     );
     let count = if timed { 10000000 } else { 100000 };
-    questions::run(timed, count);
-    batches::run(timed, rounds);
+    questions::run(&rt, timed, count);
+    batches::run(&rt, timed, rounds);
 }

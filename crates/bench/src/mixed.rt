@@ -71,13 +71,13 @@ fn report(timed: bool, book: &[u64], plan: Plan, sum: u64)
 }
 
 // A plan for 64 participants with four letters each.
-pub fn run(timed: bool, plan: Plan) {
+pub fn run(rt: &HostRuntime, timed: bool, plan: Plan) {
     let mut book = [0u64; 6147];
     participants::admit_all(&mut book, 4);
     book::advance(&mut book, Day(plan.start), 29219);
-    let began = clock::now();
+    let began = clock::now(rt);
     let sum = rounds(&mut book, plan);
-    let took = clock::since(began);
+    let took = clock::since(rt, began);
     report(timed, &book, plan, sum);
     output::time(timed, took);
 }

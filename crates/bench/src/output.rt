@@ -1,10 +1,12 @@
 // What the benchmark writes.
-use libc::STDOUT_FILENO;
+
+// The descriptor of standard output.
+const OUTPUT: i32 = 1;
 
 // A number with a text before it.
 pub fn number(text: &[u8], n: u64) {
-    io::write_all(STDOUT_FILENO, text);
-    io::print_decimal(STDOUT_FILENO, n);
+    io::write_all(OUTPUT, text);
+    io::print_decimal(OUTPUT, n);
 }
 
 // A number with a text before it that depends on the calls drawn, where times are asked for.
@@ -16,7 +18,7 @@ pub fn figure(timed: bool, text: &[u8], n: u64) {
 
 // The end of a line.
 pub fn end() {
-    io::write_all(STDOUT_FILENO, b"\n");
+    io::write_all(OUTPUT, b"\n");
 }
 
 // A line with a time, where times are asked for.

@@ -46,16 +46,16 @@ fn report(timed: bool, text: &[u8], count: u64, sum: u64, took: u64) {
 }
 
 // So many questions of each kind on a book of 64 participants with four letters each, on 5 September 2021.
-pub fn run(timed: bool, count: u64) {
+pub fn run(rt: &HostRuntime, timed: bool, count: u64) {
     let mut book = [0u64; 6147];
     participants::admit_all(&mut book, 4);
     book::advance(&mut book, Day(613), 29219);
-    let began = clock::now();
+    let began = clock::now(rt);
     let sum = statements(&book, count);
-    let took = clock::since(began);
+    let took = clock::since(rt, began);
     report(timed, b"statements: ", count, sum, took);
-    let began = clock::now();
+    let began = clock::now(rt);
     let sum = counts(&book, count);
-    let took = clock::since(began);
+    let took = clock::since(rt, began);
     report(timed, b"counts: ", count, sum, took);
 }

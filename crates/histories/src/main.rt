@@ -1,9 +1,14 @@
 // Plays long random histories on the book, and prints every answer. data/ holds the histories, and the file stdout what the reference says
 // (reference/histories.py): the gate compares the two.
 #![tactic(auto)]
-ghost use Rattle.std.specs.Prelude.{◌≤◌};
+
+ghost use Rattle.std.specs.Prelude.{◌≤◌, length};
 
 use calendar::Day;
+use std::alloc::AllocError;
+use std::fs;
+use std::fs::File;
+use std::io::Read;
 
 mod load;
 mod print;
@@ -75,30 +80,41 @@ fn play(text: &[u8]) {
     );
 }
 
-// Plays the history with a number, and answers whether there was one.
-fn play_file(number: usize) -> bool {
-    let mut name = [b'h', b'0', b'0', b'0'];
-    name[1] = b'0' + (number / 100 % 10) as u8;
-    name[2] = b'0' + (number / 10 % 10) as u8;
-    name[3] = b'0' + (number % 10) as u8;
-    let file = os::open_read(&name);
-    if file < 0 {
-        return false;
+// Reads a file from its start on, until the buffer is full, the file ends or a read fails, and answers how many bytes were read.
+fn read_full(file: &mut File, buffer: &mut [u8]) -> usize
+    ensures { result ≤ length buffer.new }
+{
+    let mut done = 0;
+    while done < buffer.len() {
+        match file.read(&mut buffer[done..]) {
+            Ok(0) | Err(_) => break,
+            Ok(n) => done += n,
+        }
     }
+    done
+}
+
+// Plays the history with a number, and answers whether there was one.
+fn play_file(rt: &HostRuntime, number: usize) -> Result<bool, AllocError> {
+    let name = format!(in rt.alloc(); "h{number:03}")?;
+    let Ok(mut file) = fs::open(rt, name.as_str()) else {
+        return Ok(false);
+    };
     let mut buffer = io::large_buffer();
-    let n = io::read_full(file, &mut buffer);
-    libc::close(file);
+    let n = read_full(&mut file, &mut buffer);
+    drop(file);
     play(&buffer[..n]);
-    true
+    Ok(true)
 }
 
 // Plays the histories h000, h001, .. in turn, up to the first number that has none.
-fn main() {
+fn main(rt: HostRuntime) -> Result<(), AllocError> {
     let mut number = 0;
     while number < 1000 {
-        if !play_file(number) {
-            return;
+        if !play_file(&rt, number)? {
+            return Ok(());
         }
         number += 1;
     }
+    Ok(())
 }

@@ -1,5 +1,8 @@
 // The answers, as lines of numbers. A line is made from its end, so that a number's digits come in the order in which division gives them.
 
+// The descriptor of standard output.
+const OUTPUT: i32 = 1;
+
 // Puts a byte before those from `end` on, and answers its place.
 fn put(line: &mut [u8; 160], end: usize, byte: u8) -> usize {
     if end == 0 {
@@ -48,7 +51,7 @@ fn number_of(out: &[i64; 2400], call: usize, place: usize) -> i64 {
 fn write_line(line: &[u8; 160], at: usize) {
     let whole = &line[..];
     if at <= whole.len() {
-        io::write_all(libc::STDOUT_FILENO, &whole[at..]);
+        io::write_all(OUTPUT, &whole[at..]);
     }
 }
 
@@ -78,7 +81,7 @@ pub fn print_answers(out: &[i64; 2400], calls: usize) {
 
 // Prints the line that begins a history.
 pub fn print_start(start: u64) {
-    io::write_all(libc::STDOUT_FILENO, b"history ");
-    io::print_decimal(libc::STDOUT_FILENO, start);
-    io::write_all(libc::STDOUT_FILENO, b"\n");
+    io::write_all(OUTPUT, b"history ");
+    io::print_decimal(OUTPUT, start);
+    io::write_all(OUTPUT, b"\n");
 }

@@ -1,0 +1,10 @@
+-- `histories::load::load_figures` meets its contract, which says nothing: `store_figure` tests its place itself. The measure is the number of
+-- figures left to read. Assumes nothing.
+use Prim.Native.Nat.{◌-◌}
+use Rattle.histories.proofs.load.load_figures.Given as goal
+
+abbrev pub invariant-loop-i : goal.invariant-loop-i
+invariant-loop-i l = Unit
+
+abbrev pub decreases-loop-i : goal.decreases-loop-i
+decreases-loop-i l = l.count - l.i
