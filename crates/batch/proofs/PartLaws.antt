@@ -14,7 +14,7 @@ use Rattle.laws.specs.Read.{read}
 use Rattle.laws.specs.Tabulated.{length-table, get_d-table}
 use Rattle.manual.specs.declared.Sum.TheVariants.{Total, Refused}
 use Rattle.manual.specs.Figures.{bound, summed}
-use Rattle.manual.proofs.Sums.{SoFar, wrong-number, out_of_range, sum_fits, sum-again, sum-ends}
+use Rattle.manual.proofs.Sums.{SoFar, wrong-number, out_of_range_lem, sum_fits, sum-again, sum-ends}
 use Rattle.batch.specs.Bytes.{number_at, signed_of}
 use Rattle.batch.specs.Batch.{offset_at, participant_at, rows_at, figures_behind}
 use Rattle.batch.specs.Parts.{part_of, PartIs}
@@ -46,7 +46,7 @@ module _ (file : List ℕ) (offset rows : ℕ) where
   long = length-table rows (λ k. signed_of (number_at file (offset + 2 + 8 * k) 8))
 
   -- The figure at k, as the code reads it, and whether it is within its bound.
-  module _ (k w s : ℕ) (r : ℤ) (t : Bool) (h : k < rows) (few : rows ≤ 16) (word : w ≡ number_at file (offset + 2 + 8 * k) 8) (figure : r ≡ signed_of w)
+  module _ (k w : ℕ) (s r : ℤ) (t : Bool) (h : k < rows) (few : rows ≤ 16) (word : w ≡ number_at file (offset + 2 + 8 * k) 8) (figure : r ≡ signed_of w)
       (fits : SFits w64 r) (said : t ≡ leb (nat_abs (read r)) bound) (inv : SoFar l s k) where
     figure-is : r ≡ get_or l k (pos 0)
     unfolding figures_behind
@@ -60,19 +60,19 @@ module _ (file : List ℕ) (offset rows : ℕ) where
     found = said ∙ ap (λ (z : ℤ). leb (nat_abs (read z)) bound) figure-is
 
     pub part_out : 5 ≤ rows → t ≡ false → Refused 11 ≡ summed l
-    part_out some f = out_of_range t l s k there (omega (arith, long)) (omega (arith, long)) found inv (omega (arith, long)) f
+    part_out some f = out_of_range_lem t l s k there (omega (arith, long)) (omega (arith, long)) found inv (omega (arith, long)) f
 
-    pub part-fits : t ≡ true → SFits w64 (to_z w64 s +ℤ read r)
+    pub part-fits : t ≡ true → SFits w64 (s +ℤ read r)
     part-fits e =
-        subst (λ (z : ℤ). SFits w64 (to_z w64 s +ℤ read z)) (sym figure-is)
+        subst (λ (z : ℤ). SFits w64 (s +ℤ read z)) (sym figure-is)
         (sum_fits t l s k there (omega (arith, long)) (omega (arith, long)) found inv e)
 
-    pub part-again : t ≡ true → SoFar l (of_z w64 (to_z w64 s +ℤ read r)) (k + 1)
+    pub part-again : t ≡ true → SoFar l (to_z w64 (of_z w64 (s +ℤ read r))) (k + 1)
     part-again e =
-        subst (λ (z : ℤ). SoFar l (of_z w64 (to_z w64 s +ℤ read z)) (k + 1)) (sym figure-is)
+        subst (λ (z : ℤ). SoFar l (to_z w64 (of_z w64 (s +ℤ read z))) (k + 1)) (sym figure-is)
         (sum-again t l s k there (omega (arith, long)) (omega (arith, long)) found inv e)
 
-  pub part-ends : (s k : ℕ) → rows ≤ k → 5 ≤ rows → rows ≤ 16 → SoFar l s k → Total (to_z w64 s) ≡ summed l
+  pub part-ends : (s : ℤ) (k : ℕ) → rows ≤ k → 5 ≤ rows → rows ≤ 16 → SoFar l s k → Total s ≡ summed l
   part-ends s k h some few inv = sum-ends l s k (omega (arith, long)) (omega (arith, long)) (omega (arith, long)) inv
 
   pub part-wrong : (t : Bool) → t ≡ (ltb rows 5 || ltb 16 rows) → t ≡ true → Refused 10 ≡ summed l

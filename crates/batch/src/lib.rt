@@ -1,5 +1,6 @@
 // The file of one month for all participants (paper 02, Ask 1): whether its bytes are a batch, and its parts.
 #![tactic(auto)]
+
 mod bytes; // bytes.rt: numbers in the bytes of a file
 mod pairs; // pairs.rt: what a file says of its month, its pairs and their parts
 mod parts; // parts.rt: one part, and its figures

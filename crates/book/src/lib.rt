@@ -1,5 +1,6 @@
 // The guarantee book, in lent words: 64 files, today, and the count of calls made (paper 01, 'The calls'). Crate `layout` says which words.
 #![tactic(auto)]
+
 use file::Statement;
 
 mod batches;

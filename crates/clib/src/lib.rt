@@ -4,6 +4,7 @@
 // Each answer begins with its refusal: 0 for an accepted call, the number of paper 01 (1 to 19) or of paper 02 (from 20 on) for a refused one, or
 // 100 for words that are not as many as a book's, which are neither read nor written. A value that has no meaning beside an answer is 0.
 #![tactic(auto)]
+
 mod calls; // calls.rt: the calls that change a book
 mod numbers; // numbers.rt: answers as numbers
 mod questions; // questions.rt: the questions, and the special guarantee

@@ -1,5 +1,6 @@
 // One participant's file: its positions, open calls, next amount, month totals and charges (paper 01, 'One participant's file').
 #![tactic(auto)]
+
 ghost use Rattle.std.specs.Prelude.{◌≡◌, ◌%◌};
 
 use calendar::{Day, Month};

@@ -1,5 +1,6 @@
 // Whether words are a book: what a saved book is asked before it is used.
 #![tactic(auto)]
+
 ghost use Rattle.std.specs.Prelude.{◌≡◌, ◌≤◌, length};
 ghost use Rattle.layout.specs.WellFormed.{WellFormed};
 ghost use Rattle.formed.specs.Decides.{Decides, Below};

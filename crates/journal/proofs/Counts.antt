@@ -11,7 +11,6 @@ use lib.IntN.{ℤ}
 use lib.ListN.{length, length-append}
 use Rattle.laws.specs.Cases.{split}
 use Rattle.laws.specs.Lists.{all-default}
-use Rattle.calendar.specs.declared.Month.{Month}
 use Rattle.words.specs.Bytes.{control, some, uncommented}
 use Rattle.words.specs.Words.{words, place_in}
 use Rattle.words.specs.Hex.{bytes_of_hex}

@@ -13,7 +13,6 @@ use lib.Seq.{sets-eq, take-append_seam, drop-append_seam}
 use lib.IntN.{ℤ}
 use Rattle.laws.specs.Cases.{split}
 use Rattle.laws.specs.Lists.{all-default}
-use Rattle.calendar.specs.declared.Month.{Month}
 use Rattle.words.specs.Bytes.{control, some, uncommented}
 use Rattle.words.specs.Words.{words, place_in}
 use Rattle.words.specs.Hex.{hexadecimal, bytes_of_hex}

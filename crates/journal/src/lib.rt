@@ -1,5 +1,6 @@
 // One line of the journal: the call that it is, read from its bytes.
 #![tactic(auto)]
+
 ghost use Rattle.std.specs.Prelude.{length};
 ghost use Rattle.words.specs.Words.{words as Words·words};
 ghost use Rattle.journal.specs.Fields.{rest_of_line};

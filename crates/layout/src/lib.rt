@@ -1,4 +1,5 @@
 // The book as words: a file as 96 words and back, and the place of each in the words of a book.
 #![tactic(auto)]
+
 pub mod files;
 pub mod parts;

@@ -24,19 +24,13 @@ use Rattle.manual.specs.declared.Sum.TheVariants.{Total, Refused}
 
 -- ---- one figure
 
-pub above_low : (x : ℤ) → SFits w64 x → le_z (negsuc 999999999999) (read x) ≡ true → le_z (read x) (pos 1000000000000) ≡ leb (nat_abs x) bound
-above_low x f p = rw (to_z-of_z f) (plain x (rw (to_z-of_z f) at p))
-  where
-    plain : (x : ℤ) → le_z (negsuc 999999999999) x ≡ true → le_z x (pos 1000000000000) ≡ leb (nat_abs x) bound
-    plain (pos n) p = refl
-    plain (negsuc n) p = sym (leb-suc-suc n 999999999999 ∙ p)
+pub above_low : (x : ℤ) → le_z (negsuc 999999999999) x ≡ true → le_z x (pos 1000000000000) ≡ leb (nat_abs x) bound
+above_low (pos n) p = refl
+above_low (negsuc n) p = sym (leb-suc-suc n 999999999999 ∙ p)
 
-pub below-low : (x : ℤ) → SFits w64 x → le_z (negsuc 999999999999) (read x) ≡ false → le_z (negsuc 999999999999) (read x) ≡ leb (nat_abs x) bound
-below-low x f p = rw (to_z-of_z f) (plain x (rw (to_z-of_z f) at p))
-  where
-    plain : (x : ℤ) → le_z (negsuc 999999999999) x ≡ false → le_z (negsuc 999999999999) x ≡ leb (nat_abs x) bound
-    plain (pos n) p = clash refl p
-    plain (negsuc n) p = sym (leb-suc-suc n 999999999999)
+pub below-low : (x : ℤ) → le_z (negsuc 999999999999) x ≡ false → le_z (negsuc 999999999999) x ≡ leb (nat_abs x) bound
+below-low (pos n) p = clash refl p
+below-low (negsuc n) p = sym (leb-suc-suc n 999999999999)
 
 -- ---- cause 10, by the number of the figures
 
@@ -60,17 +54,16 @@ module _ (t : Bool) (n : ℕ) (said : t ≡ (ltb n 5 || ltb 16 n)) where
 
 -- ---- a turn at the next figure, which t found within the bound or not
 
--- The loop's invariant, with the bits s of the sum and i figures passed: each passed is within its bound, the sum is at most a bound for each,
+-- The loop's invariant, with the sum s and i figures passed: each passed is within its bound, the sum is at most a bound for each,
 -- and with the figures left it makes the whole.
-abbrev pub SoFar : List ℤ → ℕ → ℕ → Type 0
-SoFar l s i =
-    (i ≤ length l) × (all_within (drop i l) ≡ all_within l) × (nat_abs (to_z w64 s) ≤ i * bound) × (to_z w64 s +ℤ sum_of (drop i l) ≡ sum_of l)
+abbrev pub SoFar : List ℤ → ℤ → ℕ → Type 0
+SoFar l s i = (i ≤ length l) × (all_within (drop i l) ≡ all_within l) × (nat_abs s ≤ i * bound) × (s +ℤ sum_of (drop i l) ≡ sum_of l)
 
 -- |s + x| is at most one bound more than |s|
 grown : (s x : ℤ) (k : ℕ) → nat_abs s ≤ k * bound → nat_abs x ≤ bound → nat_abs (s +ℤ x) ≤ (k + 1) * bound
 grown s x k p q = le_trans (nat_abs-add s x) (omega arith)
 
-module _ (t : Bool) (l : List ℤ) (s i : ℕ) (f : SFits w64 (get_or l i (pos 0))) (h : i < length l) (few : length l ≤ 16)
+module _ (t : Bool) (l : List ℤ) (s : ℤ) (i : ℕ) (f : SFits w64 (get_or l i (pos 0))) (h : i < length l) (few : length l ≤ 16)
     (said : t ≡ leb (nat_abs (read (get_or l i (pos 0)))) bound) (inv : SoFar l s i) where
   found : t ≡ leb (nat_abs (get_or l i (pos 0))) bound
   found = rw (to_z-of_z f) at said
@@ -88,19 +81,17 @@ module _ (t : Bool) (l : List ℤ) (s i : ℕ) (f : SFits w64 (get_or l i (pos 0
   unfolding all_within
   in-range p = rw (add-one i) (rw (drop-cons l i (pos 0) h, sym found ∙ p) at inv.1)
 
-  small : t ≡ true → nat_abs (to_z w64 s +ℤ read (get_or l i (pos 0))) ≤ (i + 1) * bound
-  small p =
-      rw (to_z-of_z f)
-      (grown (to_z w64 s) (get_or l i (pos 0)) i inv.2 (leb-true (nat_abs (get_or l i (pos 0))) bound (sym found ∙ p)))
+  small : t ≡ true → nat_abs (s +ℤ read (get_or l i (pos 0))) ≤ (i + 1) * bound
+  small p = rw (to_z-of_z f) (grown s (get_or l i (pos 0)) i inv.2 (leb-true (nat_abs (get_or l i (pos 0))) bound (sym found ∙ p)))
 
   -- the sum does not overflow
-  pub sum_fits : t ≡ true → SFits w64 (to_z w64 s +ℤ read (get_or l i (pos 0)))
+  pub sum_fits : t ≡ true → SFits w64 (s +ℤ read (get_or l i (pos 0)))
   sum_fits p = fits_nat_abs _ (omega (arith, small p))
 
-  pub sum-again : t ≡ true → SoFar l (of_z w64 (to_z w64 s +ℤ read (get_or l i (pos 0)))) (i + 1)
+  pub sum-again : t ≡ true → SoFar l (to_z w64 (of_z w64 (s +ℤ read (get_or l i (pos 0))))) (i + 1)
   sum-again p =
       let e = to_z-of_z (sum_fits p) in
-      (omega arith, in-range p, rw e (small p), rw (e, to_z-of_z f) (sym (sum_of-turn (to_z w64 s) l i h) ∙ inv.3))
+      (omega arith, in-range p, rw e (small p), rw (e, to_z-of_z f) (sym (sum_of-turn s l i h) ∙ inv.3))
 
 -- ---- the loop's end
 
@@ -112,8 +103,8 @@ all-summed : (l : List ℤ) (i : ℕ) (z : ℤ) → length l ≤ i → z +ℤ su
 unfolding sum_of
 all-summed l i z h p = sym (+ℤ_idr z) ∙ (rw (drop_of_length-le l h) at p)
 
-pub sum-ends : (l : List ℤ) (s i : ℕ) → length l ≤ i → 5 ≤ length l → length l ≤ 16 → SoFar l s i → Total (to_z w64 s) ≡ summed l
+pub sum-ends : (l : List ℤ) (s : ℤ) (i : ℕ) → length l ≤ i → 5 ≤ length l → length l ≤ 16 → SoFar l s i → Total s ≡ summed l
 unfolding summed wrong_count out_of_range
 sum-ends l s i h g few inv =
-    ap Total (all-summed l i (to_z w64 s) h inv.3)
+    ap Total (all-summed l i s h inv.3)
     ∙ rw (le-ltb (length l) 5 g, le-ltb 16 (length l) few, sym (all-passed l i h inv.1))

@@ -1,5 +1,6 @@
 // Lines as they are printed, without their newline: calls in their numeric form, and answers.
 #![tactic(auto)]
+
 use calendar::Day;
 use journal::Reason;
 

@@ -1,6 +1,6 @@
 -- The sum of a list of amounts, from its end.
 -- Assumes nothing.
-use Prim.Native.Nat.{ℕ, zero, suc, ◌+◌, ◌-◌, ◌*◌, ◌≤◌, ◌<◌}
+use Prim.Native.Nat.{ℕ, zero, suc, ◌-◌, ◌*◌, ◌≤◌, ◌<◌}
 use native.Mathlib.Omega.{arith}
 use mathlib.Core.Path.{◌≡◌, ◌∙◌}
 use mathlib.Core.Bool.{Bool, true, false≢true}
@@ -11,7 +11,7 @@ use lib.ListN.{length, get_or, drop, length-drop}
 use lib.Seq.{drop-length}
 use lib.IntN.{ℤ, pos, negsuc, neg_ℤ, nat_abs, ◌+ℤ◌}
 use mir.Syntax.{w64}
-use mir.Val.{SFits, to_z}
+use mir.Val.{SFits}
 use mir.Facts.{to_z-of_z}
 use Rattle.laws.specs.Cases.{and_left, and_right}
 use Rattle.laws.specs.Integers.{sum_of, Within, sum_of-bound}
@@ -46,17 +46,17 @@ sum_fits l i a =
     fits_nat_abs (sum_of (drop i l))
     (omega (arith, a.few, sum_bound 1000000000000 (drop i l) (every_drop _ i l a.small), length-drop i l))
 
--- a turn: t is the bits of the sum from i on, and the amount before i is added to it
-module _ (l : List ℤ) (i t : ℕ) (a : Amounts l) (h : 0 < i) (k : i ≤ length l) (f : SFits w64 (get_or l (i - 1) (pos 0)))
-    (e : to_z w64 t ≡ sum_of (drop i l)) where
-  step : read (get_or l (i - 1) (pos 0)) +ℤ to_z w64 t ≡ sum_of (drop (i - 1) l)
+-- a turn: t is the sum from i on, and the amount before i is added to it
+module _ (l : List ℤ) (i : ℕ) (t : ℤ) (a : Amounts l) (h : 0 < i) (k : i ≤ length l) (f : SFits w64 (get_or l (i - 1) (pos 0)))
+    (e : t ≡ sum_of (drop i l)) where
+  step : read (get_or l (i - 1) (pos 0)) +ℤ t ≡ sum_of (drop (i - 1) l)
   unfolding sum_of
   step = rw (to_z-of_z f, e, drop-back l i (pos 0) h k)
 
-  pub sum-adds : SFits w64 (read (get_or l (i - 1) (pos 0)) +ℤ to_z w64 t)
+  pub sum-adds : SFits w64 (read (get_or l (i - 1) (pos 0)) +ℤ t)
   sum-adds = rw step (sum_fits l (i - 1) a)
 
-  pub sum-again : read (read (get_or l (i - 1) (pos 0)) +ℤ to_z w64 t) ≡ sum_of (drop (i - 1) l)
+  pub sum-again : read (read (get_or l (i - 1) (pos 0)) +ℤ t) ≡ sum_of (drop (i - 1) l)
   sum-again = to_z-of_z sum-adds ∙ step
 
 -- before the first turn, and after the last
@@ -64,5 +64,5 @@ pub sum-none : (l : List ℤ) → pos 0 ≡ sum_of (drop (length l) l)
 unfolding sum_of
 sum-none l = rw drop-length
 
-pub sum-all : (l : List ℤ) (i t : ℕ) → i ≤ 0 → to_z w64 t ≡ sum_of (drop i l) → to_z w64 t ≡ sum_of l
+pub sum-all : (l : List ℤ) (i : ℕ) (t : ℤ) → i ≤ 0 → t ≡ sum_of (drop i l) → t ≡ sum_of l
 sum-all l i t h e = let z : i ≡ 0 = omega arith in rw z at e

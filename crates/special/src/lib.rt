@@ -1,5 +1,6 @@
 // The special guarantee of paper 01, 'Special guarantee' (002, section 7), on lent lists.
 #![tactic(auto)]
+
 ghost use Rattle.std.specs.Prelude.{◌≡◌};
 ghost use Rattle.special.specs.Guarantee.{special_guarantee};
 

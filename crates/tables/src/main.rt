@@ -3,6 +3,7 @@
 // says where its example and its formula part. The last line says where an average that is not rounded would part from the example.
 // Thousands are separated by commas and decimals by a point, where 002's examples do it the other way round.
 #![tactic(auto)]
+
 mod annual_example;
 mod charge_example;
 mod minimums;

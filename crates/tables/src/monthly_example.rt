@@ -1,7 +1,7 @@
 ghost use Rattle.std.specs.Prelude.{◌≡◌, ◌+◌, ◌*◌, ◌/◌, ◌<◌};
 
 use crate::annual_example::guarantee;
-use crate::print::{amount, given, text, verdict};
+use crate::print::{OUTPUT, amount, given, text, verdict};
 use calendar::{Month, is_september};
 use manual::figures::sum_figures;
 use manual::monthly::{check, exceeds_tolerance};
@@ -83,9 +83,9 @@ fn percent_of(total: u32, guarantee: u32) -> u64
 fn difference(percent: u64) {
     if percent < 100 {
         text(b"-");
-        io::print_decimal(libc::STDOUT_FILENO, 100 - percent);
+        io::print_decimal(OUTPUT, 100 - percent);
     } else {
-        io::print_decimal(libc::STDOUT_FILENO, percent - 100);
+        io::print_decimal(OUTPUT, percent - 100);
     }
     text(b"%");
 }

@@ -1,14 +1,17 @@
 // What the tables are written with, to standard output.
 ghost use Rattle.std.specs.Prelude.{◌≡◌, nat_abs};
 
+// The descriptor of standard output.
+pub const OUTPUT: i32 = 1;
+
 // A text as it stands.
 pub fn text(t: &[u8]) {
-    io::write_all(libc::STDOUT_FILENO, t);
+    io::write_all(OUTPUT, t);
 }
 
 // A number's last digit.
 fn digit(n: u64) {
-    io::print_decimal(libc::STDOUT_FILENO, n % 10);
+    io::print_decimal(OUTPUT, n % 10);
 }
 
 // A comma and a number's last three digits.
@@ -22,12 +25,12 @@ fn group(n: u64) {
 // A number, with a comma before its last three digits and before the three ahead of them.
 pub fn number(n: u64) {
     if n < 1000 {
-        io::print_decimal(libc::STDOUT_FILENO, n);
+        io::print_decimal(OUTPUT, n);
     } else if n < 1000000 {
-        io::print_decimal(libc::STDOUT_FILENO, n / 1000);
+        io::print_decimal(OUTPUT, n / 1000);
         group(n);
     } else {
-        io::print_decimal(libc::STDOUT_FILENO, n / 1000000);
+        io::print_decimal(OUTPUT, n / 1000000);
         group(n / 1000);
         group(n);
     }

@@ -1,5 +1,6 @@
 // The words of a line of the journal, and what a word can be: a name, a number, a day, a month or bytes.
 #![tactic(auto)]
+
 mod line; // line.rt: the line without its comment, and its words
 mod numbers; // numbers.rt: numbers as words
 mod dates; // dates.rt: days and months as words

@@ -10,7 +10,7 @@ use lib.Dec.{ltb}
 use Rattle.laws.specs.Cases.{split, cond-true, cond-false, or-first, or-second}
 use Rattle.file.specs.Answer.{accepted}
 use Rattle.layout.specs.Book.{Book}
-use Rattle.book.specs.Call.{Call, on, advance, statement, calls_made}
+use Rattle.book.specs.Call.{Call, on, advance, statement, calls_made, batch}
 use Rattle.book.specs.Rule.{new_rule}
 use Rattle.book.specs.Account.{open_day, open_days, answer, applied, step}
 use Rattle.book.specs.Life.{after_calls, Advances, SameDays}
@@ -64,6 +64,7 @@ days-of b (advance day budget ∷ calls) a =
     (first.0 + rest.0, rest.1 ∙ ap (open_days rest.0) first.1 ∙ open_days-sum first.0 rest.0 b)
 days-of b (statement p ∷ calls) a = absurd a
 days-of b (calls_made ∷ calls) a = absurd a
+days-of b (batch file ∷ calls) a = absurd a
 
 pub same-days : (b : Book) (one other : List Call) → Advances one → Advances other → SameDays b one other
 same-days b one other a c =

@@ -3,9 +3,6 @@
 -- Assumes nothing.
 use Rattle.calendar.proofs.Lengths.{first_day_of-none, sum-starts, sum-grows, sum-small, sum-ends}
 use native.Mathlib.Omega.{arith}
-use Prim.Native.Nat.{◌+◌, ◌-◌, ◌*◌, ◌≤◌}
-use mathlib.Core.Path.{◌≡◌}
-use Rattle.calendar.specs.Civil.{first_day}
 use borrow.Author.Rules.{rules}
 use Rattle.calendar.proofs.first_day.Goals as goal
 

@@ -1,12 +1,9 @@
 -- `calendar::first_day` meets its contract. The loop's invariant: d is the first day of the month at place i of the year. The measure is
 -- the number of months left.
 -- Assumes nothing.
-use Rattle.calendar.proofs.Lengths.{first_day_of-none, sum-starts, sum-grows, sum-small, sum-ends}
-use native.Mathlib.Omega.{arith}
 use Prim.Native.Nat.{◌+◌, ◌-◌, ◌*◌, ◌≤◌}
 use mathlib.Core.Path.{◌≡◌}
 use Rattle.calendar.specs.Civil.{first_day}
-use borrow.Author.Rules.{rules}
 use Rattle.calendar.proofs.first_day.Given as goal
 
 abbrev pub invariant-loop-i : goal.invariant-loop-i

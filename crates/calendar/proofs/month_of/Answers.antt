@@ -3,7 +3,6 @@
 use Rattle.calendar.specs.Laws.{month_of-le, month_of-after}
 use mathlib.Core.Path.{sym}
 use native.Mathlib.Omega.{arith}
-use borrow.Author.Rules.{rules}
 use Rattle.calendar.proofs.month_of.Goals as goal
 
 pub returns-then-d-gt-LAST_DAY : goal.returns-then-d-gt-LAST_DAY

@@ -1,7 +1,6 @@
 -- `calendar::date::is_date` meets its contract: a part out of its range makes no date, and else the month's length decides.
 -- Assumes nothing.
 use Rattle.calendar.proofs.DateParts.{not-date, date-by-length}
-use borrow.Author.Tests.{ltb-true}
 use mathlib.Core.Logic.{⊎_elim}
 use native.Mathlib.Omega.{arith}
 use borrow.Author.Rules.{rules}

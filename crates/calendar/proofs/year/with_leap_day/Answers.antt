@@ -2,7 +2,6 @@
 -- Assumes nothing.
 use Rattle.calendar.proofs.YearDays.{with_leap_day-early, with_leap_day-late}
 use mathlib.Core.Path.{sym}
-use borrow.Author.Rules.{rules}
 use Rattle.calendar.proofs.year.with_leap_day.Goals as goal
 
 pub returns-then-n-lt59 : goal.returns-then-n-lt59

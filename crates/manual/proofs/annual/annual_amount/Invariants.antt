@@ -1,12 +1,10 @@
 -- `manual::annual::annual_amount` meets its contract. The loop's invariant: the amount, raised by each total that is left, is the annual amount.
 -- The measure is the number of totals left. Assumes nothing.
-use borrow.Author.Rules.{rules}
 use Prim.Native.Nat.{◌≤◌, ◌-◌}
 use mathlib.Core.Path.{◌≡◌}
 use lib.ListN.{length, drop}
-use native.Mathlib.Omega.{arith}
 use Rattle.manual.specs.Annual.{annual_amount}
-use Rattle.manual.proofs.Totals.{raised_by, raised_by-begins, raised_by-turn, raised_by-ends}
+use Rattle.manual.proofs.Totals.{raised_by}
 use Rattle.manual.proofs.annual.annual_amount.Given as goal
 
 abbrev pub invariant-loop-i : goal.invariant-loop-i

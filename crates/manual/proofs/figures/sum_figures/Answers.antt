@@ -2,13 +2,11 @@
 -- invariant, `SoFar`: each figure passed is within its bound, so the sum does not overflow, and with those left it makes the whole.
 -- The measure is the number of figures left. Assumes nothing.
 use borrow.Author.Rules.{rules}
-use Prim.Native.Nat.{◌-◌, ◌≤◌}
 use mathlib.Core.Path.{refl}
 use native.Mathlib.Omega.{arith}
 use borrow.Author.Tests.{not-true, not-false}
-use lib.ListN.{length}
 use lib.IntN.{+ℤ_idl}
-use Rattle.manual.proofs.Sums.{SoFar, wrong-number, at-least-five, at-most-sixteen, out_of_range_lem, sum_fits, sum-again, sum-ends}
+use Rattle.manual.proofs.Sums.{wrong-number, at-least-five, at-most-sixteen, out_of_range_lem, sum_fits, sum-again, sum-ends}
 use Rattle.manual.proofs.figures.sum_figures.Goals as goal
 
 pub returns-then-wrong_count : goal.returns-then-wrong_count

@@ -1,5 +1,4 @@
 -- `manual::minimum::minimum` meets its contract: the constant is the definition's table, which is read as 0 past its end. Assumes nothing.
-use borrow.Author.Rules.{rules}
 use mathlib.Core.Path.{refl, sym}
 use lib.ListN.{get_or-eq_default}
 use Rattle.manual.specs.Minimum.{minimums, minimum_of}

@@ -1,14 +1,8 @@
 -- `manual::monthly::exceeds_each` meets its contract. The loop's invariant: the amounts left decide as the whole list does, since each passed is
 -- exceeded. The measure is the number of amounts left. Assumes nothing.
 use borrow.Author.Rules.{rules}
-use Prim.Native.Nat.{◌≤◌, ◌-◌}
-use mathlib.Core.Path.{◌≡◌}
-use lib.ListN.{length, drop}
 use native.Mathlib.Omega.{arith}
 use borrow.Author.Tests.{not-true, not-false}
-use Rattle.manual.specs.Check.{exceeds_each}
-use mir.Syntax.{w64}
-use mir.Val.{to_z}
 use Rattle.manual.proofs.Each.{each_turn, each-refused, each-ends}
 use Rattle.manual.proofs.monthly.exceeds_each.Goals as goal
 

@@ -1,0 +1,13 @@
+-- `book::begin::clear` meets its contract: the first i words are zeros.
+-- Assumes nothing.
+use borrow.Author.Rules.{rules}
+use Prim.Native.Nat.{◌-◌}
+use lib.ListN.{length}
+use Rattle.book.proofs.Functions.OnWords.{Cleared, clear_first, clear_next, clear-less, clear-all}
+use Rattle.book.proofs.begin.clear.Given as goal
+
+abbrev pub invariant-loop-i : goal.invariant-loop-i
+invariant-loop-i l = Cleared l.i l.initial.words l.words
+
+abbrev pub decreases-loop-i : goal.decreases-loop-i
+decreases-loop-i l = length l.initial.words - l.i

@@ -1,0 +1,15 @@
+-- `book::days::files_of` meets its contract: the first p places of the array hold the book's files.
+-- Assumes nothing.
+use borrow.Author.Rules.{rules}
+use Prim.Native.Nat.{◌-◌}
+use native.Mathlib.Omega.{arith}
+use Rattle.laws.specs.Places.{Filling, filling-all}
+use Rattle.layout.specs.Words.{book_of_words}
+use Rattle.book.proofs.Functions.FilesInWords.{read_first, read_next}
+use Rattle.book.proofs.days.files_of.Given as goal
+
+abbrev pub invariant-loop-p : goal.invariant-loop-p
+invariant-loop-p l = Filling 64 l.p (book_of_words l.words).files l.initial.files l.files
+
+abbrev pub decreases-loop-p : goal.decreases-loop-p
+decreases-loop-p l = 64 - l.p

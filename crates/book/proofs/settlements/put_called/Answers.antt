@@ -1,0 +1,22 @@
+-- `book::settlements::put_called` meets its contract: the total, the call and the count are what a settlement that called leaves, whatever it asked.
+-- Assumes nothing.
+use borrow.Author.Rules.{rules}
+use mir.Facts.{to_z_pos}
+use mir.Syntax.{w64}
+use Rattle.book.proofs.Functions.OnWords.{call-room}
+use Rattle.book.proofs.Functions.SettlementsPut.{few-open, called-long, given-open}
+use Rattle.book.proofs.settlements.put_called.Goals as goal
+
+pub overflow_add-made : goal.overflow_add-made
+overflow_add-made c = record { fits = search (call-room, rules) }
+
+pub put_open_call-requires : goal.put_open_call-requires
+put_open_call-requires c = (search rules, search (few-open, rules))
+
+pub shape_of-words : goal.shape_of-words
+shape_of-words c = called-long _ _ _ _ _ _ _ _ _ _ c.put_month.ensures c.put_open_call.ensures
+
+pub returns : goal.returns
+returns c = λ asked figures b.
+    given-open _ _ c.requires.0 c.requires.1 _ figures _ _ _ asked _ _ (to_z_pos w64 (search rules)) c.put_month.ensures
+    c.put_open_call.ensures b

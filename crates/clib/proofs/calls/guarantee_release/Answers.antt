@@ -1,0 +1,14 @@
+-- `clib::calls::guarantee_release` meets its contract: other words are refused with 100, and a book's are answered by `book::release`.
+-- Assumes nothing.
+use borrow.Author.Rules.{rules}
+use Rattle.clib.proofs.Returns.{other_length, book-length, formed}
+use Rattle.clib.proofs.calls.guarantee_release.Goals as goal
+
+pub returns-then-words-ne6147 : goal.returns-then-words-ne6147
+returns-then-words-ne6147 c = search (other_length, rules)
+
+pub release-requires : goal.release-requires
+release-requires c = search (formed, rules)
+
+pub returns : goal.returns
+returns c = search (book-length, rules)
