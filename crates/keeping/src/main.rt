@@ -1,23 +1,42 @@
 // A test of the kept way: the ledger keeps the journal that its argument names, and then the file is printed behind a line `--`, so that the
 // gate compares the answers and what was kept.
 #![tactic(auto)]
+use std::fs::File;
+use std::os::fd::AsRawFd;
+use std::str;
+use storage::Stream;
 
-// Prints the first 65,536 bytes of a file.
-fn print_file(name: &[u8]) {
-    let file = os::open_read(name);
-    if file < 0 {
-        return;
-    }
-    let mut buffer = io::large_buffer();
-    let n = io::read_full(file, &mut buffer);
-    libc::close(file);
-    io::write_all(libc::STDOUT_FILENO, &buffer[..n]);
+// Prints bytes.
+fn print(rt: &HostRuntime, bytes: &[u8]) {
+    let _ = storage::write_whole(rt, Stream::Output, bytes);
 }
 
-fn main() {
-    serving::run();
-    io::write_all(libc::STDOUT_FILENO, b"--\n");
+// Prints the first 65,536 bytes of a file.
+fn print_opened(rt: &HostRuntime, file: &File) {
+    let mut buffer = io::large_buffer();
+    let n = io::read_full(file.as_raw_fd(), &mut buffer);
+    print(rt, &buffer[..n]);
+}
+
+// Prints the first 65,536 bytes of the file at a path.
+fn print_file(rt: &HostRuntime, path: &str) {
+    if let Ok(file) = File::open(rt, path) {
+        print_opened(rt, &file);
+    }
+}
+
+// Prints the first 65,536 bytes of the file with a name.
+fn print_named(rt: &HostRuntime, name: &[u8]) {
+    if let Ok(path) = str::from_utf8(name) {
+        print_file(rt, path);
+    }
+}
+
+fn main(rt: HostRuntime) {
+    serving::run(&rt);
+    print(&rt, b"--\n");
     let mut name = io::buffer();
-    let n = os::arg(1, &mut name);
-    print_file(&name[..n]);
+    if let Ok(n) = storage::argument(&rt, 1, &mut name) {
+        print_named(&rt, &name[..n]);
+    }
 }

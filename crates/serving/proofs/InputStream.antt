@@ -1,8 +1,9 @@
 -- An input, read in parts: the turns of the loop that reads it.
 -- Assumes nothing.
-use Rattle.std.proofs.Common.{◌≡◌, ℕ, ◌+◌, ◌<◌, ◌≤◌, Bool, true, false, not, ◌&&◌, leb, List, [], ◌∷◌, ◌++◌, length, take, drop, ℤ, pos, sym, refl, ap, ◌∙◌, subst, arith, length-append, length-take, take-add, w64, to_z, of_z, leb-true}
+use Rattle.std.proofs.Common.{◌≡◌, ℕ, ◌+◌, ◌<◌, ◌≤◌, Bool, true, false, not, ◌&&◌, leb, List, [], ◌∷◌, ◌++◌, length, take, drop, sym, refl, ap, ◌∙◌, subst, arith, length-append, length-take, take-add, leb-true}
+use Rattle.std.specs.Prelude.{Result, Ok}
+use Rattle.std.specs.Result.{result_unwrap_or}
 use borrow.Author.Tests.{lt-leb, not-true}
-use lib.Signed.{le_z}
 use Rattle.laws.specs.Cases.{split, clash, and_left, and_right, cond-true, cond-false}
 use Rattle.dialogue.specs.declared.Way.{Way}
 use Rattle.dialogue.specs.Split.{lines_in, rest_in}
@@ -113,19 +114,18 @@ module _ (way : Way) (room : ℕ) (s : State) (most : ℕ) (t u : State) (ok : B
       split (leb most (length (rest_in g))) (λ c. either (lines_in b) (goes-on-long c) (ends_it c)) short
 
 -- A read that gave bytes was one that was to be made.
-more-on : (t on : Bool) (got : ℤ) → on ≡ t → (on ≡ false → got ≡ pos 0) → le_z (to_z w64 (of_z w64 got)) (pos 0) ≡ false → t ≡ true
-more-on t on got h none more =
-    split on (λ e. sym h ∙ e)
-    (λ e. clash {t = le_z (to_z w64 (of_z w64 (pos 0))) (pos 0)} refl (subst (λ (z : ℤ). le_z (to_z w64 (of_z w64 z)) (pos 0) ≡ false) (none e) more))
+more-on : {E : Type 0} (t on : Bool) (got : Result ℕ E) (n : ℕ) → on ≡ t → (on ≡ false → got ≡ Ok 0) → n ≡ result_unwrap_or got 0 → (n ≡ 0 → ⊥) → t ≡ true
+more-on {E = E} t on got n h none is more =
+    split on (λ e. sym h ∙ e) (λ e. absurd (more (is ∙ ap (λ (z : Result ℕ E). result_unwrap_or z 0) (none e))))
 
 -- One turn: n bytes are read behind those that stay, and the part is taken.
-pub turn : (way : Way) (room room₁ : ℕ) (s : State) (most : ℕ) (t u : State) (was ok on : Bool) (got : ℤ) (before used n : ℕ) (d e f : List ℕ)
-    → s.place.long ≡ false → InputTaken way room s most t was before d → on ≡ (was && not (ended way t.place)) → MoreRead on before d got e
-    → le_z (to_z w64 (of_z w64 got)) (pos 0) ≡ false → PartTaken way room₁ t e (before + n) u ok used f → room₁ ≡ room → length e ≡ most
-    → InputTaken way room s most u ok used f
-turn way room room₁ s most t u was ok on got before used n d e f begins y h m more x same k =
+pub turn : {E : Type 0} (way : Way) (room room₁ : ℕ) (s : State) (most : ℕ) (t u : State) (was ok on : Bool) (got : Result ℕ E) (before used n : ℕ)
+    (d e f : List ℕ) → s.place.long ≡ false → InputTaken way room s most t was before d → on ≡ (was && not (ended way t.place))
+    → MoreRead on before d got e → n ≡ result_unwrap_or got 0 → (n ≡ 0 → ⊥) → PartTaken way room₁ t e (before + n) u ok used f → room₁ ≡ room
+    → length e ≡ most → InputTaken way room s most u ok used f
+turn way room room₁ s most t u was ok on got before used n d e f begins y h m is more x same k =
     let going = not (ended way t.place) in
-    let both : (was && going) ≡ true = more-on (was && going) on got h m.none more in
+    let both : (was && going) ≡ true = more-on (was && going) on got n h m.none is more in
     one_more way room s most t u ok before used n (before + n) d e f begins
     (subst (λ (z : Bool). InputTaken way room s most t z before d) (and_left was going both) y)
     (not-true (ended way t.place) (and_right was going both)) m.front k refl

@@ -1,17 +1,19 @@
 -- A buffer between two reads.
 -- Assumes nothing.
-use Rattle.std.specs.Prelude.{◌≡◌, ℕ, ◌+◌, ◌-◌, ◌%◌, ◌^◌, Bool, true, false, cond, ◌||◌, List, [], length, take, drop, ℤ, pos, ◌==◌, nat_le, nat_lt}
+use Rattle.std.specs.Prelude.{◌≡◌, ℕ, ◌+◌, ◌-◌, ◌%◌, ◌^◌, ◌≤◌, Bool, true, false, cond, ◌||◌, List, [], length, take, drop, ◌==◌, nat_le, nat_lt, Result, Ok}
+use Rattle.std.specs.Result.{result_unwrap_or}
 use Rattle.dialogue.specs.declared.Way.{Way}
 use Rattle.dialogue.specs.Split.{lines_in, rest_in}
 use Rattle.dialogue.specs.Turns.{State, ended, after_all}
 use Rattle.dialogue.specs.Whole.{known_place, stream_after}
 use Rattle.serving.specs.declared.delivery.Progress.{Progress}
 
--- One read behind the first `filled` bytes of a buffer, which was e and is f: those bytes stay as they were, and where no more is to be taken, it
--- answers 0, as at the end of the input.
-pub record MoreRead (goes_on : Bool) (filled : ℕ) (e : List ℕ) (got : ℤ) (f : List ℕ) : Type 0 where
+-- One read behind the first `filled` bytes of a buffer, which was e and is f: those bytes stay as they were, no more are read than there is room
+-- for, and where no more is to be taken, it answers 0, as at the end of the input.
+pub record MoreRead {E : Type 0} (goes_on : Bool) (filled : ℕ) (e : List ℕ) (got : Result ℕ E) (f : List ℕ) : Type 0 where
   pub front : take filled f ≡ take filled e
-  pub none : goes_on ≡ false → got ≡ pos 0
+  pub within : result_unwrap_or got 0 ≤ length e - filled
+  pub none : goes_on ≡ false → got ≡ Ok 0
 
 -- The bytes from one place up to another were moved to the front of a buffer, which was e and is f; they are r.
 pub record MovedDown (e : List ℕ) (from to r : ℕ) (f : List ℕ) : Type 0 where

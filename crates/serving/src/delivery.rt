@@ -3,7 +3,7 @@ ghost use Rattle.std.specs.Prelude.{◌≡◌, ◌-◌, true, nat_lt};
 ghost use Rattle.serving.specs.Delivery.{nowhere, stopped_if, Delivered, Became};
 
 use dialogue::Place;
-use storage::{Journal, about_line, append, failed, write_whole};
+use storage::{Handles, Journal, Stream, about_line, append, failed, write_whole};
 
 // How far an input is taken: the place, the bytes of complete lines, and the journal's file, with whether all is well.
 #[derive(Clone, Copy)]
@@ -29,37 +29,46 @@ pub fn no_journal() -> Journal
 }
 
 // Writes answers on standard output; a journal in which their calls are kept must be well.
-fn put_answers(mut journal: Journal, answers: &[u8]) -> Journal
+fn put_answers(rt: &HostRuntime, mut journal: Journal, answers: &[u8]) -> Journal
     requires { journal.ok ≡ true }
     ensures { result.ok ≡ true → result ≡ journal }
 {
-    if write_whole(libc::STDOUT_FILENO, answers) {
-        return journal;
+    match write_whole(rt, Stream::Output, answers) {
+        Ok(()) => journal,
+        Err(error) => {
+            failed(rt, b"standard output", error);
+            journal.ok = false;
+            journal
+        }
     }
-    failed(b"standard output");
-    journal.ok = false;
-    journal
 }
 
 // The journal with the bytes for it, if there are any, on disk.
-fn keep(name: &[u8], journal: Journal, kept: &[u8]) -> Journal
+fn keep(rt: &HostRuntime, handles: &Handles, name: &[u8], journal: Journal, kept: &[u8]) -> Journal
     ensures { Delivered journal kept.now result }
 {
     if kept.len() == 0 {
         return journal;
     }
-    append(name, journal, kept)
+    append(rt, handles, name, journal, kept)
 }
 
 // The bytes for the journal are on disk before the answers are written; if they can't be had there, nothing is answered.
-fn keep_and_answer(name: &[u8], journal: Journal, kept: &[u8], answers: &[u8]) -> Journal
+fn keep_and_answer(
+    rt: &HostRuntime,
+    handles: &Handles,
+    name: &[u8],
+    journal: Journal,
+    kept: &[u8],
+    answers: &[u8],
+) -> Journal
     ensures { Delivered journal kept.now result }
 {
-    let forced = keep(name, journal, kept);
+    let forced = keep(rt, handles, name, journal, kept);
     if !forced.ok {
         return forced;
     }
-    put_answers(forced, answers)
+    put_answers(rt, forced, answers)
 }
 
 // One less, or none.
@@ -71,20 +80,28 @@ fn one_less(n: usize) -> usize
 
 // A line of the journal that was replayed: a refusal or an error stops the replay, and is said without its newline. The
 // answers are those of one line.
-fn replayed(name: &[u8], mut journal: Journal, place: Place, answers: &[u8]) -> Journal
+fn replayed(
+    rt: &HostRuntime,
+    name: &[u8],
+    mut journal: Journal,
+    place: Place,
+    answers: &[u8],
+) -> Journal
     ensures { result ≡ stopped_if (nat_lt 0 place.refused) journal }
 {
     if place.refused == 0 {
         return journal;
     }
     let n = one_less(answers.len());
-    about_line(name, place.line, &answers[..n]);
+    about_line(rt, name, place.line, &answers[..n]);
     journal.ok = false;
     journal
 }
 
 // What becomes of the bytes of lines: where a journal is replayed nothing is kept or answered again.
 pub fn deliver(
+    rt: &HostRuntime,
+    handles: &Handles,
     name: &[u8],
     journal: Journal,
     silent: bool,
@@ -95,7 +112,7 @@ pub fn deliver(
     ensures { Became silent place journal kept.now result }
 {
     if silent {
-        return replayed(name, journal, place, answers);
+        return replayed(rt, name, journal, place, answers);
     }
-    keep_and_answer(name, journal, kept, answers)
+    keep_and_answer(rt, handles, name, journal, kept, answers)
 }

@@ -1,5 +1,6 @@
 // An input, read in parts to its end, and a file entered behind it.
 ghost use Rattle.std.specs.Prelude.{◌≡◌, ◌+◌, ◌*◌, ◌<◌, ◌≤◌, true, false, not, ◌&&◌, length};
+ghost use Rattle.std.specs.Result.{result_unwrap_or};
 ghost use Rattle.layout.specs.WellFormed.{WellFormed};
 ghost use Rattle.dialogue.specs.Turns.{ended};
 ghost use Rattle.dialogue.specs.Answers.{most_kept, state_of};
@@ -12,8 +13,9 @@ use crate::parts::{Taken, drain};
 use crate::usage::put_end;
 use crate::{buffers, ways};
 use dialogue::Way;
+use std::io::Result;
 use std::num::wrapping_add_u64;
-use storage::{failed, read_part};
+use storage::{Handles, Input, failed, read_part};
 
 // Whether more of an input is to be taken: all is well, and its lines have not ended before its end.
 fn goes_on(progress: Progress, way: Way) -> bool
@@ -25,14 +27,31 @@ fn goes_on(progress: Progress, way: Way) -> bool
 }
 
 // One read into a buffer behind what is filled; at the end of the lines nothing is read, as at the end of the input.
-fn read_more(goes_on: bool, file: i32, buffer: &mut [u8], filled: usize) -> isize
+fn read_more(
+    rt: &HostRuntime,
+    handles: &Handles,
+    goes_on: bool,
+    input: Input,
+    buffer: &mut [u8],
+    filled: usize,
+) -> Result<usize>
     requires { filled ≤ length buffer.old }
     ensures { MoreRead goes_on filled buffer.old result buffer.new }
 {
     if !goes_on {
-        return 0;
+        return Ok(0);
     }
-    read_part(file, &mut buffer[filled..])
+    read_part(rt, handles, input, &mut buffer[filled..])
+}
+
+// How many bytes a read answered: none where it failed.
+fn moved(got: Result<usize>) -> usize
+    ensures { result ≡ result_unwrap_or got 0 }
+{
+    match got {
+        Ok(n) => n,
+        Err(_) => 0,
+    }
 }
 
 // Moves the bytes from a place up to another to the front of the buffer, and answers how many they are.
@@ -63,19 +82,27 @@ fn failed_progress(progress: Progress) -> Progress
     }
 }
 
-// Where an input ends: a read that answered below 0 failed, which is said.
-fn at_end(mut progress: Progress, got: isize, silent: bool, name: &[u8]) -> Progress
+// Where an input ends, or a read failed, which is said.
+fn at_end(
+    rt: &HostRuntime,
+    progress: Progress,
+    got: Result<usize>,
+    silent: bool,
+    name: &[u8],
+) -> Progress
     ensures { result.journal.ok ≡ true → result ≡ progress }
 {
-    if got < 0 {
-        if silent {
-            failed(name);
-        } else {
-            failed(b"standard input");
+    match got {
+        Ok(_) => progress,
+        Err(error) => {
+            if silent {
+                failed(rt, name, error);
+            } else {
+                failed(rt, b"standard input", error);
+            }
+            failed_progress(progress)
         }
-        return failed_progress(progress);
     }
-    progress
 }
 
 // Whether the line that has begun is too long: it was before, or it fills the buffer.
@@ -114,6 +141,8 @@ fn behind_part(progress: Progress, used: usize, begun: usize, room: usize) -> Pr
 // Takes the complete lines of a part, which fills the buffer so far, and moves what is left of it to the front: so many bytes of the line that has
 // begun stay there.
 fn take_part(
+    rt: &HostRuntime,
+    handles: &Handles,
     book: &mut [u64],
     progress: Progress,
     way: Way,
@@ -132,6 +161,8 @@ fn take_part(
         (state_of book.new result.progress.place) result.progress.journal.ok result.used buffer.new }
 {
     let taken = drain(
+        rt,
+        handles,
         book,
         progress,
         way,
@@ -155,11 +186,13 @@ fn take_part(
 // replayed, and only there. What is left of a last line
 // without newline stands at the front of the buffer: `used` bytes.
 pub fn take_parts(
+    rt: &HostRuntime,
+    handles: &Handles,
     book: &mut [u64],
     mut progress: Progress,
     way: Way,
     silent: bool,
-    file: i32,
+    input: Input,
     name: &[u8],
     buffer: &mut [u8],
     numbers: &mut [i64],
@@ -177,17 +210,18 @@ pub fn take_parts(
     let mut reads: u64 = 0;
     while reads < 18446744073709551615 {
         reads += 1;
-        let got = read_more(goes_on(progress, way), file, buffer, filled);
-        if got <= 0 {
-            progress = at_end(progress, got, silent, name);
+        let got = read_more(rt, handles, goes_on(progress, way), input, buffer, filled);
+        let more = moved(got);
+        if more == 0 {
+            progress = at_end(rt, progress, got, silent, name);
             return Taken {
                 progress,
                 used: filled,
             };
         }
-        let full = filled + io::count(got, &buffer[filled..]);
+        let full = filled + more;
         let taken = take_part(
-            book, progress, way, silent, name, buffer, full, numbers, kept, out,
+            rt, handles, book, progress, way, silent, name, buffer, full, numbers, kept, out,
         );
         progress = taken.progress;
         filled = taken.used;
@@ -200,6 +234,8 @@ pub fn take_parts(
 
 // Takes a last line of standard input that has no newline.
 fn take_last(
+    rt: &HostRuntime,
+    handles: &Handles,
     book: &mut [u64],
     taken: Taken,
     way: Way,
@@ -222,6 +258,8 @@ fn take_last(
     buffer[end] = b'\n';
     let whole = end + 1;
     let last = drain(
+        rt,
+        handles,
         book,
         progress,
         ways::last(way),
@@ -237,6 +275,8 @@ fn take_last(
 
 // Takes standard input to its end, where that is asked for.
 fn take_input(
+    rt: &HostRuntime,
+    handles: &Handles,
     asked: bool,
     book: &mut [u64],
     progress: Progress,
@@ -255,11 +295,13 @@ fn take_input(
         return progress;
     }
     let taken = take_parts(
+        rt,
+        handles,
         book,
         progress,
         way,
         false,
-        libc::STDIN_FILENO,
+        Input::Standard,
         name,
         buffer,
         numbers,
@@ -269,11 +311,15 @@ fn take_input(
     if !goes_on(taken.progress, way) {
         return taken.progress;
     }
-    take_last(book, taken, way, name, buffer, numbers, kept, out)
+    take_last(
+        rt, handles, book, taken, way, name, buffer, numbers, kept, out,
+    )
 }
 
 // Enters a file's bytes as one batch behind what was taken, where that is asked for and the lines have not ended.
 fn take_file(
+    rt: &HostRuntime,
+    handles: &Handles,
     asked: bool,
     book: &mut [u64],
     progress: Progress,
@@ -294,7 +340,9 @@ fn take_file(
     if !(asked & goes_on(progress, way)) {
         return progress;
     }
-    enter(book, progress, way, name, bytes, buffer, numbers, kept, out)
+    enter(
+        rt, handles, book, progress, way, name, bytes, buffer, numbers, kept, out,
+    )
 }
 
 // What is answered: standard input to its end, and behind it a file as one batch, each where it is asked for; and whether the end is said.
@@ -308,6 +356,8 @@ pub struct Sources {
 // Answers standard input and a file's bytes, and says at last that all was answered where that is asked for and it was. What is typed is never taken
 // as a journal that is replayed is, so always under the new admission rule.
 pub fn answer_all(
+    rt: &HostRuntime,
+    handles: &Handles,
     book: &mut [u64],
     progress: Progress,
     way: Way,
@@ -323,6 +373,8 @@ pub fn answer_all(
     let mut kept = buffers::journal();
     let mut out = io::large_buffer();
     let last = take_input(
+        rt,
+        handles,
         from.input,
         book,
         progress,
@@ -334,6 +386,8 @@ pub fn answer_all(
         &mut out,
     );
     let end = take_file(
+        rt,
+        handles,
         from.load,
         book,
         last,
@@ -346,6 +400,6 @@ pub fn answer_all(
         &mut out,
     );
     if from.says_end & goes_on(end, way) {
-        put_end(end.place);
+        put_end(rt, end.place);
     }
 }

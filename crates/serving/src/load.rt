@@ -13,6 +13,7 @@ use crate::parts::drain;
 use answering::put_kept;
 use dialogue::Way;
 use journal::Request;
+use storage::Handles;
 
 // A byte as a number.
 fn number(byte: u8) -> i64
@@ -45,6 +46,8 @@ fn put_line(out: &mut [u8], bytes: &[u8], numbers: &mut [i64]) -> usize
 
 // Enters a file's bytes as one batch: their line is taken like a line of standard input.
 pub fn enter(
+    rt: &HostRuntime,
+    handles: &Handles,
     book: &mut [u64],
     progress: Progress,
     way: Way,
@@ -66,6 +69,8 @@ pub fn enter(
 {
     let end = put_line(buffer, bytes, numbers);
     let taken = drain(
+        rt,
+        handles,
         book,
         progress,
         way,

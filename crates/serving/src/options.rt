@@ -2,6 +2,7 @@
 ghost use Rattle.std.specs.Prelude.{◌≡◌, if◌then◌else◌};
 ghost use Rattle.serving.specs.Options.{no_options, is_dashed, with_option, with_load, with_argument, is_wrong};
 
+use storage::{argument, argument_count};
 use words::place_of;
 
 // What the arguments ask for: the options, whether the usage or the version is asked for, whether there is one that is none of these, the place of
@@ -116,13 +117,16 @@ pub fn is_wrong(options: Options) -> bool
 }
 
 // What the program's arguments ask for.
-pub fn asked_for() -> Options {
+pub fn asked_for(rt: &HostRuntime) -> Options {
     let mut options = none();
     let mut buffer = io::buffer();
-    let count = os::arg_count();
+    let count = argument_count(rt);
     let mut i = 1;
     while i < count {
-        let n = os::arg(i, &mut buffer);
+        let n = match argument(rt, i, &mut buffer) {
+            Ok(n) => n,
+            Err(_) => 0,
+        };
         options = with_argument(options, i, &buffer[..n]);
         i += 1;
     }

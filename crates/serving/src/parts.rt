@@ -9,7 +9,7 @@ ghost use Rattle.serving.specs.Parts.{Step, Drained};
 
 use crate::delivery::{Progress, deliver};
 use dialogue::{Place, Way, answer_lines};
-use storage::Journal;
+use storage::{Handles, Journal};
 
 // How far an input is taken, and how many bytes of a part are.
 #[derive(Clone, Copy)]
@@ -28,6 +28,8 @@ struct Some {
 
 // Takes complete lines of a part, as many as there is room for, and delivers their bytes.
 fn take_some(
+    rt: &HostRuntime,
+    handles: &Handles,
     book: &mut [u64],
     place: Place,
     journal: Journal,
@@ -54,13 +56,24 @@ fn take_some(
     let used = step.used;
     Some {
         place: left,
-        journal: deliver(name, journal, silent, left, &kept[..written], &out[..end]),
+        journal: deliver(
+            rt,
+            handles,
+            name,
+            journal,
+            silent,
+            left,
+            &kept[..written],
+            &out[..end],
+        ),
         used,
     }
 }
 
 // Takes all complete lines of a part, and delivers their bytes as often as there is no room for more.
 pub fn drain(
+    rt: &HostRuntime,
+    handles: &Handles,
     book: &mut [u64],
     progress: Progress,
     way: Way,
@@ -84,6 +97,8 @@ pub fn drain(
     let mut start = 0;
     loop {
         let some = take_some(
+            rt,
+            handles,
             book,
             place,
             journal,

@@ -8,7 +8,7 @@ use crate::input::take_parts;
 use crate::{buffers, ways};
 use dialogue::Place;
 use std::num::wrapping_add_u64;
-use storage::{about, about_line, show_dropped};
+use storage::{Handles, Input, about, about_line, show_dropped};
 
 // More bytes than any version of the ledger kept in a line, with its newline: what stands behind the last newline and is as long is no rest of one.
 const MOST: usize = 20480;
@@ -32,7 +32,7 @@ fn is_rest(place: Place, rest: &[u8]) -> bool
 }
 
 // What stands behind the last newline is said: it is dropped, or passed over where the journal is only read. Answers whether it may be.
-fn is_passed(name: &[u8], place: Place, rest: &[u8], drops: bool) -> bool
+fn is_passed(rt: &HostRuntime, name: &[u8], place: Place, rest: &[u8], drops: bool) -> bool
     ensures { result ≡ passes place (length rest.now) }
 {
     if !(place.long | (0 < rest.len())) {
@@ -41,6 +41,7 @@ fn is_passed(name: &[u8], place: Place, rest: &[u8], drops: bool) -> bool
     if !is_rest(place, rest) {
         let line = wrapping_add_u64(place.line, 1);
         about_line(
+            rt,
             name,
             line,
             b"has no end and is no part of a kept line; nothing is changed",
@@ -48,15 +49,21 @@ fn is_passed(name: &[u8], place: Place, rest: &[u8], drops: bool) -> bool
         return false;
     }
     if drops {
-        show_dropped(name, rest);
+        show_dropped(rt, name, rest);
     } else {
-        about(name, b"the last line has no end and is passed over");
+        about(rt, name, b"the last line has no end and is passed over");
     }
     true
 }
 
-// Replays a journal's file to its end, and says why it can't be gone on with.
-pub fn replay(book: &mut [u64], file: i32, name: &[u8], drops: bool) -> Replayed
+// Replays the journal that is open to its end, and says why it can't be gone on with.
+pub fn replay(
+    rt: &HostRuntime,
+    handles: &Handles,
+    book: &mut [u64],
+    name: &[u8],
+    drops: bool,
+) -> Replayed
     requires { WellFormed book.old }
     ensures { WellFormed book.new }
 {
@@ -70,11 +77,13 @@ pub fn replay(book: &mut [u64], file: i32, name: &[u8], drops: bool) -> Replayed
         journal: no_journal(),
     };
     let taken = take_parts(
+        rt,
+        handles,
         book,
         progress,
         ways::replaying(),
         true,
-        file,
+        Input::Journal,
         name,
         &mut buffer,
         &mut numbers,
@@ -86,7 +95,7 @@ pub fn replay(book: &mut [u64], file: i32, name: &[u8], drops: bool) -> Replayed
     let journal = ended.journal;
     let n = taken.used;
     Replayed {
-        ok: journal.ok && is_passed(name, place, &buffer[..n], drops),
+        ok: journal.ok && is_passed(rt, name, place, &buffer[..n], drops),
         kept: place.kept,
         early: place.early,
         bytes: ended.bytes,

@@ -6,11 +6,12 @@ ghost use Rattle.serving.specs.End.{end_line};
 use crate::buffers;
 use dialogue::Place;
 use printing::{put_number, put_text};
-use storage::{failed, write_whole};
+use storage::{Stream, failed, write_whole};
 
 // How the program is called.
-pub fn put_usage(stream: i32) {
-    write_whole(
+pub fn put_usage(rt: &HostRuntime, stream: Stream) {
+    let _ = write_whole(
+        rt,
         stream,
         b"usage: ledger [--bail] [--end] [--batch] [--load FILE] [JOURNAL]
        ledger [--bail] [--end] --read JOURNAL
@@ -28,8 +29,8 @@ Answers calls from standard input, one a line. With JOURNAL the book is kept in 
 }
 
 // The version: its second number grows with what is kept or answered otherwise than before.
-pub fn put_version() {
-    write_whole(libc::STDOUT_FILENO, b"ledger 1.4\n");
+pub fn put_version(rt: &HostRuntime) {
+    let _ = write_whole(rt, Stream::Output, b"ledger 1.4\n");
 }
 
 // How many lines were neither refused nor an error.
@@ -54,16 +55,16 @@ fn put_end_line(out: &mut [u8], place: Place) -> usize
 }
 
 // Writes the first bytes of a slice on standard output.
-fn write_front(out: &[u8], end: usize) {
+fn write_front(rt: &HostRuntime, out: &[u8], end: usize) {
     let n = buffers::smaller(end, out.len());
-    if !write_whole(libc::STDOUT_FILENO, &out[..n]) {
-        failed(b"standard output");
+    if let Err(error) = write_whole(rt, Stream::Output, &out[..n]) {
+        failed(rt, b"standard output", error);
     }
 }
 
 // Says that all lines of an input were answered.
-pub fn put_end(place: Place) {
+pub fn put_end(rt: &HostRuntime, place: Place) {
     let mut buffer = io::buffer();
     let end = put_end_line(&mut buffer, place);
-    write_front(&buffer, end);
+    write_front(rt, &buffer, end);
 }

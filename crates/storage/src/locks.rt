@@ -240,8 +240,13 @@ fn take_named(rt: &HostRuntime, handles: &mut Handles, name: &[u8], lock: &[u8])
     }
 }
 
-// Takes the lock of the journal with a name; if it can't be had, that is said.
+// Takes the lock of the journal with a name; if it can't be had, that is said. Where this process can't know its number, none is made.
 pub fn take_lock(rt: &HostRuntime, handles: &mut Handles, name: &[u8]) -> Lock {
+    let mut line = [0u8; 32];
+    if let Err(error) = own_number(rt, &mut line) {
+        failed(rt, b"/proc/self", error);
+        return no_lock();
+    }
     let mut buffer = [0u8; 8192];
     let n = join(name, b".lock", &mut buffer);
     take_named(rt, handles, name, &buffer[..n])

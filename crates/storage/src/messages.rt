@@ -97,7 +97,7 @@ pub fn show_dropped(rt: &HostRuntime, name: &[u8], rest: &[u8]) {
     say(rt, b"\n");
 }
 
-// Whether a standard stream is open: only one that is not can't be given another number for that reason.
+// Whether a standard stream is open: of one that is not the system gives no second descriptor, and answers this error.
 fn is_open<F: AsFd>(stream: &F) -> bool {
     match stream.as_fd().try_clone_to_owned() {
         Ok(_) => true,
