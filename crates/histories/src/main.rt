@@ -5,10 +5,9 @@
 ghost use Rattle.std.specs.Prelude.{◌≤◌, length};
 
 use calendar::Day;
-use std::alloc::AllocError;
-use std::fs;
 use std::fs::File;
 use std::io::Read;
+use std::{fs, str};
 
 mod load;
 mod print;
@@ -95,26 +94,31 @@ fn read_full(file: &mut File, buffer: &mut [u8]) -> usize
 }
 
 // Plays the history with a number, and answers whether there was one.
-fn play_file(rt: &HostRuntime, number: usize) -> Result<bool, AllocError> {
-    let name = format!(in rt.alloc(); "h{number:03}")?;
-    let Ok(mut file) = fs::open(rt, name.as_str()) else {
-        return Ok(false);
+fn play_file(rt: &HostRuntime, number: usize) -> bool {
+    let mut name = [b'h', b'0', b'0', b'0'];
+    name[1] = b'0' + (number / 100 % 10) as u8;
+    name[2] = b'0' + (number / 10 % 10) as u8;
+    name[3] = b'0' + (number % 10) as u8;
+    let Ok(path) = str::from_utf8(&name) else {
+        return false;
+    };
+    let Ok(mut file) = fs::open(rt, path) else {
+        return false;
     };
     let mut buffer = io::large_buffer();
     let n = read_full(&mut file, &mut buffer);
     drop(file);
     play(&buffer[..n]);
-    Ok(true)
+    true
 }
 
 // Plays the histories h000, h001, .. in turn, up to the first number that has none.
-fn main(rt: HostRuntime) -> Result<(), AllocError> {
+fn main(rt: HostRuntime) {
     let mut number = 0;
     while number < 1000 {
-        if !play_file(&rt, number)? {
-            return Ok(());
+        if !play_file(&rt, number) {
+            return;
         }
         number += 1;
     }
-    Ok(())
 }

@@ -8,7 +8,7 @@ use borrow.Author.Tests.{eqb-true, eqb-false}
 use lib.Dec.{ltb, eqb}
 use lib.ListN.{get_or, set, replicate}
 use lib.Seq.{get_or-set_other}
-use Rattle.laws.specs.Cases.{split, clash, by-test, cond-false}
+use Rattle.laws.specs.Cases.{split, by-test}
 use Rattle.file.specs.declared.File.{File}
 use Rattle.file.specs.Answer.{Answer, refused, accepted}
 use Rattle.file.specs.Admit.{no_file, admitted_file}
@@ -17,7 +17,6 @@ use Rattle.file.specs.Release.{release_answer, released_file}
 use Rattle.file.specs.Settle.{settle_answer, settled_file}
 use Rattle.file.specs.Annual.{annual_answer, annual_file}
 use Rattle.file.specs.Opening.{opened_file}
-use Rattle.file.specs.DecideLaws.{none-holds}
 use Rattle.batch.specs.Batch.{count_in, participant_at}
 use Rattle.layout.specs.Book.{Book}
 use Rattle.book.specs.Call.{Act, admit, lodge, release, settle, annual_run, Call, on, advance, statement, calls_made, batch, part_act}

@@ -1,19 +1,13 @@
 -- `book::batches::judge` meets its contract. The loop's invariant: the answers of the parts before i are kept, and none of them is refused.
 -- Assumes nothing.
-use borrow.Author.Rules.{rules}
 use Prim.Native.Nat.{◌≤◌, ◌-◌}
-use mathlib.Core.Path.{◌≡◌, refl}
-use mathlib.Core.Bool.{false}
-use borrow.Author.Tests.{not-true, not-false}
+use mathlib.Core.Path.{◌≡◌}
 use lib.ListN.{length}
-use Rattle.laws.specs.Cases.{clash}
 use Rattle.calendar.specs.Civil.{month_of}
 use Rattle.batch.specs.Batch.{month_in}
 use Rattle.file.specs.Settle.{outside_months, check_due}
 use Rattle.layout.specs.Words.{book_of_words, today_in}
 use Rattle.book.specs.Batches.{Judges}
-use Rattle.book.proofs.Functions.OnSettlements.{outside-today, due-today}
-use Rattle.book.proofs.Functions.OnBatches.{few-parts, all-inside, judges-first, judges-next, judges-all, judge-refused, judge-all}
 use Rattle.book.proofs.batches.judge.Given as goal
 
 abbrev pub invariant-loop-i : goal.invariant-loop-i

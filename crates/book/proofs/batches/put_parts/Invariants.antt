@@ -1,14 +1,11 @@
 -- `book::batches::put_parts` meets its contract. The loop's invariant: the book is the one that the first i parts were settled on.
 -- Assumes nothing.
-use borrow.Author.Rules.{rules}
 use Prim.Native.Nat.{◌≤◌, ◌-◌}
 use lib.ListN.{length}
 use mathlib.Core.Path.{◌≡◌}
-use Rattle.laws.specs.Lists.{length-unmap}
 use Rattle.layout.specs.Words.{book_of_words}
 use Rattle.layout.specs.WellFormed.{WellFormed}
 use Rattle.book.specs.Batches.{made_parts}
-use Rattle.book.proofs.Functions.OnBatches.{few-parts, made-first, made_all, same-words, part_low, part-given, kept_there, made-next}
 use Rattle.book.proofs.batches.put_parts.Given as goal
 
 abbrev pub invariant-loop-i : goal.invariant-loop-i

@@ -1,9 +1,7 @@
 -- `book::begin::clear` meets its contract: the first i words are zeros.
 -- Assumes nothing.
 use borrow.Author.Rules.{rules}
-use Prim.Native.Nat.{◌-◌}
-use lib.ListN.{length}
-use Rattle.book.proofs.Functions.OnWords.{Cleared, clear_first, clear_next, clear-less, clear-all}
+use Rattle.book.proofs.Functions.OnWords.{clear_first, clear_next, clear-less, clear-all}
 use Rattle.book.proofs.begin.clear.Goals as goal
 
 pub loop-i-init : goal.loop-i-init

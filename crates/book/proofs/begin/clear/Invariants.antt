@@ -1,9 +1,8 @@
 -- `book::begin::clear` meets its contract: the first i words are zeros.
 -- Assumes nothing.
-use borrow.Author.Rules.{rules}
 use Prim.Native.Nat.{◌-◌}
 use lib.ListN.{length}
-use Rattle.book.proofs.Functions.OnWords.{Cleared, clear_first, clear_next, clear-less, clear-all}
+use Rattle.book.proofs.Functions.OnWords.{Cleared}
 use Rattle.book.proofs.begin.clear.Given as goal
 
 abbrev pub invariant-loop-i : goal.invariant-loop-i

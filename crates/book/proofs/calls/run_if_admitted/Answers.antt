@@ -1,6 +1,5 @@
 -- `book::calls::run_if_admitted` meets its contract: cause 2 is the file's flag, and the rest is what the file's method ensures.
 -- Assumes nothing.
-use borrow.Author.Rules.{rules}
 use Rattle.book.proofs.Functions.OnFile.{unknown-annual, known-annual}
 use Rattle.book.proofs.calls.run_if_admitted.Goals as goal
 

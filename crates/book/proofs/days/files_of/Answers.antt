@@ -1,10 +1,7 @@
 -- `book::days::files_of` meets its contract: the first p places of the array hold the book's files.
 -- Assumes nothing.
 use borrow.Author.Rules.{rules}
-use Prim.Native.Nat.{◌-◌}
-use native.Mathlib.Omega.{arith}
-use Rattle.laws.specs.Places.{Filling, filling-all}
-use Rattle.layout.specs.Words.{book_of_words}
+use Rattle.laws.specs.Places.{filling-all}
 use Rattle.book.proofs.Functions.FilesInWords.{read_first, read_next}
 use Rattle.book.proofs.days.files_of.Goals as goal
 

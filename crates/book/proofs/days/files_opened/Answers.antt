@@ -1,11 +1,10 @@
 -- `book::days::files_opened` meets its contract: within a day the first i files are opened, and after each day the days that are left lead
 -- from the files to what all of them lead to from the given ones.
 -- Assumes nothing.
-use Prim.Native.Nat.{◌-◌}
 use native.Mathlib.Omega.{arith}
 use borrow.Author.Rules.{rules}
 use Rattle.laws.specs.Lists.{length-unmap}
-use Rattle.book.proofs.Functions.DaysOpened.{Pass, Turn, pass-sound, pass-next, turn-first, turn-pass, turn-next, turn_last}
+use Rattle.book.proofs.Functions.DaysOpened.{pass-sound, pass-next, turn-first, turn-pass, turn-next, turn_last}
 use Rattle.book.proofs.days.files_opened.Goals as goal
 
 pub loop-opened-init : goal.loop-opened-init

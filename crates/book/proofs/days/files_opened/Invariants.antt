@@ -2,10 +2,7 @@
 -- from the files to what all of them lead to from the given ones.
 -- Assumes nothing.
 use Prim.Native.Nat.{◌-◌}
-use native.Mathlib.Omega.{arith}
-use borrow.Author.Rules.{rules}
-use Rattle.laws.specs.Lists.{length-unmap}
-use Rattle.book.proofs.Functions.DaysOpened.{Pass, Turn, pass-sound, pass-next, turn-first, turn-pass, turn-next, turn_last}
+use Rattle.book.proofs.Functions.DaysOpened.{Pass, Turn}
 use Rattle.book.proofs.days.files_opened.Given as goal
 
 abbrev pub invariant-loop-i : goal.invariant-loop-i

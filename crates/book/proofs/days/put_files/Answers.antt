@@ -1,10 +1,8 @@
 -- `book::days::put_files` meets its contract: the first p files are put into the words.
 -- Assumes nothing.
 use borrow.Author.Rules.{rules}
-use Prim.Native.Nat.{◌-◌}
-use native.Mathlib.Omega.{arith}
 use Rattle.laws.specs.Lists.{length-unmap}
-use Rattle.book.proofs.Functions.FilesInWords.{Stored, store-first, store-next, store-all}
+use Rattle.book.proofs.Functions.FilesInWords.{store-first, store-next, store-all}
 use Rattle.book.proofs.days.put_files.Goals as goal
 
 pub loop-p-init : goal.loop-p-init

@@ -1,6 +1,5 @@
 -- `book::settlements::put_month` meets its contract: the total is put at its month's place in the ring.
 -- Assumes nothing.
-use borrow.Author.Rules.{rules}
 use Rattle.book.proofs.Functions.SettlementsPut.{month-put}
 use Rattle.book.proofs.settlements.put_month.Goals as goal
 

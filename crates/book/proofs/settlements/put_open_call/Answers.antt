@@ -1,6 +1,5 @@
 -- `book::settlements::put_open_call` meets its contract: the call's words behind the open ones, and their number.
 -- Assumes nothing.
-use borrow.Author.Rules.{rules}
 use Rattle.book.proofs.Functions.SettlementsPut.{call-behind}
 use Rattle.book.proofs.settlements.put_open_call.Goals as goal
 
