@@ -1,6 +1,5 @@
 -- `replay::encoded::advanced_numbers` meets its contract, case by case.
 -- Assumes nothing.
-use borrow.Author.Rules.{rules}
 use Rattle.replay.proofs.encoded.advanced_numbers.Goals as goal
 
 pub returns-in-Opened : goal.returns-in-Opened

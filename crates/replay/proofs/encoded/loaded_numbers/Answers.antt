@@ -1,6 +1,5 @@
 -- `replay::encoded::loaded_numbers` meets its contract, case by case.
 -- Assumes nothing.
-use borrow.Author.Rules.{rules}
 use Rattle.replay.proofs.encoded.loaded_numbers.Goals as goal
 
 pub returns-in-Parts : goal.returns-in-Parts

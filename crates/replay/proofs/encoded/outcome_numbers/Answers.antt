@@ -1,6 +1,5 @@
 -- `replay::encoded::outcome_numbers` meets its contract, case by case.
 -- Assumes nothing.
-use borrow.Author.Rules.{rules}
 use Rattle.replay.proofs.encoded.outcome_numbers.Goals as goal
 
 pub returns-in-Done : goal.returns-in-Done

@@ -1,6 +1,5 @@
 -- `replay::encoded::stated_numbers` meets its contract, case by case; a statement's figures are within by what is required.
 -- Assumes nothing.
-use borrow.Author.Rules.{rules}
 use Rattle.replay.proofs.encoded.stated_numbers.Goals as goal
 
 pub returns-in-Is : goal.returns-in-Is

@@ -1,9 +1,6 @@
 -- `replay::history::put` meets its contract. The loop's invariant: the first k of the six numbers are pasted over the list as it was.
 -- Assumes nothing.
-use Prim.Native.Nat.{◌-◌, ◌≤◌}
-use mathlib.Core.Path.{◌≡◌}
-use lib.ListN.{length}
-use lib.Seq.{paste, paste-zero}
+use lib.Seq.{paste-zero}
 use borrow.Author.Rules.{rules}
 use Rattle.replay.proofs.Replaying.{put_next, put_all}
 use Rattle.replay.proofs.history.put.Goals as goal

@@ -3,9 +3,7 @@
 use Prim.Native.Nat.{◌-◌, ◌≤◌}
 use mathlib.Core.Path.{◌≡◌}
 use lib.ListN.{length}
-use lib.Seq.{paste, paste-zero}
-use borrow.Author.Rules.{rules}
-use Rattle.replay.proofs.Replaying.{put_next, put_all}
+use lib.Seq.{paste}
 use Rattle.replay.proofs.history.put.Given as goal
 
 abbrev pub invariant-loop-k : goal.invariant-loop-k

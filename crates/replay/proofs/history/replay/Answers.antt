@@ -1,9 +1,8 @@
 -- `replay::history::replay` meets its contract. The loop's invariant: what is written and the book are those of the first i calls, on the day
 -- of the fresh book; each turn adds one call, whose answer is the reading's decision.
 -- Assumes nothing.
-use Prim.Native.Nat.{◌-◌}
 use borrow.Author.Rules.{rules}
-use Rattle.replay.proofs.Replaying.{Turn, first_day, begun-long, turn-none, turn-first, turn-formed, turn-long}
+use Rattle.replay.proofs.Replaying.{begun-long, turn-none, turn-first, turn-formed, turn-long}
 use Rattle.replay.proofs.Replaying.{turn-words, turn-room, turn-next, turn_last}
 use Rattle.replay.proofs.history.replay.Goals as goal
 

@@ -2,9 +2,7 @@
 -- of the fresh book; each turn adds one call, whose answer is the reading's decision.
 -- Assumes nothing.
 use Prim.Native.Nat.{◌-◌}
-use borrow.Author.Rules.{rules}
-use Rattle.replay.proofs.Replaying.{Turn, first_day, begun-long, turn-none, turn-first, turn-formed, turn-long}
-use Rattle.replay.proofs.Replaying.{turn-words, turn-room, turn-next, turn_last}
+use Rattle.replay.proofs.Replaying.{Turn, first_day}
 use Rattle.replay.proofs.history.replay.Given as goal
 
 abbrev pub invariant-loop-i : goal.invariant-loop-i
