@@ -5,8 +5,6 @@ use mathlib.Core.Path.{◌≡◌, refl, sym, ap, subst, ◌∙◌}
 use mathlib.Core.Bool.{Bool, true, false}
 use borrow.Author.Tests.{lt-ltb, le-ltb, ltb-false}
 use lib.Dec.{ltb}
-use types.Run.{OneOf, miss}
-use denote.Enum.Declared.{tag_of}
 use lib.IntN.{ℤ}
 use lib.ListN.{take}
 use mathlib.Core.List.{List, [], ◌∷◌}
@@ -31,7 +29,6 @@ use Rattle.book.proofs.History.Life.{given, given-first}
 use Rattle.journal.specs.declared.Reason.{Reason}
 use Rattle.journal.specs.declared.Request.{Request}
 use Rattle.journal.specs.declared.Lengths.{Lengths}
-use Rattle.journal.specs.contracts.Request.{the_type}
 use Rattle.printing.specs.declared.Answer.{Answer}
 use Rattle.answering.specs.Shown.{shown, guarantee_shown}
 use Rattle.answering.specs.Asked.{Asked, call, fresh, guarantee, nothing, role_retired, fault, guarantee_of, batch_bytes}
@@ -263,31 +260,29 @@ alike l m n r zs x h w g =
     in_words old_rule l m n (asked r zs) x w g.formed (g.given.answered ∙ alike-answer (book_of_words l) n r zs h)
     (g.given.left ∙ alike-book (book_of_words l) r zs h)
 
--- A request that is none of the other cases is for an admission.
-abbrev other_tags : List ℕ
-other_tags = 0 ∷ 1 ∷ 3 ∷ 4 ∷ 5 ∷ 6 ∷ 7 ∷ 8 ∷ 9 ∷ 10 ∷ 11 ∷ 12 ∷ 13 ∷ 14 ∷ 15 ∷ []
+-- A request that is no admission.
 
-not-admission : (r : Request) → OneOf other_tags (tag_of the_type r) → is_admission r ≡ false
-not-admission Request.Nothing one = refl
-not-admission (Request.Fresh d) one = refl
-not-admission (Request.Admit p r) one = absurd (miss other_tags 2 tt one)
-not-admission (Request.LodgeCash p q a) one = refl
-not-admission (Request.LodgeLetter p q a f l) one = refl
-not-admission (Request.Release p q a) one = refl
-not-admission (Request.Settle p m n) one = refl
-not-admission (Request.Annual p) one = refl
-not-admission (Request.Advance t b) one = refl
-not-admission (Request.Statement p) one = refl
-not-admission Request.Calls one = refl
-not-admission (Request.Special n) one = refl
-not-admission (Request.Batch n) one = refl
-not-admission Request.RoleRetired one = refl
-not-admission Request.Report one = refl
-not-admission (Request.Error e) one = refl
+not-admission : (r : Request) → ((p role : ℕ) → r ≡ Request.Admit p role → ⊥) → is_admission r ≡ false
+not-admission Request.Nothing not = refl
+not-admission (Request.Fresh d) not = refl
+not-admission (Request.Admit p r) not = absurd (not p r refl)
+not-admission (Request.LodgeCash p q a) not = refl
+not-admission (Request.LodgeLetter p q a f l) not = refl
+not-admission (Request.Release p q a) not = refl
+not-admission (Request.Settle p m n) not = refl
+not-admission (Request.Annual p) not = refl
+not-admission (Request.Advance t b) not = refl
+not-admission (Request.Statement p) not = refl
+not-admission Request.Calls not = refl
+not-admission (Request.Special n) not = refl
+not-admission (Request.Batch n) not = refl
+not-admission Request.RoleRetired not = refl
+not-admission Request.Report not = refl
+not-admission (Request.Error e) not = refl
 
-pub alike-otherwise : (l m : List ℕ) (n : ℕ) (r : Request) (zs : List ℤ) (x : Answer) → OneOf other_tags (tag_of the_type r) → WellFormed l
+pub alike-otherwise : (l m : List ℕ) (n : ℕ) (r : Request) (zs : List ℤ) (x : Answer) → ((p role : ℕ) → r ≡ Request.Admit p role → ⊥) → WellFormed l
     → AnsweredWords new_rule l n (asked r zs) x m → AnsweredWords old_rule l n (asked r zs) x m
-alike-otherwise l m n r zs x one w g = alike l m n r zs x (not-admission r one) w g
+alike-otherwise l m n r zs x not w g = alike l m n r zs x (not-admission r not) w g
 
 -- An admission.
 pub admitted-by-old-rule : (l m : List ℕ) (n : ℕ) (r : Request) (zs : List ℤ) (p role : ℕ) (x : Said.Answer) (y : Answer) → r ≡ Request.Admit p role

@@ -1,5 +1,6 @@
 // Bytes of an input to bytes of its answers and of its journal: the complete lines of a slice, answered in turn, with no system call.
 #![tactic(auto)]
+
 mod asks; // asks.rt: what a line asks
 mod said; // said.rt: what one line adds to the answers and to the journal
 mod lines; // lines.rt: the lines of a slice, one after the other

@@ -1,5 +1,6 @@
 // The report: a table of all admitted participants, for people.
 #![tactic(auto)]
+
 ghost use Rattle.std.specs.Prelude.{[], ◌∷◌};
 ghost use Rattle.layout.specs.Words.{book_of_words};
 ghost use Rattle.layout.specs.WellFormed.{WellFormed};
