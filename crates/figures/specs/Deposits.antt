@@ -2,7 +2,7 @@
 -- letter that starts later doesn't count. The release rule and the day charge keep today's cover." What the reading decides of the last call of a
 -- short history; `Decisions.both` has the same of the book.
 -- Assumes nothing.
-use Rattle.std.specs.Prelude.{ℕ, ◌≡◌, true, false, List, [], ◌∷◌, ◌++◌, pos, negsuc}
+use Rattle.std.specs.Prelude.{ℕ, ◌≡◌, true, false, List, [], ◌∷◌, pos, negsuc}
 use Rattle.file.specs.declared.Position.TheVariants.{Empty, Cash}
 use Rattle.file.specs.Answer.{refused, done, called, covered, stated, counted}
 use Rattle.book.specs.Call.{settle, Call, on, statement, calls_made}

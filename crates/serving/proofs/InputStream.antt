@@ -1,7 +1,8 @@
 -- An input, read in parts: the turns of the loop that reads it.
 -- Assumes nothing.
 use Rattle.std.proofs.Common.{◌≡◌, ℕ, ◌+◌, ◌<◌, ◌≤◌, Bool, true, false, not, ◌&&◌, leb, List, [], ◌∷◌, ◌++◌, length, take, drop, sym, refl, ap, ◌∙◌, subst, arith, length-append, length-take, take-add, leb-true}
-use Rattle.std.specs.Prelude.{Result, Ok}
+use Rattle.std.specs.Prelude.{Result, Ok, Err}
+use Rattle.std.specs.Io.{ReadsAtMost}
 use Rattle.std.specs.Result.{result_unwrap_or}
 use borrow.Author.Tests.{lt-leb, not-true}
 use Rattle.laws.specs.Cases.{split, clash, and_left, and_right, cond-true, cond-false}
@@ -112,6 +113,11 @@ module _ (way : Way) (room : ℕ) (s : State) (most : ℕ) (t u : State) (ok : B
   pub one_more : InputTaken way room s most u ok used f
   one_more =
       split (leb most (length (rest_in g))) (λ c. either (lines_in b) (goes-on-long c) (ends_it c)) short
+
+-- What a read moved fits where the bytes that it was lent are so many.
+pub read-within : {E : Type 0} (got : Result ℕ E) (l : List ℕ) (k : ℕ) → ReadsAtMost got l → length l ≡ k → result_unwrap_or got 0 ≤ k
+read-within (Ok n) l k h e = omega (arith, h.0)
+read-within (Err x) l k h e = omega arith
 
 -- A read that gave bytes was one that was to be made.
 more-on : {E : Type 0} (t on : Bool) (got : Result ℕ E) (n : ℕ) → on ≡ t → (on ≡ false → got ≡ Ok 0) → n ≡ result_unwrap_or got 0 → (n ≡ 0 → ⊥) → t ≡ true

@@ -68,8 +68,8 @@ module _ (way : Way) (room room₁ : ℕ) (s t u : State) (input : List ℕ) (st
       (subst (λ (l : List ℕ). Step way room₁ t l used u) (rest_all input start) x)
 
   -- one turn
-  pub goes_on : Draining way room s input (start + used) u
-  goes_on =
+  pub goes-on-taken : Draining way room s input (start + used) u
+  goes-on-taken =
       let a = take start input in
       let b = take used (drop start input) in
       let part : take (start + used) input ≡ a ++ b = take-add start used input in
@@ -85,7 +85,7 @@ module _ (way : Way) (room room₁ : ℕ) (s t u : State) (input : List ℕ) (st
   module _ (none : used ≡ 0) where
     -- the state is that of the first bytes
     pub at-start : u ≡ after_all way room s (lines_in (take start input))
-    at-start = let e : start + used ≡ start = omega arith in rw e at goes_on.left
+    at-start = let e : start + used ≡ start = omega arith in rw e at goes-on-taken.left
 
     -- so all lines of the part are taken
     pub ends : Drained way room s input start u true
