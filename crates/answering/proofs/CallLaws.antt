@@ -260,8 +260,7 @@ alike l m n r zs x h w g =
     in_words old_rule l m n (asked r zs) x w g.formed (g.given.answered ∙ alike-answer (book_of_words l) n r zs h)
     (g.given.left ∙ alike-book (book_of_words l) r zs h)
 
--- A request that is no admission.
-
+-- A request that is not `admit` is for no admission.
 not-admission : (r : Request) → ((p role : ℕ) → r ≡ Request.Admit p role → ⊥) → is_admission r ≡ false
 not-admission Request.Nothing not = refl
 not-admission (Request.Fresh d) not = refl
