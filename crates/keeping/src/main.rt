@@ -1,6 +1,7 @@
 // A test of the kept way: the ledger keeps the journal that its argument names, and then the file is printed behind a line `--`, so that the
 // gate compares the answers and what was kept.
 #![tactic(auto)]
+
 use std::fs::File;
 use std::os::fd::AsRawFd;
 use std::str;
