@@ -1,5 +1,5 @@
 // The lock of a kept journal: a file beside it, with the number of the process that keeps it.
-ghost use Rattle.std.specs.Prelude.{◌≡◌, ◌≤◌, IfOk};
+ghost use Rattle.std.specs.Prelude.{◌≡◌, ℕ, ◌<◌, ◌≤◌, ◌≢◌, length, IfOk, slice_index};
 ghost use Rattle.storage.specs.Known.{no_lock};
 
 use crate::files::{created, open_read, own, remove};
@@ -9,7 +9,6 @@ use crate::messages::{about, failed, kept_by};
 use crate::texts::{join, process_in};
 use crate::waiting::{pause, read_from, write_to};
 use io::decimal;
-use std::fs;
 use std::fs::File;
 use std::io::{ErrorKind, Result};
 use std::os::fd::AsRawFd;
@@ -39,13 +38,30 @@ fn no_lock() -> Lock
     }
 }
 
-// Fills a buffer with this process's number and a newline, and answers how many bytes they are. The system keeps the number behind the name
-// /proc/self.
+// How many bytes a text has before its first blank.
+fn before_blank(text: &[u8]) -> usize
+    ensures within { result ≤ length text.now }
+    ensures before { (k : ℕ) → k < result → slice_index text.now k ≢ 32 }
+    ensures found { result < length text.now → slice_index text.now result ≡ 32 }
+{
+    for (i, byte) in text.iter().enumerate() {
+        if *byte == b' ' {
+            return i;
+        }
+    }
+    text.len()
+}
+
+// Fills a buffer with this process's number and a newline, and answers how many bytes they are. The system keeps the number at the front of the file
+// /proc/self/stat, before a blank.
 fn own_number(rt: &HostRuntime, line: &mut [u8; 32]) -> Result<usize>
     ensures { IfOk result (λ n. n ≤ 32) }
 {
-    let number = fs::read_link(rt, "/proc/self")?;
-    Ok(join(number.as_str().as_bytes(), b"\n", line))
+    let mut front = [0u8; 24];
+    let mut file = File::open(rt, "/proc/self/stat")?;
+    let n = read_from(rt, &mut file, &mut front)?;
+    let k = before_blank(&front[..n]);
+    Ok(join(&front[..k], b"\n", line))
 }
 
 // Writes this process's number and a newline, in one piece.
@@ -244,7 +260,7 @@ fn take_named(rt: &HostRuntime, handles: &mut Handles, name: &[u8], lock: &[u8])
 pub fn take_lock(rt: &HostRuntime, handles: &mut Handles, name: &[u8]) -> Lock {
     let mut line = [0u8; 32];
     if let Err(error) = own_number(rt, &mut line) {
-        failed(rt, b"/proc/self", error);
+        failed(rt, b"/proc/self/stat", error);
         return no_lock();
     }
     let mut buffer = [0u8; 8192];
