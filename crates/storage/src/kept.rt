@@ -88,30 +88,21 @@ fn continued(journal: Journal, file: i32, end: u64) -> Journal
     }
 }
 
-// Whether a stream, by the name that the system keeps for it, is the file with these facts.
-fn is_stream_of(rt: &HostRuntime, stream: &str, facts: Facts) -> bool {
-    is_same(
-        facts_or_none(facts_on(rt, stream)),
-        facts.device,
-        facts.inode,
-    )
-}
-
-// Whether a stream, by the name that the system keeps for it, is open on the file at a name.
-fn leads_from(rt: &HostRuntime, stream: &str, name: &[u8]) -> bool {
-    match facts_at(rt, name) {
-        Ok(facts) => is_stream_of(rt, stream, facts),
-        Err(_) => false,
+// Whether a stream, by the name that the system keeps for it, is the file with these facts, or that can't be told.
+fn may_be(rt: &HostRuntime, stream: &str, facts: Facts) -> bool {
+    match facts_on(rt, stream) {
+        Ok(found) => is_same(found, facts.device, facts.inode),
+        Err(_) => true,
     }
 }
 
-// Whether a name leads to the file of a standard stream, which is said: what is kept would be read again, or answers would stand among the calls.
-// Where it is standard error nothing is said, since that would stand there too.
-fn is_stream(rt: &HostRuntime, name: &[u8]) -> bool {
-    if leads_from(rt, "/proc/self/fd/2", name) {
+// Whether a file is, or may be, that of a standard stream, which is said: what is kept would be read again, or answers would stand among the calls.
+// Where it is, or may be, standard error nothing is said, since that would stand there too.
+fn is_file_of_stream(rt: &HostRuntime, name: &[u8], facts: Facts) -> bool {
+    if may_be(rt, "/proc/self/fd/2", facts) {
         return true;
     }
-    if leads_from(rt, "/proc/self/fd/0", name) | leads_from(rt, "/proc/self/fd/1", name) {
+    if may_be(rt, "/proc/self/fd/0", facts) | may_be(rt, "/proc/self/fd/1", facts) {
         about(
             rt,
             name,
@@ -120,6 +111,14 @@ fn is_stream(rt: &HostRuntime, name: &[u8]) -> bool {
         return true;
     }
     false
+}
+
+// Whether a name leads to the file of a standard stream, or may lead to it.
+fn is_stream(rt: &HostRuntime, name: &[u8]) -> bool {
+    match facts_at(rt, name) {
+        Ok(facts) => is_file_of_stream(rt, name, facts),
+        Err(_) => false,
+    }
 }
 
 // The journal that was just opened with its lock, and whose file is now among the open ones.

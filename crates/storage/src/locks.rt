@@ -9,7 +9,7 @@ use crate::messages::{about, failed, kept_by};
 use crate::texts::{join, process_in};
 use crate::waiting::{pause, read_from, write_to};
 use io::decimal;
-use std::fs::File;
+use std::fs::{File, TryLockError};
 use std::io::{ErrorKind, Result};
 use std::os::fd::AsRawFd;
 
@@ -78,7 +78,8 @@ fn sign(rt: &HostRuntime, file: &File) -> Result<Facts> {
     facts_of(file)
 }
 
-// A lock that was just made. Its descriptor stays open as long as the program runs, so that no other file gets its numbers.
+// A lock that was just made. Its descriptor stays open as long as the program runs, so that no other file gets its numbers, and so does a lock of the
+// system on it, where the file's disk has such locks.
 fn signed(rt: &HostRuntime, handles: &mut Handles, file: File, lock: &[u8]) -> Lock {
     if file.as_raw_fd() < 3 {
         drop(file);
@@ -88,6 +89,7 @@ fn signed(rt: &HostRuntime, handles: &mut Handles, file: File, lock: &[u8]) -> L
     }
     match sign(rt, &file) {
         Ok(facts) => {
+            let _ = file.try_lock();
             handles.lock = Some(file);
             Lock {
                 taken: true,
@@ -156,7 +158,7 @@ fn is_own(rt: &HostRuntime, number: u64) -> Result<bool> {
 }
 
 // Whether the system shows no process with a number. Of each that exists it has a directory in /proc, unless it hides those of others: then it hides
-// that of process 1 too, which always exists.
+// that of process 1 too, where that is another's.
 fn is_not_shown(rt: &HostRuntime, number: u64) -> bool {
     if facts_on(rt, "/proc/1").is_err() {
         return false;
@@ -186,6 +188,17 @@ fn is_gone(rt: &HostRuntime, number: u64) -> bool {
     }
 }
 
+// Whether another process has the system's lock on the file of a lock, or that can't be told.
+fn is_locked(rt: &HostRuntime, lock: &[u8]) -> bool {
+    match open_read(rt, lock) {
+        Some(file) => match file.try_lock_shared() {
+            Err(TryLockError::WouldBlock) => true,
+            _ => false,
+        },
+        None => true,
+    }
+}
+
 // Whether a lock is left over from a process that is gone; if not, that is said. One that stays empty was left by a process that ended between
 // making and writing it. It is read once more at the end, in case another ledger took it.
 fn is_left_over(rt: &HostRuntime, name: &[u8], lock: &[u8]) -> bool {
@@ -201,7 +214,7 @@ fn is_left_over(rt: &HostRuntime, name: &[u8], lock: &[u8]) -> bool {
         );
         return false;
     }
-    if !is_gone(rt, number) {
+    if is_locked(rt, lock) || !is_gone(rt, number) {
         kept_by(rt, name, number, lock);
         return false;
     }
