@@ -1,6 +1,5 @@
 -- `serving::keep_behind` meets its contract: the replay leaves a well-formed book.
 -- Assumes nothing.
-use Rattle.std.proofs.Common.{rules}
 use Rattle.serving.proofs.keep_behind.Goals as goal
 
 pub answer_behind-requires : goal.answer_behind-requires

@@ -1,6 +1,6 @@
 -- `serving::input::answer_all` meets its contract: what is left of the book is well-formed, and the line of the file's bytes has room in the buffer.
 -- Assumes nothing.
-use Rattle.std.proofs.Common.{arith, rules}
+use Rattle.std.proofs.Common.{arith}
 use Rattle.serving.proofs.input.answer_all.Goals as goal
 
 pub take_file-end-requires : goal.take_file-end-requires

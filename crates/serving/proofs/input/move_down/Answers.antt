@@ -1,7 +1,7 @@
 -- `serving::input::move_down` meets its contract: the bytes behind those that were moved are as they were.
 -- Assumes nothing.
-use Rattle.std.proofs.Common.{◌≡◌, ◌-◌, ◌≤◌, rules}
-use Rattle.serving.proofs.InputLaws.{Moving, none-moved, one-moved, all_moved}
+use Rattle.std.proofs.Common.{rules}
+use Rattle.serving.proofs.InputLaws.{none-moved, one-moved, all_moved}
 use Rattle.serving.proofs.input.move_down.Goals as goal
 
 pub loop-i-init : goal.loop-i-init

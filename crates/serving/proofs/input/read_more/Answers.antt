@@ -1,6 +1,6 @@
 -- `serving::input::read_more` meets its contract: the read is given only the bytes behind those that are filled.
 -- Assumes nothing.
-use Rattle.std.proofs.Common.{◌-◌, length, arith, rules}
+use Rattle.std.proofs.Common.{◌-◌, length, arith}
 use borrow.Author.Tests.{not-false}
 use borrow.Rule.Slice.PartMut.{take_put}
 use Rattle.laws.specs.Cases.{clash}

@@ -1,6 +1,6 @@
 -- `serving::input::take_input` meets its contract: what the parts left is well-formed and within the buffer, as the last line asks.
 -- Assumes nothing.
-use Rattle.std.proofs.Common.{sym, ◌∙◌, arith, rules}
+use Rattle.std.proofs.Common.{sym, ◌∙◌, arith}
 use Rattle.serving.proofs.input.take_input.Goals as goal
 
 pub take_last-requires : goal.take_last-requires

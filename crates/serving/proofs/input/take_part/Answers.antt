@@ -1,6 +1,6 @@
 -- `serving::input::take_part` meets its contract: the lines are taken, and the rest is moved to the front.
 -- Assumes nothing.
-use Rattle.std.proofs.Common.{arith, length-take, rules}
+use Rattle.std.proofs.Common.{arith, length-take}
 use Rattle.serving.proofs.BufferLaws.{part-taken}
 use Rattle.serving.proofs.input.take_part.Goals as goal
 

@@ -1,11 +1,10 @@
 -- `serving::input::take_parts` meets its contract: what is filled stays below the length of the buffer, and each turn takes one part more of the
 -- bytes read. The measure is how many reads may still be made.
 -- Assumes nothing.
-use Rattle.std.proofs.Common.{◌≡◌, ◌-◌, ◌<◌, ◌≤◌, false, length, arith, rules}
+use Rattle.std.proofs.Common.{◌≡◌, ◌-◌, ◌<◌, ◌≤◌, false, length}
 use Rattle.layout.specs.WellFormed.{WellFormed}
 use Rattle.dialogue.specs.Answers.{state_of}
 use Rattle.serving.specs.Input.{InputTaken}
-use Rattle.serving.proofs.InputStream.{none-taken, turn, ended-taken}
 use Rattle.serving.proofs.input.take_parts.Given as goal
 
 abbrev pub invariant-loop-reads : goal.invariant-loop-reads

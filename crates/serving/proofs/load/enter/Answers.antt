@@ -1,6 +1,6 @@
 -- `serving::load::enter` meets its contract: the bytes handed over are the line, which is one line and asks for the batch of the file.
 -- Assumes nothing.
-use Rattle.std.proofs.Common.{map, pos, arith, length-take, rules}
+use Rattle.std.proofs.Common.{map, pos, arith, length-take}
 use Rattle.serving.proofs.LoadLaws.{are-bytes, same-room, entered, entered-grown}
 use Rattle.serving.proofs.load.enter.Goals as goal
 

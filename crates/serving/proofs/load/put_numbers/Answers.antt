@@ -2,8 +2,7 @@
 -- give. The measure is how many are left.
 -- Assumes nothing.
 use Rattle.serving.proofs.LoadLaws.{numbers_on, numbers-all}
-use Rattle.std.proofs.Common.{◌≡◌, ◌-◌, ◌≤◌, map, length, drop, pos, refl, rules}
-use lib.Seq.{sets}
+use Rattle.std.proofs.Common.{refl, rules}
 use Rattle.serving.proofs.load.put_numbers.Goals as goal
 
 pub loop-i-init : goal.loop-i-init

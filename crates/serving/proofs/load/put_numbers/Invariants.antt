@@ -1,8 +1,7 @@
 -- `serving::load::put_numbers` meets its contract. The loop's invariant: the bytes that are left, written from place i on, give what all of them
 -- give. The measure is how many are left.
 -- Assumes nothing.
-use Rattle.serving.proofs.LoadLaws.{numbers_on, numbers-all}
-use Rattle.std.proofs.Common.{◌≡◌, ◌-◌, ◌≤◌, map, length, drop, pos, refl, rules}
+use Rattle.std.proofs.Common.{◌≡◌, ◌-◌, ◌≤◌, map, length, drop, pos}
 use lib.Seq.{sets}
 use Rattle.serving.proofs.load.put_numbers.Given as goal
 

@@ -1,6 +1,6 @@
 -- `serving::options::asked_for` meets its contract: the buffer keeps its length.
 -- Assumes nothing.
-use Rattle.std.proofs.Common.{◌≡◌, ◌-◌, ◌≤◌, max, length, rules}
+use Rattle.std.proofs.Common.{rules}
 use Rattle.serving.proofs.options.asked_for.Goals as goal
 
 pub loop-i-init : goal.loop-i-init

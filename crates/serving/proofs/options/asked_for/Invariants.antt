@@ -1,6 +1,6 @@
 -- `serving::options::asked_for` meets its contract: the buffer keeps its length.
 -- Assumes nothing.
-use Rattle.std.proofs.Common.{◌≡◌, ◌-◌, ◌≤◌, max, length, rules}
+use Rattle.std.proofs.Common.{◌≡◌, ◌-◌, ◌≤◌, max, length}
 use Rattle.serving.proofs.options.asked_for.Given as goal
 
 abbrev pub invariant-loop-i : goal.invariant-loop-i

@@ -1,13 +1,8 @@
 -- `serving::parts::drain` meets its contract: each turn takes the lines of more bytes; one that takes none is the last.
 -- Assumes nothing.
-use Rattle.std.proofs.Common.{◌≡◌, ◌-◌, length, take, sym, ◌∙◌, arith, rules}
-use Rattle.layout.specs.WellFormed.{WellFormed}
-use Rattle.dialogue.specs.Split.{lines_in}
-use Rattle.dialogue.specs.Turns.{all_journal}
-use Rattle.dialogue.specs.Answers.{state_of}
-use Rattle.serving.specs.Delivery.{Grown}
+use Rattle.std.proofs.Common.{sym, ◌∙◌, arith, rules}
 use Rattle.serving.proofs.GrowthLaws.{grown-none, grown-on, grown-all}
-use Rattle.serving.proofs.PartLaws.{Draining, begins, goes-on-taken, drained, within-input, fewer-left}
+use Rattle.serving.proofs.PartLaws.{begins, goes-on-taken, drained, within-input, fewer-left}
 use Rattle.serving.proofs.parts.drain.Goals as goal
 
 pub loop-journal-init : goal.loop-journal-init

@@ -1,13 +1,12 @@
 -- `serving::parts::drain` meets its contract: each turn takes the lines of more bytes; one that takes none is the last.
 -- Assumes nothing.
-use Rattle.std.proofs.Common.{◌≡◌, ◌-◌, length, take, sym, ◌∙◌, arith, rules}
+use Rattle.std.proofs.Common.{◌≡◌, ◌-◌, length, take}
 use Rattle.layout.specs.WellFormed.{WellFormed}
 use Rattle.dialogue.specs.Split.{lines_in}
 use Rattle.dialogue.specs.Turns.{all_journal}
 use Rattle.dialogue.specs.Answers.{state_of}
 use Rattle.serving.specs.Delivery.{Grown}
-use Rattle.serving.proofs.GrowthLaws.{grown-none, grown-on, grown-all}
-use Rattle.serving.proofs.PartLaws.{Draining, begins, goes-on-taken, drained, within-input, fewer-left}
+use Rattle.serving.proofs.PartLaws.{Draining}
 use Rattle.serving.proofs.parts.drain.Given as goal
 
 abbrev pub invariant-loop-journal : goal.invariant-loop-journal
