@@ -48,9 +48,10 @@ def october(total):
     return ['on 0 (admit 3)', settled(5, 500), settled(5, total), 'advance 244 100', 'on 0 annual_run', 'advance 274 100', 'statement 0']
 
 
-# A mutant: its name; its edits (file, old text, new text); a history, the fresh day and the calls, the oldest first; and what the changed
-# book and the reading answer to the last call, as the place of the answer in KINDS and its values. And, of one that charges too little: calls
-# from the same day, a number n of days opened after them, and the days charged that the clause `openings` wants of the opening after those n.
+# A mutant: its name; its edits (file, old text, new text); a history, the fresh day and the calls, the oldest first, made under the new admission rule
+# but for those of a first stretch; and what the changed book and the reading answer to the last call, as the place of the answer in KINDS and its
+# values. And, of one that charges too little: calls from the same day, a number n of days opened after them, and the days charged that the clause
+# `openings` wants of the opening after those n.
 MUTANTS = [
     ('a settlement that always says covered',
      [(SETTLE, 'check_due (month_of t) m && call_is_made (sum_of figures) (deposited f t) f.firm (open_amounts f)',
