@@ -1,5 +1,5 @@
 // The files that the program has open beside the standard streams, and where its lines come from.
-ghost use Rattle.std.specs.Prelude.{◌≡◌, length};
+ghost use Rattle.std.specs.Prelude.{◌≡◌, ◌↔◌, IfOk, IsSome, IsTrue};
 ghost use Rattle.std.specs.Io.{ReadsAtMost};
 
 use crate::files::open_read;
@@ -26,7 +26,10 @@ pub enum Input {
 }
 
 // No file is open.
-pub fn no_handles() -> Handles {
+pub fn no_handles() -> Handles
+    ensures journal { result.journal ≡ None }
+    ensures lock { result.lock ≡ None }
+{
     Handles {
         journal: None,
         lock: None,
@@ -34,7 +37,9 @@ pub fn no_handles() -> Handles {
 }
 
 // The journal's file.
-pub fn journal_in(handles: &Handles) -> io::Result<&File> {
+pub fn journal_in(handles: &Handles) -> io::Result<&File>
+    ensures { IfOk result (λ file. handles.now.journal ≡ Some file.now) }
+{
     match &handles.journal {
         Some(file) => Ok(file),
         None => Err(Error::from_raw_os_error(EBADF)),
@@ -42,7 +47,10 @@ pub fn journal_in(handles: &Handles) -> io::Result<&File> {
 }
 
 // Opens the journal with a name for reading, and answers whether it can be had; if not, that is said.
-pub fn open_journal(rt: &HostRuntime, handles: &mut Handles, name: &[u8]) -> bool {
+pub fn open_journal(rt: &HostRuntime, handles: &mut Handles, name: &[u8]) -> bool
+    ensures opened { IsTrue result ↔ IsSome handles.new.journal }
+    ensures lock { handles.new.lock ≡ handles.old.lock }
+{
     handles.journal = open_read(rt, name);
     handles.journal.is_some()
 }

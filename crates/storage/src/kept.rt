@@ -339,7 +339,10 @@ pub fn append(
 }
 
 // Closes the journal's file, and removes its lock if that is still this program's.
-pub fn close_kept(rt: &HostRuntime, handles: &mut Handles, name: &[u8], journal: Journal) {
+pub fn close_kept(rt: &HostRuntime, handles: &mut Handles, name: &[u8], journal: Journal)
+    ensures closed { handles.new.journal ≡ None }
+    ensures lock { handles.new.lock ≡ handles.old.lock }
+{
     handles.journal = None;
     drop_lock(rt, name, journal.lock_device, journal.lock_inode);
 }
