@@ -127,15 +127,18 @@ def admission_free_day(days):
 RETIRED, BEHIND = 'admits_retired a && accepted answer', 'cause 23 (eqb role 1) ∷ []'
 SINCE, STRETCH = 'map (under new_rule) since', 'map (under old_rule) first'
 
-# The special guarantee's causes 11 and 18, and how its cause 19 begins.
-OUTSIDE = named(11, 'outside_ranges medium low marks zero_medium zero_low excess_medium excess_low')
-TOO_FEW = named(18, 'too_few medium (usable low marks)')
-FIRST = '    record {\n      number = 19;'
-
+# The special guarantee's causes 19, 11 and 18, in their order.
+LONG = ('(wrong_lengths (length medium) (length low) (length marks) (length zero_medium) (length zero_low) (length excess_medium) (length excess_low))\n'
+        '    (Err ListLengths)')
+OUTSIDE = '(outside_ranges medium low marks zero_medium zero_low excess_medium excess_low) (Err OutOfRange)'
+TOO_FEW = '(too_few medium (usable low marks)) (Err TooFewRates)'
 
 # The three causes of a file that is no batch, and the pair that cause 21 names.
-SHORT, APART = 'refused_if 20 0 (too_short file)', 'refused_if 21 (min (first_misplaced file) (count_in file - 1)) (not_following file)'
-WRONG = 'refused_if 22 (first_wrong file) (ltb (first_wrong file) (count_in file))'
+SHORT = 'refused_if BatchTooShort 0 (too_short file)'
+APART = 'refused_if PartsMisplaced (min (first_misplaced file) (count_in file - 1)) (not_following file)'
+WRONG = 'refused_if WrongPart (first_wrong file) (ltb (first_wrong file) (count_in file))'
+# The causes of refusal by their names.
+CAUSE = 'Rattle.refusal.specs.declared.Refusal.TheVariants'
 # How the least place begins.
 FOUND = 'least test (suc n) = cond (test zero) zero'
 # Whether a participant comes again behind pair i.
@@ -247,9 +250,9 @@ SHARED = [
     ('month P − 3 checked', [(SETTLE, 'eqb (m + 2) p', 'eqb (m + 3) p')], 'Settlements.due'),
     ('every month checked that is settled', [(SETTLE, 'eqb (m + 2) p', 'leb (m + 2) p')], 'Settlements.not-due-p-3'),
     ('month P − 1 checked too', [(SETTLE, 'eqb (m + 2) p', 'leb p (m + 2)')], 'Settlements.not-due-p-1'),
-    ('a call that answers asked before E', [(SETTLE, 'called amount asked last', 'called asked amount last')], 'Settlements.says-called'),
+    ('a call that answers asked before E', [(SETTLE, 'called call.amount call.asked last', 'called call.asked call.amount last')], 'Settlements.says-called'),
     ('covered answered as recorded only',
-     [(SETTLE, 'Covered = covered e', 'Covered = Rattle.file.specs.Answer.recorded e')], 'Settlements.says-covered'),
+     [(SETTLE, 'None = covered e', 'None = Rattle.file.specs.Answer.recorded e')], 'Settlements.says-covered'),
     ('four figures allowed', [(FIGURES, 'ltb (length figures) 5', 'ltb (length figures) 4')], 'Settlements.figures-4'),
     ('six figures at least', [(FIGURES, 'ltb (length figures) 5', 'ltb (length figures) 6')], 'Settlements.figures-5'),
     ('17 figures allowed', [(FIGURES, 'ltb 16 (length figures)', 'ltb 17 (length figures)')], 'Settlements.figures-17'),
@@ -275,8 +278,8 @@ SHARED = [
      [(CHECK, '&& exceeds_each e (firm ∷ opens)', '&& exceeds_each e (firm ∷ [])')], 'Settlements.at-first-call'),
     ('a call within the tolerance',
      [(CHECK, 'exceeds_tolerance e d && exceeds_each e (firm ∷ opens)', 'exceeds_each e (firm ∷ opens)')], 'Settlements.within-tolerance'),
-    ('asked E less the firm amount', [(CHECK, '(nat_abs e - d)', '(nat_abs e - firm)')], 'Settlements.asked'),
-    ('a call of the amount asked', [(CHECK, '(Call (nat_abs e) (nat_abs e - d))', '(Call (nat_abs e - d) (nat_abs e - d))')], 'Settlements.asked'),
+    ('asked E less the firm amount', [(CHECK, 'asked = nat_abs e - d', 'asked = nat_abs e - firm')], 'Settlements.asked'),
+    ('a call of the amount asked', [(CHECK, 'amount = nat_abs e;', 'amount = nat_abs e - d;')], 'Settlements.asked'),
     ('the amount itself left out of the largest', [(CALLS, 'largest a [] = a', 'largest a [] = 0')], 'Settlements.largest-itself'),
     ('the sum for the largest', [(CALLS, 'max b (largest a rest)', 'Rattle.std.specs.Prelude.◌+◌ b (largest a rest)')], 'Settlements.largest-itself'),
     ('only the first of a list in the largest', [(CALLS, 'max b (largest a rest)', 'max b a')], 'Settlements.largest-last'),
@@ -718,19 +721,19 @@ SHARED = [
     ('every first participant twice', [(BATCH, 'is_before file zero p = false', 'is_before file zero p = not false')], 'Files.one-is-batch'),
     ('the last part not judged',
      [(BATCH, '(ltb (first_wrong file) (count_in file))', '(ltb (first_wrong file) (count_in file - 1))')], 'Files.pair-just-there'),
-    ('index 0 for every wrong part', [(BATCH, 'refused_if 22 (first_wrong file)', 'refused_if 22 0')], 'Files.second-length-3'),
+    ('index 0 for every wrong part', [(BATCH, 'refused_if WrongPart (first_wrong file)', 'refused_if WrongPart 0')], 'Files.second-length-3'),
     ('index n − 1 for every wrong part',
-     [(BATCH, 'refused_if 22 (first_wrong file)', 'refused_if 22 (count_in file - 1)')], 'Files.second-pair-just-there'),
+     [(BATCH, 'refused_if WrongPart (first_wrong file)', 'refused_if WrongPart (count_in file - 1)')], 'Files.second-pair-just-there'),
     # .. their numbers, their order and what is none of them
-    ('19 for 20', [(BATCH, 'refused_if 20 0', 'refused_if 19 0')], 'Files.no_bytes'),
-    ('index 1 for 20', [(BATCH, 'refused_if 20 0', 'refused_if 20 1')], 'Files.no_bytes'),
-    ('22 for 21', [(BATCH, 'refused_if 21 (min', 'refused_if 22 (min')], 'Files.first-before'),
-    ('23 for 22', [(BATCH, 'refused_if 22 (first_wrong', 'refused_if 23 (first_wrong')], 'Files.pair-just-there'),
+    ('19 for 20', [(BATCH, 'refused_if BatchTooShort', f'refused_if {CAUSE}.ListLengths')], 'Files.no_bytes'),
+    ('index 1 for 20', [(BATCH, 'refused_if BatchTooShort 0', 'refused_if BatchTooShort 1')], 'Files.no_bytes'),
+    ('22 for 21', [(BATCH, 'refused_if PartsMisplaced', 'refused_if WrongPart')], 'Files.first-before'),
+    ('23 for 22', [(BATCH, 'refused_if WrongPart', f'refused_if {CAUSE}.RetiredRole')], 'Files.pair-just-there'),
     ('21 before 20', swapped(BATCH, SHORT, APART), 'Files.three-bytes'),
     ('22 before 21', swapped(BATCH, APART, WRONG), 'Files.first-before'),
     ('22 before 20', swapped(BATCH, SHORT, WRONG), 'Files.three-bytes'),
-    ('number and index exchanged', [(BATCH, 'λ n. Refused n pair', 'λ n. Refused pair n')], 'Files.no_bytes'),
-    ('a batch of one part less', [(BATCH, 'Parts (count_in file)', 'Parts (count_in file - 1)')], 'Files.one-is-batch'),
+    ('the number for the index', [(BATCH, 'pair = pair }', 'pair = Rattle.refusal.specs.Numbers.number_of refusal }')], 'Files.no_bytes'),
+    ('a batch of one part less', [(BATCH, 'Ok (count_in file)', 'Ok (count_in file - 1)')], 'Files.one-is-batch'),
     ('a place counted from 1', [(LEAST, 'cond (test zero) zero', 'cond (test zero) (suc zero)')], 'Files.pair-just-there'),
     ('a place n + 1 where there is none', [(LEAST, 'least test zero = zero', 'least test zero = suc zero')], 'Files.least-none'),
     ('the first place alone',
@@ -745,8 +748,8 @@ SHARED = [
     ('indices from 1',
      [(SAYS, ')) (first_refused answers n))', ')) (Rattle.std.specs.Prelude.suc (first_refused answers n)))')], 'Files.says-refused-pair'),
     ('index 0 for every settlement', [(SAYS, ')) (first_refused answers n))', ')) 0)')], 'Files.says-refused-pair'),
-    ("a refused file's number and index exchanged", [(SAYS, 'answers = refused_pair n i', 'answers = refused_pair i n')], 'Files.says-refused-file'),
-    ('a refused file at index 0', [(SAYS, 'answers = refused_pair n i', 'answers = refused_pair n 0')], 'Files.says-refused-file'),
+    ("a refused file's number and index exchanged", [(SAYS, 'answers = loaded_says (Err m)', 'answers = refused_pair m.pair (number_of m.refusal)')], 'Files.says-refused-file'),
+    ('a refused file at index 0', [(SAYS, 'answers = loaded_says (Err m)', 'answers = refused_pair (number_of m.refusal) 0')], 'Files.says-refused-file'),
     ('an accepted batch that answers its last index',
      [(SAYS, '    (batched n)', '    (batched (Rattle.std.specs.Prelude.◌-◌ n 1))')], 'Files.says-accepted'),
     # .. what a part asks, and what is left, on histories
@@ -787,15 +790,11 @@ SHARED = [
     ('four medium rates needed', [(LENGTHS, 'ltb (length medium) 3', 'ltb (length medium) 4')], 'Guarantees.three-rates'),
     ('two low rates enough', [(LENGTHS, 'ltb (length low) 3', 'ltb (length low) 2')], 'Guarantees.two-low'),
     ('four low rates needed', [(LENGTHS, 'ltb (length low) 3', 'ltb (length low) 4')], 'Guarantees.three-rates'),
-    ('marked rates counted as usable', [(LENGTHS, 'too_few medium (usable low marks)', 'too_few medium low')], 'Guarantees.cause-too-few'),
-    ('special: 11 before 19',
-     [(LENGTHS, f'    ∷ {OUTSIDE}\n', ''),
-      (LENGTHS, FIRST, f'    {OUTSIDE}\n    ∷ {FIRST.strip()}')],
-     'Guarantees.lengths-before-range'),
-    ('special: 18 before 11', swapped(LENGTHS, OUTSIDE, TOO_FEW), 'Guarantees.cause-mark'),
+    ('marked rates counted as usable', [(GUARANTEE, 'too_few medium (usable low marks)', 'too_few medium low')], 'Guarantees.cause-too-few'),
+    ('special: 11 before 19', swapped(GUARANTEE, LONG, OUTSIDE), 'Guarantees.lengths-before-range'),
+    ('special: 18 before 11', swapped(GUARANTEE, OUTSIDE, TOO_FEW), 'Guarantees.cause-mark'),
     ('special: 18 before 19',
-     [(LENGTHS, f'    ∷ {TOO_FEW}\n', ''),
-      (LENGTHS, FIRST, f'    {TOO_FEW}\n    ∷ {FIRST.strip()}')],
+     [(GUARANTEE, TOO_FEW, '\0'), (GUARANTEE, OUTSIDE, '\1'), (GUARANTEE, LONG, TOO_FEW), (GUARANTEE, '\1', LONG), (GUARANTEE, '\0', OUTSIDE)],
      'Guarantees.cause-mark'),
     ('rates from −99,999 on',
      [(RANGES, 'between low high x = le_z low x && le_z x high',

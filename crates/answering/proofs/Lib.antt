@@ -1,7 +1,5 @@
-pub mod ShownLaws
-pub mod MappedLaws
+pub mod RowLaws
 pub mod GuaranteeLaws
-pub mod BatchLaws
 pub mod CallLaws
 pub mod KeptLaws
 pub mod Session

@@ -78,22 +78,10 @@ own r zs = take (numbers_in r (length zs)) zs
 
 -- A request asks the same with them alone.
 pub asked-cut : (r : Request) (zs : List ℤ) → asked r (own r zs) ≡ asked r zs
-asked-cut Request.Nothing zs = refl
-asked-cut (Request.Fresh d) zs = refl
-asked-cut (Request.Admit p r) zs = refl
-asked-cut (Request.LodgeCash p q a) zs = refl
-asked-cut (Request.LodgeLetter p q a f l) zs = refl
-asked-cut (Request.Release p q a) zs = refl
 asked-cut (Request.Settle p m n) zs =
     ap (λ (w : List ℤ). call (on p (settle m.0 w))) (ap (take n) (take-clipped n (min n (length zs)) zs refl) ∙ take-take n n zs (omega arith))
-asked-cut (Request.Annual p) zs = refl
-asked-cut (Request.Advance t b) zs = refl
-asked-cut (Request.Statement p) zs = refl
-asked-cut Request.Calls zs = refl
 asked-cut (Request.Special n) zs =
     ap guarantee
     (ap (guarantee_of n) (take-clipped (total (length_list n)) (min (total (length_list n)) (length zs)) zs refl) ∙ row_cut n zs)
 asked-cut (Request.Batch n) zs = ap (λ (w : List ℕ). call (batch w)) (file-cut n zs)
-asked-cut Request.RoleRetired zs = refl
-asked-cut Request.Report zs = refl
-asked-cut (Request.Error e) zs = refl
+asked-cut r zs = refl

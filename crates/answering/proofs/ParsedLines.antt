@@ -24,22 +24,10 @@ use Rattle.answering.proofs.OwnNumbers.{own, asked-cut}
 
 -- The numbers of a request, clipped, are those that it says it has, clipped.
 counts : (r : Request) (most : ℕ) → numbers_in r most ≡ min (count_of r) most
-counts Request.Nothing most = omega arith
-counts (Request.Fresh d) most = omega arith
-counts (Request.Admit p r) most = omega arith
-counts (Request.LodgeCash p q a) most = omega arith
-counts (Request.LodgeLetter p q a f l) most = omega arith
-counts (Request.Release p q a) most = omega arith
 counts (Request.Settle p m n) most = refl
-counts (Request.Annual p) most = omega arith
-counts (Request.Advance t b) most = omega arith
-counts (Request.Statement p) most = omega arith
-counts Request.Calls most = omega arith
 counts (Request.Special n) most = refl
 counts (Request.Batch n) most = refl
-counts Request.RoleRetired most = omega arith
-counts Request.Report most = omega arith
-counts (Request.Error e) most = omega arith
+counts r most = omega arith
 
 -- Where the numbers of a call stand at the front of f, they are the request's own, and f asks what they ask.
 front-own : (r : Request) (zs f : List ℤ) → count_of r ≡ length zs → length zs ≤ length f → take (length zs) f ≡ zs → own r f ≡ zs
@@ -52,22 +40,8 @@ front-asks r zs f e = sym (asked-cut r f) ∙ ap (asked r) e
 
 -- An error asks the same whatever the numbers.
 call-or-error : (r : Request) (zs f : List ℤ) → (IsCall r → asked r f ≡ asked r zs) → asked r f ≡ asked r zs
-call-or-error Request.Nothing zs f h = h tt
-call-or-error (Request.Fresh d) zs f h = h tt
-call-or-error (Request.Admit p r) zs f h = h tt
-call-or-error (Request.LodgeCash p q a) zs f h = h tt
-call-or-error (Request.LodgeLetter p q a b l) zs f h = h tt
-call-or-error (Request.Release p q a) zs f h = h tt
-call-or-error (Request.Settle p m n) zs f h = h tt
-call-or-error (Request.Annual p) zs f h = h tt
-call-or-error (Request.Advance t b) zs f h = h tt
-call-or-error (Request.Statement p) zs f h = h tt
-call-or-error Request.Calls zs f h = h tt
-call-or-error (Request.Special n) zs f h = h tt
-call-or-error (Request.Batch n) zs f h = h tt
-call-or-error Request.RoleRetired zs f h = h tt
-call-or-error Request.Report zs f h = h tt
 call-or-error (Request.Error e) zs f h = refl
+call-or-error r zs f h = h tt
 
 -- The numbers of a parsed call, lent a slice e which is left as f, are its own in f.
 pub parsed-own : (line : List ℕ) (e f : List ℤ) (r : Request) → ParsedIs (parsed (length e) line) e r f → IsCall (parsed (length e) line).request
@@ -93,15 +67,15 @@ unfolding fresh_first
 first-asks kept r zs f e = split (is_fresh r && ltb 0 kept) (λ t. rw t refl) (λ t. rw t e)
 
 -- A line whose beginning had no room.
-pub long-line : (long : Bool) (kept : ℕ) (line : List ℕ) (e : List ℤ) → long ≡ true → LineIs long kept line e (Request.Error Reason.TooLong) e
+pub long_line : (long : Bool) (kept : ℕ) (line : List ℕ) (e : List ℤ) → long ≡ true → LineIs long kept line e (Request.Error Reason.TooLong) e
 unfolding line_request line_asks
-long-line long kept line e t = record { request = rw t refl; numbers = rw t refl; asks = rw t refl }
+long_line long kept line e t = record { request = rw t refl; numbers = rw t refl; asks = rw t refl }
 
 -- A line that was parsed.
-pub parsed-line : (long : Bool) (kept : ℕ) (line : List ℕ) (e f : List ℤ) (r q : Request) → long ≡ false → ParsedIs (parsed (length e) line) e r f
+pub parsed_line : (long : Bool) (kept : ℕ) (line : List ℕ) (e f : List ℤ) (r q : Request) → long ≡ false → ParsedIs (parsed (length e) line) e r f
     → q ≡ fresh_first kept r → LineIs long kept line e q f
 unfolding line_request line_asks
-parsed-line long kept line e f r q t x h =
+parsed_line long kept line e f r q t x h =
     let zs = (parsed (length e) line).numbers in
     let g : q ≡ fresh_first kept (parsed (length e) line).request = h ∙ ap (fresh_first kept) x.request in
     let a : asked (parsed (length e) line).request f ≡ asked (parsed (length e) line).request zs =

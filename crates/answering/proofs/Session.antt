@@ -1,5 +1,6 @@
 -- The claim about a whole session; and a line that is not kept leaves the book.
 -- Assumes nothing.
+use Rattle.std.specs.Prelude.{Result, Ok, Err}
 use Prim.Native.Nat.{ℕ, ◌≤◌}
 use mathlib.Core.Path.{◌≡◌, refl, sym, ap, ◌∙◌}
 use mathlib.Core.Bool.{Bool, true, false, cond, ◌&&◌}
@@ -19,8 +20,7 @@ use Rattle.file.specs.Release.{release_answer}
 use Rattle.file.specs.CheckLaws.{settled-answer}
 use Rattle.file.specs.Settle.{settlement_calls, check_due, settled_answer, settle_answer}
 use Rattle.batch.specs.Batch.{form_of}
-use Rattle.batch.specs.declared.Form.{Form}
-use Rattle.batch.specs.declared.Form.TheVariants as Forms
+use Rattle.batch.specs.declared.Misfit.{Misfit}
 use Rattle.layout.specs.Book.{Book}
 use Rattle.book.specs.Call.{Call, Act, on, admit, lodge, release, settle, annual_run, advance, statement, calls_made, batch}
 use Rattle.book.specs.Call.{first_refused, batch_says}
@@ -108,31 +108,17 @@ session lines =
 
 -- Whether an answer of the book tells what was asked for: a statement, or the count of calls made.
 abbrev tells : Said.Answer → Bool
-tells (Said.refused n) = false
-tells Said.done = false
-tells (Said.called e asked last) = false
-tells (Said.covered e) = false
-tells (Said.recorded e) = false
-tells (Said.annual a n) = false
-tells (Said.days_opened n) = false
 tells (Said.stated f c s d a) = true
 tells (Said.counted n) = true
-tells (Said.batched n) = false
-tells (Said.refused_pair n i) = false
+tells x = false
 
 -- A call that is not taken is refused, or its answer tells what was asked for.
 untaken : (x : Said.Answer) → takes (shown x) ≡ false → tells x ≡ false → accepted x ≡ false
 untaken (Said.refused n) h k = refl
-untaken Said.done h k = h
-untaken (Said.called e asked last) h k = h
-untaken (Said.covered e) h k = h
-untaken (Said.recorded e) h k = h
-untaken (Said.annual a n) h k = h
-untaken (Said.days_opened n) h k = h
 untaken (Said.stated f c s d a) h k = k
 untaken (Said.counted n) h k = k
-untaken (Said.batched n) h k = h
 untaken (Said.refused_pair n i) h k = refl
+untaken x h k = h
 
 -- Only questions are told what they ask for: causes of refusal tell nothing, nor does the answer behind them.
 decided-untold : (causes : List Cause) (x : Said.Answer) → tells x ≡ false → tells (decide Said.refused causes x) ≡ false
@@ -166,10 +152,10 @@ advance-untold : (rule : Rule) (b : Book) (day k : ℕ) → tells (answer rule b
 unfolding answer
 advance-untold rule b day k = decided-untold _ _ refl
 
-says-untold : (form : Form) (x : ℕ → Said.Answer) → tells (batch_says form x) ≡ false
+says-untold : (form : Result ℕ Misfit) (x : ℕ → Said.Answer) → tells (batch_says form x) ≡ false
 unfolding batch_says
-says-untold (Forms.Refused n i) x = refl
-says-untold (Forms.Parts n) x = split (ltb (first_refused x n) n) (λ e. rw e refl) (λ e. rw e refl)
+says-untold (Err m) x = refl
+says-untold (Ok n) x = split (ltb (first_refused x n) n) (λ e. rw e refl) (λ e. rw e refl)
 
 batch-untold : (rule : Rule) (b : Book) (file : List ℕ) → tells (answer rule b (batch file)) ≡ false
 unfolding answer

@@ -1,9 +1,9 @@
 -- What a line of the journal asks, what it is answered, and the book that it leaves.
 -- Assumes nothing.
-use Rattle.std.specs.Prelude.{ℕ, ◌%◌, min, ◌≡◌, cond, List, map, take, drop, ℤ, pos, negsuc}
+use Rattle.std.specs.Prelude.{ℕ, ◌%◌, min, ◌≡◌, cond, List, map, take, drop, Result, ℤ, pos, negsuc}
 use Rattle.file.specs.declared.Position.TheVariants.{Cash, Letter}
 use Rattle.file.specs.Answer.{accepted}
-use Rattle.special.specs.declared.Special.{Special}
+use Rattle.refusal.specs.declared.Refusal.{Refusal}
 use Rattle.special.specs.Guarantee.{special_guarantee}
 use Rattle.layout.specs.Book.{Book}
 use Rattle.book.specs.Call.{Call, on, admit, lodge, release, settle, annual_run, advance, statement, calls_made, batch}
@@ -23,7 +23,7 @@ pub data Asked : Type 0 where
   -- a fresh book on a day
   fresh : (day : ℕ) → Asked
   -- the special guarantee of seven lists
-  guarantee : Special → Asked
+  guarantee : Result ℕ Refusal → Asked
   -- nothing of the book: an empty line, or the table for people
   nothing : Asked
   -- paper 02, Ask 3: the end of the first stretch of a journal
@@ -38,7 +38,7 @@ mark_of (negsuc n) = 2
 
 -- "each LIST is its length and then its numbers: medium rates, low rates, marks, zero medium, zero low, excess medium, excess low": the
 -- guarantee of the first three lists, and of the four by semester whose numbers stand in a row.
-unfoldable pub semesters_of : Lengths → List ℤ → List ℤ → List ℕ → List ℤ → Special
+unfoldable pub semesters_of : Lengths → List ℤ → List ℤ → List ℕ → List ℤ → Result ℕ Refusal
 semesters_of n medium low marks zs =
     let from_low = drop n.zero_medium zs in
     let from_excesses = drop n.zero_low from_low in
@@ -47,7 +47,7 @@ semesters_of n medium low marks zs =
     (take n.excess_low from_excess_low)
 
 -- The guarantee of seven lists whose numbers stand in a row.
-unfoldable pub guarantee_of : Lengths → List ℤ → Special
+unfoldable pub guarantee_of : Lengths → List ℤ → Result ℕ Refusal
 guarantee_of n zs =
     let from_low = drop n.medium zs in
     let from_marks = drop n.low from_low in

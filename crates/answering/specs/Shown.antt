@@ -1,8 +1,9 @@
 -- 'The journal': "Answers, one line for each call line", from the answers of papers 01 and 02.
 -- Assumes nothing.
+use Rattle.std.specs.Prelude.{ℕ, Result, Ok, Err}
 use Rattle.file.specs.Answer as Said
-use Rattle.special.specs.declared.Special.{Special}
-use Rattle.special.specs.declared.Special.TheVariants as Specials
+use Rattle.refusal.specs.declared.Refusal.{Refusal}
+use Rattle.refusal.specs.Numbers.{number_of}
 use Rattle.printing.specs.declared.Answer.{Answer}
 
 -- The answer of the journal for each answer of the book:
@@ -22,6 +23,6 @@ shown (Said.batched n) = Answer.Batch n
 shown (Said.refused_pair n i) = Answer.RefusedPair n i
 
 -- "special CENTS", or the number of the refusal.
-abbrev pub guarantee_shown : Special → Answer
-guarantee_shown (Specials.Guarantee cents) = Answer.Special cents
-guarantee_shown (Specials.Refused n) = Answer.Refused n
+abbrev pub guarantee_shown : Result ℕ Refusal → Answer
+guarantee_shown (Ok cents) = Answer.Special cents
+guarantee_shown (Err r) = Answer.Refused (number_of r)

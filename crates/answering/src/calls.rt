@@ -5,22 +5,24 @@ ghost use Rattle.answering.specs.Asked.{fresh as Asked·fresh, asked};
 ghost use Rattle.answering.specs.InWords.{AnsweredWords};
 
 use crate::batches::load_file;
-use crate::guarantee::{front, guarantee};
-use crate::shown;
-use calendar::Day;
+use crate::guarantee::guarantee;
+use crate::rows::parted;
+use crate::shown::{Shown, given};
+use calendar::{Day, LAST_DAY};
 use file::Position;
 use journal::Request;
 use printing::Answer;
+use refusal::Refusal;
 
 // A fresh book on a day; a refused one leaves the book as it was.
 fn begin(book: &mut [u64], day: Day) -> Answer
     requires { WellFormed book.old }
     ensures { AnsweredWords new_rule book.old 0 (Asked·fresh day.0) result book.new }
 {
-    if 29219 < day.0 {
-        return Answer::Refused(17);
+    if LAST_DAY < day.0 {
+        return Refusal::DayOutOfRange.shown();
     }
-    shown::outcome_shown(book::fresh(book, day))
+    book::fresh(book, day).shown()
 }
 
 // The answer to a request, made on the book in its words: the numbers of the request's lists stand at the front of `numbers`, in a row; `line`
@@ -30,27 +32,30 @@ pub fn apply(book: &mut [u64], request: Request, numbers: &[i64], line: u64) -> 
     ensures { AnsweredWords new_rule book.old line (asked request numbers.now) result book.new }
 {
     match request {
-        Request::Nothing => Answer::Nothing,
+        Request::Nothing | Request::RoleRetired | Request::Report => Answer::Nothing,
         Request::Fresh(day) => begin(book, day),
-        Request::Admit(p, role) => shown::outcome_shown(book::admit(book, p, role)),
+        Request::Admit(p, role) => book::admit(book, p, role).shown(),
         Request::LodgeCash(p, q, amount) => {
-            shown::outcome_shown(book::lodge(book, p, q, Position::Cash(amount)))
+            book::lodge(book, p, q, Position::Cash(amount)).shown()
         }
         Request::LodgeLetter(p, q, amount, first, last) => {
-            shown::outcome_shown(book::lodge(book, p, q, Position::Letter(amount, first, last)))
+            book::lodge(book, p, q, Position::Letter(amount, first, last)).shown()
         }
-        Request::Release(p, q, amount) => shown::outcome_shown(book::release(book, p, q, amount)),
+        Request::Release(p, q, amount) => book::release(book, p, q, amount).shown(),
         Request::Settle(p, month, n) => {
-            shown::settled_shown(book::settle(book, p, month, front(numbers, n)))
+            book::settle(book, p, month, parted(numbers, n).0).shown()
         }
-        Request::Annual(p) => shown::annual_shown(book::annual_run(book, p)),
-        Request::Advance(day, budget) => shown::advanced_shown(book::advance(book, day, budget)),
-        Request::Statement(p) => shown::stated_shown(book::statement(book, p)),
+        Request::Annual(p) => book::annual_run(book, p).shown(),
+        Request::Advance(day, budget) => book::advance(book, day, budget).shown(),
+        Request::Statement(p) => book::statement(book, p).shown(),
         Request::Calls => Answer::Calls(book::calls_made(book)),
-        Request::Special(n) => guarantee(n, numbers),
-        Request::Batch(n) => shown::loaded_shown(load_file(book, numbers, n)),
-        Request::RoleRetired => Answer::Nothing,
-        Request::Report => Answer::Nothing,
+        Request::Special(n) => given(guarantee(n, numbers), Answer::Special),
+        Request::Batch(n) => {
+            given(
+                load_file(book, numbers, n),
+                |parts| Answer::Batch(parts as u64),
+            )
+        },
         Request::Error(why) => Answer::Error(line, why),
     }
 }
@@ -60,8 +65,8 @@ pub fn apply_by_old_rule(book: &mut [u64], request: Request, numbers: &[i64], li
     requires { WellFormed book.old }
     ensures { AnsweredWords old_rule book.old line (asked request numbers.now) result book.new }
 {
-    let Request::Admit(p, role) = request else {
-        return apply(book, request, numbers, line);
-    };
-    shown::outcome_shown(book::admit_by_old_rule(book, p, role))
+    match request {
+        Request::Admit(p, role) => book::admit_by_old_rule(book, p, role).shown(),
+        other => apply(book, other, numbers, line),
+    }
 }

@@ -2,6 +2,7 @@
 #![tactic(auto)]
 
 mod shown; // shown.rt: the answers of the book's calls as answers of the journal
+mod rows; // rows.rt: numbers in a row
 mod guarantee; // guarantee.rt: the special guarantee of lists in a row
 mod batches; // batches.rt: a batch whose bytes stand as numbers in a row
 mod calls; // calls.rt: the application of one call

@@ -10,7 +10,8 @@ pub fn request_of(line: &[u8], long: bool, kept: u64, numbers: &mut [i64]) -> Re
     ensures { LineIs long kept line.now numbers.old result numbers.new }
 {
     if long {
-        return Request::Error(Reason::TooLong);
+        Request::Error(Reason::TooLong)
+    } else {
+        first_only(parse(line, numbers), kept)
     }
-    first_only(parse(line, numbers), kept)
 }

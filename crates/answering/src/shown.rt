@@ -1,82 +1,112 @@
-// The answers of the book's calls and of the special guarantee, as answers of the journal.
-ghost use Rattle.std.specs.Prelude.{◌≡◌};
-ghost use Rattle.file.specs.Answer.{outcome_says, settled_says, annual_says};
-ghost use Rattle.book.specs.Call.{advanced_says, stated_says, loaded_says};
-ghost use Rattle.answering.specs.Shown.{shown, guarantee_shown};
+// The answers of the book's calls, as answers of the journal.
+ghost use Rattle.std.specs.Prelude.{◌≡◌, MatchResult};
+ghost use Rattle.std.specs.Result.{ForOk};
+ghost use Rattle.file.specs.Answer.{Answer as Said·Answer, refused, refused_pair, done, annual, days_opened, says as Answer·says, settlement_says, statement_says};
+ghost use Rattle.refusal.specs.Numbers.{number_of};
+ghost use Rattle.answering.specs.Shown.{shown};
 
-use book::{Advanced, Loaded, Stated};
-use file::{AnnualRun, Outcome, Settled};
+use batch::Misfit;
+use file::{AnnualRun, Settled, Statement};
 use printing::Answer;
-use special::Special;
+use refusal::Refusal;
 
-// The answer of a fresh book, an admission, a lodging or a release.
-pub fn outcome_shown(answer: Outcome) -> Answer
-    ensures { result ≡ shown (outcome_says answer) }
-{
-    match answer {
-        Outcome::Done => Answer::Done,
-        Outcome::Refused(n) => Answer::Refused(n),
+// What the book answers, and how the journal shows it.
+pub trait Shown {
+    ghost says: { Self → Said·Answer };
+
+    fn shown(self) -> Answer
+        ensures { result ≡ shown (says self) };
+}
+
+// A fresh book, an admission, a lodging or a release that is done.
+impl Shown for () {
+    ghost says = { λ x. done };
+
+    fn shown(self) -> Answer {
+        Answer::Done
     }
 }
 
-// The answer of a settlement.
-pub fn settled_shown(answer: Settled) -> Answer
-    ensures { result ≡ shown (settled_says answer) }
-{
-    match answer {
-        Settled::Called(e, asked, last) => Answer::Called(e, asked, last),
-        Settled::Covered(e) => Answer::Covered(e),
-        Settled::Recorded(e) => Answer::Recorded(e),
-        Settled::Refused(n) => Answer::Refused(n),
+// A settlement.
+impl Shown for Settled {
+    ghost says = { settlement_says };
+
+    fn shown(self) -> Answer {
+        match self {
+            Settled::Called(e, asked, last) => Answer::Called(e, asked, last),
+            Settled::Covered(e) => Answer::Covered(e),
+            Settled::Recorded(e) => Answer::Recorded(e),
+        }
     }
 }
 
-// The answer of an annual run.
-pub fn annual_shown(answer: AnnualRun) -> Answer
-    ensures { result ≡ shown (annual_says answer) }
-{
-    match answer {
-        AnnualRun::Amount(amount, months) => Answer::Annual(amount, months),
-        AnnualRun::Refused(n) => Answer::Refused(n),
+// An annual run.
+impl Shown for AnnualRun {
+    ghost says = { λ run. annual run.amount run.months };
+
+    fn shown(self) -> Answer {
+        Answer::Annual(self.amount, self.months)
     }
 }
 
-// The answer of an advance.
-pub fn advanced_shown(answer: Advanced) -> Answer
-    ensures { result ≡ shown (advanced_says answer) }
-{
-    match answer {
-        Advanced::Opened(days) => Answer::Opened(days),
-        Advanced::Refused(n) => Answer::Refused(n),
+// The days that an advance opened.
+impl Shown for u32 {
+    ghost says = { days_opened };
+
+    fn shown(self) -> Answer {
+        Answer::Opened(self)
     }
 }
 
-// The answer of a batch.
-pub fn loaded_shown(answer: Loaded) -> Answer
-    ensures { result ≡ shown (loaded_says answer) }
-{
-    match answer {
-        Loaded::Parts(n) => Answer::Batch(n as u64),
-        Loaded::Refused(n, pair) => Answer::RefusedPair(n, pair as u64),
+// A statement.
+impl Shown for Statement {
+    ghost says = { statement_says };
+
+    fn shown(self) -> Answer {
+        Answer::Statement(
+            self.firm,
+            self.cover,
+            self.shortfall,
+            self.charged,
+            self.accrued,
+        )
     }
 }
 
-// The answer of the question for a statement.
-pub fn stated_shown(answer: Stated) -> Answer
-    ensures { result ≡ shown (stated_says answer) }
-{
-    match answer {
-        Stated::Is(s) => Answer::Statement(s.firm, s.cover, s.shortfall, s.charged, s.accrued),
-        Stated::Refused(n) => Answer::Refused(n),
+// A refusal, by its number.
+impl Shown for Refusal {
+    ghost says = { λ r. refused (number_of r) };
+
+    fn shown(self) -> Answer {
+        Answer::Refused(self.number())
     }
 }
 
-// The answer of a special guarantee.
-pub fn guarantee_shown(answer: Special) -> Answer
-    ensures { result ≡ guarantee_shown answer }
-{
-    match answer {
-        Special::Guarantee(cents) => Answer::Special(cents),
-        Special::Refused(n) => Answer::Refused(n),
+// What a call gives, or its refusal.
+impl<T: Shown> Shown for Result<T, Refusal> {
+    ghost says = { Answer·says T.says };
+
+    fn shown(self) -> Answer {
+        match self {
+            Ok(value) => value.shown(),
+            Err(refusal) => refusal.shown(),
+        }
     }
+}
+
+// Why a batch made no settlement, and the index of the pair.
+impl Shown for Misfit {
+    ghost says = { λ m. refused_pair (number_of m.refusal) m.pair };
+
+    fn shown(self) -> Answer {
+        Answer::RefusedPair(self.refusal.number(), self.pair as u64)
+    }
+}
+
+// What a call gives, shown by a rule, or why it gives nothing.
+pub fn given<T, E: Shown, F: FnOnce(T) -> Answer>(value: Result<T, E>, show: F) -> Answer
+    requires { ForOk value (F.pre show) }
+    ensures { MatchResult value (λ x. F.post show x result) (λ e. result ≡ shown (E.says e)) }
+{
+    value.map_or_else(Shown::shown, show)
 }

@@ -1,68 +1,61 @@
--- Numbers of two, four and eight bytes from those of half as many, and 64 bits as a signed number.
+-- Numbers of two, four and eight bytes, least byte first, and 64 bits as a signed number.
 -- Assumes nothing.
-use Prim.Native.Nat.{ℕ, suc, ◌+◌, ◌*◌, ◌-◌, ◌≤◌, ◌<◌}
+use Prim.Native.Nat.{ℕ, suc, ◌+◌, ◌-◌, ◌<◌}
 use native.Mathlib.Omega.{arith}
-use native.Mathlib.Numerals.{add-one}
 use mathlib.Core.Path.{◌≡◌, sym, ap, ◌∙◌}
 use mathlib.Core.List.{List}
-use borrow.Author.Rules.{sfits_of}
-use borrow.Author.Tests.{lt-ltb, le-ltb}
-use mir.Facts.{to_z-of_z, to_z_pos}
-use mir.Syntax.{w64}
-use mir.Val.{SFits, to_z}
+use borrow.Author.Tests.{ltb-true}
+use mir.Syntax.{w16, w32, w64}
+use mir.Val.{to_z}
+use mir.Facts.{to_z_pos}
 use lib.Dec.{ltb}
-use lib.IntN.{pos, negsuc, ◌-ℤ◌}
-use lib.ListN.{length, get_or, get_or-eq_default}
-use Rattle.laws.specs.Cases.{cond-true, cond-false}
-use Rattle.laws.specs.Read.{read}
-use Rattle.laws.specs.Magnitudes.{less-pos}
-use Rattle.batch.specs.Bytes.{number_at, signed_of}
+use lib.IntN.{pos, negsuc}
+use lib.ListN.{get_or}
+use Rattle.std.specs.Int.{from_le_bytes}
+use Rattle.laws.specs.Cases.{split, cond-true}
+use Rattle.batch.specs.Bytes.{number_at, signed_of, BytesAt}
 
--- There is no byte behind the end.
-pub none-behind : (file : List ℕ) (at : ℕ) → length file ≤ at → 0 ≡ get_or file at 0
-none-behind file at h = sym (get_or-eq_default file 0 h)
+module _ (file bytes : List ℕ) (at : ℕ) where
+  -- a byte, where its place is counted up
+  byte : (n : ℕ) → BytesAt file at n bytes → (i k : ℕ) → i < n → at + i ≡ k → get_or bytes i 0 ≡ get_or file k 0
+  byte n b i k h e = b.each i h ∙ ap (λ (m : ℕ). get_or file m 0) e
 
--- Two bytes.
-pub two_bytes : (file : List ℕ) (at a b : ℕ) → a ≡ get_or file at 0 → b ≡ get_or file (at + 1) 0 → a + 256 * b ≡ number_at file at 2
-unfolding number_at
-two_bytes file at a b e f =
-    let g : b ≡ get_or file (suc at) 0 = f ∙ ap (λ (k : ℕ). get_or file k 0) (add-one at) in
-    omega arith
+  pub le_two : BytesAt file at 2 bytes → from_le_bytes w16 bytes ≡ number_at file at 2
+  unfolding number_at
+  le_two b =
+      let b0 = byte 2 b 0 at (omega arith) (omega arith) in
+      let b1 = byte 2 b 1 (suc at) (omega arith) (omega arith) in
+      omega arith
 
--- Four bytes.
-pub four_bytes : (file : List ℕ) (at a b : ℕ) → a ≡ number_at file at 2 → b ≡ number_at file (at + 2) 2 → a + 65536 * b ≡ number_at file at 4
-unfolding number_at
-four_bytes file at a b e f =
-    let two : at + 2 ≡ suc (suc at) = omega arith in
-    let g : b ≡ number_at file (suc (suc at)) 2 = f ∙ ap (λ (k : ℕ). number_at file k 2) two in
-    omega arith
+  pub le_four : BytesAt file at 4 bytes → from_le_bytes w32 bytes ≡ number_at file at 4
+  unfolding number_at
+  le_four b =
+      let b0 = byte 4 b 0 at (omega arith) (omega arith) in
+      let b1 = byte 4 b 1 (suc at) (omega arith) (omega arith) in
+      let b2 = byte 4 b 2 (suc (suc at)) (omega arith) (omega arith) in
+      let b3 = byte 4 b 3 (suc (suc (suc at))) (omega arith) (omega arith) in
+      omega arith
 
--- Eight bytes.
-pub eight-bytes : (file : List ℕ) (at a b : ℕ) → a ≡ number_at file at 4 → b ≡ number_at file (at + 4) 4 → a + 4294967296 * b ≡ number_at file at 8
-unfolding number_at
-eight-bytes file at a b e f =
-    let four : at + 4 ≡ suc (suc (suc (suc at))) = omega arith in
-    let g : b ≡ number_at file (suc (suc (suc (suc at)))) 4 = f ∙ ap (λ (k : ℕ). number_at file k 4) four in
-    omega arith
+  pub le_eight : BytesAt file at 8 bytes → from_le_bytes w64 bytes ≡ number_at file at 8
+  unfolding number_at
+  le_eight b =
+      let b0 = byte 8 b 0 at (omega arith) (omega arith) in
+      let b1 = byte 8 b 1 (suc at) (omega arith) (omega arith) in
+      let b2 = byte 8 b 2 (suc (suc at)) (omega arith) (omega arith) in
+      let b3 = byte 8 b 3 (suc (suc (suc at))) (omega arith) (omega arith) in
+      let b4 = byte 8 b 4 (suc (suc (suc (suc at)))) (omega arith) (omega arith) in
+      let b5 = byte 8 b 5 (suc (suc (suc (suc (suc at))))) (omega arith) (omega arith) in
+      let b6 = byte 8 b 6 (suc (suc (suc (suc (suc (suc at)))))) (omega arith) (omega arith) in
+      let b7 = byte 8 b 7 (suc (suc (suc (suc (suc (suc (suc at))))))) (omega arith) (omega arith) in
+      omega arith
 
--- From 0 on.
-pub signed-natural : (w : ℕ) → w < 9223372036854775808 → to_z w64 w ≡ signed_of w
+-- 64 bits from 2^63 on are a number below 0.
+pub signed-bits : (w : ℕ) → to_z w64 w ≡ signed_of w
 unfolding signed_of
-signed-natural w h =
-    to_z_pos w64 h ∙ sym (cond-true (ltb w 9223372036854775808) (pos w) (negsuc (18446744073709551615 - w)) (lt-ltb w 9223372036854775808 h))
+signed-bits w =
+    split (ltb w 9223372036854775808)
+    (λ t. to_z_pos w64 (ltb-true w 9223372036854775808 t) ∙ sym (cond-true (ltb w 9223372036854775808) (pos w) (negsuc (18446744073709551615 - w)) t))
+    (λ f. let e : 18446744073709551616 - suc w ≡ 18446744073709551615 - w = omega arith in rw f (ap negsuc e))
 
--- Below 0.
-module _ (w : ℕ) (h : 9223372036854775808 ≤ w) where
-  flipped : negsuc 0 -ℤ to_z w64 (18446744073709551615 - w) ≡ negsuc (18446744073709551615 - w)
-  flipped =
-      let small : 18446744073709551615 - w < 9223372036854775808 = omega arith in
-      ap (λ z. negsuc 0 -ℤ z) (to_z_pos w64 small) ∙ less-pos (18446744073709551615 - w)
-
-  pub fits_below : SFits w64 (negsuc 0 -ℤ to_z w64 (18446744073709551615 - w))
-  fits_below = rw flipped (sfits_of (omega arith))
-
-  pub signed_below : read (negsuc 0 -ℤ to_z w64 (18446744073709551615 - w)) ≡ signed_of w
-  unfolding signed_of
-  signed_below =
-      to_z-of_z fits_below ∙ flipped
-      ∙ sym (cond-false (ltb w 9223372036854775808) (pos w) (negsuc (18446744073709551615 - w)) (le-ltb w 9223372036854775808 h))
+pub eight_signed : (file bytes : List ℕ) (at : ℕ) → BytesAt file at 8 bytes → to_z w64 (from_le_bytes w64 bytes) ≡ signed_of (number_at file at 8)
+eight_signed file bytes at b = signed-bits (from_le_bytes w64 bytes) ∙ ap signed_of (le_eight file bytes at b)

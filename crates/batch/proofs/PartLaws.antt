@@ -1,20 +1,12 @@
--- A part from its bytes, and the sum of its figures.
+-- A part from its bytes, and its figures.
 -- Assumes nothing.
-use Prim.Native.Nat.{ℕ, ◌+◌, ◌*◌, ◌≤◌, ◌<◌}
+use Prim.Native.Nat.{ℕ, ◌+◌, ◌*◌, ◌<◌}
 use native.Mathlib.Omega.{arith}
-use mathlib.Core.Path.{◌≡◌, sym, ap, subst, ◌∙◌}
-use mathlib.Core.Bool.{Bool, true, false, ◌||◌}
+use mathlib.Core.Path.{◌≡◌, sym, ap, ◌∙◌}
 use mathlib.Core.List.{List}
-use mir.Syntax.{w64}
-use mir.Val.{SFits, to_z, of_z}
-use lib.Dec.{leb, ltb}
-use lib.IntN.{ℤ, pos, nat_abs, ◌+ℤ◌}
+use lib.IntN.{ℤ, pos}
 use lib.ListN.{length, get_or}
-use Rattle.laws.specs.Read.{read}
 use Rattle.laws.specs.Tabulated.{length-table, get_d-table}
-use Rattle.manual.specs.declared.Sum.TheVariants.{Total, Refused}
-use Rattle.manual.specs.Figures.{bound, summed}
-use Rattle.manual.proofs.Sums.{SoFar, wrong-number, out_of_range_lem, sum_fits, sum-again, sum-ends}
 use Rattle.batch.specs.Bytes.{number_at, signed_of}
 use Rattle.batch.specs.Batch.{offset_at, participant_at, rows_at, figures_behind}
 use Rattle.batch.specs.Parts.{part_of, PartIs}
@@ -38,42 +30,11 @@ part-is file i p r o e f g h l =
 -- ---- the figures
 
 module _ (file : List ℕ) (offset rows : ℕ) where
-  abbrev l : List ℤ
-  l = figures_behind file offset rows
-
-  long : length l ≡ rows
+  pub many_figures : length (figures_behind file offset rows) ≡ rows
   unfolding figures_behind
-  long = length-table rows (λ k. signed_of (number_at file (offset + 2 + 8 * k) 8))
+  many_figures = length-table rows (λ k. signed_of (number_at file (offset + 2 + 8 * k) 8))
 
-  -- The figure at k, as the code reads it, and whether it is within its bound.
-  module _ (k w : ℕ) (s r : ℤ) (t : Bool) (h : k < rows) (few : rows ≤ 16) (word : w ≡ number_at file (offset + 2 + 8 * k) 8) (figure : r ≡ signed_of w)
-      (fits : SFits w64 r) (said : t ≡ leb (nat_abs (read r)) bound) (inv : SoFar l s k) where
-    figure-is : r ≡ get_or l k (pos 0)
-    unfolding figures_behind
-    figure-is =
-        figure ∙ ap signed_of word ∙ sym (get_d-table rows (λ k. signed_of (number_at file (offset + 2 + 8 * k) 8)) k (pos 0) h)
-
-    there : SFits w64 (get_or l k (pos 0))
-    there = subst (SFits w64) figure-is fits
-
-    found : t ≡ leb (nat_abs (read (get_or l k (pos 0)))) bound
-    found = said ∙ ap (λ (z : ℤ). leb (nat_abs (read z)) bound) figure-is
-
-    pub part_out : 5 ≤ rows → t ≡ false → Refused 11 ≡ summed l
-    part_out some f = out_of_range_lem t l s k there (omega (arith, long)) (omega (arith, long)) found inv (omega (arith, long)) f
-
-    pub part-fits : t ≡ true → SFits w64 (s +ℤ read r)
-    part-fits e =
-        subst (λ (z : ℤ). SFits w64 (s +ℤ read z)) (sym figure-is)
-        (sum_fits t l s k there (omega (arith, long)) (omega (arith, long)) found inv e)
-
-    pub part-again : t ≡ true → SoFar l (to_z w64 (of_z w64 (s +ℤ read r))) (k + 1)
-    part-again e =
-        subst (λ (z : ℤ). SoFar l (to_z w64 (of_z w64 (s +ℤ read z))) (k + 1)) (sym figure-is)
-        (sum-again t l s k there (omega (arith, long)) (omega (arith, long)) found inv e)
-
-  pub part-ends : (s : ℤ) (k : ℕ) → rows ≤ k → 5 ≤ rows → rows ≤ 16 → SoFar l s k → Total s ≡ summed l
-  part-ends s k h some few inv = sum-ends l s k (omega (arith, long)) (omega (arith, long)) (omega (arith, long)) inv
-
-  pub part-wrong : (t : Bool) → t ≡ (ltb rows 5 || ltb 16 rows) → t ≡ true → Refused 10 ≡ summed l
-  part-wrong t said h = wrong-number t rows said l (sym long) h
+  pub figure_is : (k : ℕ) (x : ℤ) → k < rows → x ≡ signed_of (number_at file (offset + 2 + 8 * k) 8)
+      → x ≡ get_or (figures_behind file offset rows) k (pos 0)
+  unfolding figures_behind
+  figure_is k x h e = e ∙ sym (get_d-table rows (λ k. signed_of (number_at file (offset + 2 + 8 * k) 8)) k (pos 0) h)

@@ -1,12 +1,12 @@
 -- A batch: the file of one month for all participants. Paper 02, Ask 1. What both accounts of the book share of it is here: what its bytes say,
 -- and whether they are a batch at all.
 -- Assumes nothing.
-use Rattle.std.specs.Prelude.{ℕ, zero, suc, ◌+◌, ◌*◌, ◌-◌, min, Bool, false, not, ◌&&◌, ◌||◌, List, [], ◌∷◌, leb, ltb, eqb, length, get_or, ℤ}
-use Rattle.laws.specs.Causes.{decide}
+use Rattle.std.specs.Prelude.{ℕ, zero, suc, ◌+◌, ◌*◌, ◌-◌, min, Bool, false, not, cond, ◌&&◌, ◌||◌, List, leb, ltb, eqb, length, get_or, Option, Some, None, Result, Ok, Err, ℤ}
 use Rattle.laws.specs.Least.{least}
 use Rattle.laws.specs.Lists.{table}
-use Rattle.batch.specs.declared.Form.{Form}
-use Rattle.batch.specs.declared.Form.TheVariants.{Parts, Refused}
+use Rattle.refusal.specs.declared.Refusal.{Refusal}
+use Rattle.refusal.specs.declared.Refusal.TheVariants.{BatchTooShort, PartsMisplaced, WrongPart}
+use Rattle.batch.specs.declared.Misfit.{Misfit}
 use Rattle.batch.specs.Bytes.{number_at, signed_of}
 
 -- "month (2 bytes), count n (2 bytes, 1 to 64)"
@@ -79,13 +79,17 @@ unfoldable pub first_wrong : List ℕ → ℕ
 first_wrong file = least (wrong_part file) (count_in file)
 
 -- A cause with the pair whose index its refusal has.
-unfoldable pub refused_if : (number pair : ℕ) → Bool → Form → Form
-refused_if number pair holds form = decide (λ n. Refused n pair) (record { number = number; holds = holds } ∷ []) form
+unfoldable pub refused_if : Refusal → (pair : ℕ) → Bool → Result ℕ Misfit → Result ℕ Misfit
+refused_if refusal pair holds form = cond holds (Err (record { refusal = refusal; pair = pair })) form
 
 -- What a file is: a batch of n parts, or refused: "all three come before any settlement, in that order". "The index is 0 for answer 20, n − 1
 -- where only the end of the file is wrong, and the later pair's for a participant twice."
-unfoldable pub form_of : List ℕ → Form
+unfoldable pub form_of : List ℕ → Result ℕ Misfit
 form_of file =
-    refused_if 20 0 (too_short file)
-    (refused_if 21 (min (first_misplaced file) (count_in file - 1)) (not_following file)
-    (refused_if 22 (first_wrong file) (ltb (first_wrong file) (count_in file)) (Parts (count_in file))))
+    refused_if BatchTooShort 0 (too_short file)
+    (refused_if PartsMisplaced (min (first_misplaced file) (count_in file - 1)) (not_following file)
+    (refused_if WrongPart (first_wrong file) (ltb (first_wrong file) (count_in file)) (Ok (count_in file))))
+
+-- A place below n, or none where it is n.
+abbrev pub below : ℕ → ℕ → Option ℕ
+below k n = cond (ltb k n) (Some k) None

@@ -1,27 +1,27 @@
 -- What a batch that is not refused says of its pairs.
 -- Assumes nothing.
-use Rattle.std.specs.Prelude.{ℕ, zero, suc, ◌+◌, ◌*◌, ◌<◌, ◌≤◌, ◌-◌, min, ◌≡◌, refl, Bool, true, false, not, ◌&&◌, List, leb, ltb, eqb, length}
+use Rattle.std.specs.Prelude.{ℕ, zero, suc, ◌+◌, ◌*◌, ◌<◌, ◌≤◌, ◌-◌, min, ◌≡◌, refl, Bool, true, false, not, ◌&&◌, List, leb, ltb, eqb, length, Result, Ok, Err}
 use Rattle.std.proofs.Common.{arith, sym, ap, ◌∙◌, leb-true, ltb-true, ltb-false, eqb-true}
 use Rattle.std.proofs.lemmas.Bool.{eqb-false}
-use Rattle.laws.specs.Causes.{decide}
 use Rattle.laws.specs.Cases.{split, clash, or-first, or-second, and_left, and_right}
 use Rattle.laws.specs.Least.{NoneBelow, none_below}
-use Rattle.batch.specs.declared.Form.{Form}
-use Rattle.batch.specs.declared.Form.TheVariants.{Parts, Refused}
+use Rattle.refusal.specs.declared.Refusal.{Refusal}
+use Rattle.refusal.specs.declared.Refusal.TheVariants.{BatchTooShort, PartsMisplaced, WrongPart}
+use Rattle.batch.specs.declared.Misfit.{Misfit}
 use Rattle.batch.specs.Batch.{count_in, offset_at, length_at, end_at, begins_at, participant_at, rows_at, too_short}
 use Rattle.batch.specs.Batch.{misplaced, first_misplaced, not_following, is_before, wrong_length, wrong_part, first_wrong, refused_if, form_of}
 
 -- Whether a form is a batch.
-abbrev pub is_batch : Form → Bool
-is_batch (Parts n) = true
-is_batch (Refused n i) = false
+abbrev pub is_batch : Result ℕ Misfit → Bool
+is_batch (Ok n) = true
+is_batch (Err misfit) = false
 
 -- A cause that holds makes no batch of a file; one that does not leaves what the others say.
-not-refused : (number pair : ℕ) (holds : Bool) (form : Form) → is_batch (refused_if number pair holds form) ≡ true
-    → (holds ≡ false) × (refused_if number pair holds form ≡ form)
-unfolding refused_if decide
-not-refused number pair true form e = clash {t = false} e refl
-not-refused number pair false form e = (refl, refl)
+not-refused : (refusal : Refusal) (pair : ℕ) (holds : Bool) (form : Result ℕ Misfit) → is_batch (refused_if refusal pair holds form) ≡ true
+    → (holds ≡ false) × (refused_if refusal pair holds form ≡ form)
+unfolding refused_if
+not-refused refusal pair true form e = clash {t = false} e refl
+not-refused refusal pair false form e = (refl, refl)
 
 -- The double negation of a test.
 not-not : (t : Bool) → not t ≡ false → t ≡ true
@@ -30,7 +30,7 @@ not-not false e = sym e
 
 -- What holds of a batch: none of the three causes, and it has from 1 to 64 parts.
 pub record Whole (file : List ℕ) : Type 0 where
-  pub form : form_of file ≡ Parts (count_in file)
+  pub form : form_of file ≡ Ok (count_in file)
   pub some : 1 ≤ count_in file
   pub most : count_in file ≤ 64
   pub follows : NoneBelow (misplaced file) (count_in file)
@@ -41,11 +41,11 @@ pub whole : (file : List ℕ) → is_batch (form_of file) ≡ true → Whole fil
 unfolding form_of too_short not_following first_misplaced first_wrong
 whole file e =
     let n = count_in file in
-    let third = refused_if 22 (first_wrong file) (ltb (first_wrong file) n) (Parts n) in
-    let second = refused_if 21 (min (first_misplaced file) (n - 1)) (not_following file) third in
-    let a = not-refused 20 0 (too_short file) second e in
-    let b = not-refused 21 (min (first_misplaced file) (n - 1)) (not_following file) third (ap is_batch (sym a.1) ∙ e) in
-    let c = not-refused 22 (first_wrong file) (ltb (first_wrong file) n) (Parts n) (ap is_batch (sym (a.1 ∙ b.1)) ∙ e) in
+    let third = refused_if WrongPart (first_wrong file) (ltb (first_wrong file) n) (Ok n) in
+    let second = refused_if PartsMisplaced (min (first_misplaced file) (n - 1)) (not_following file) third in
+    let a = not-refused BatchTooShort 0 (too_short file) second e in
+    let b = not-refused PartsMisplaced (min (first_misplaced file) (n - 1)) (not_following file) third (ap is_batch (sym a.1) ∙ e) in
+    let c = not-refused WrongPart (first_wrong file) (ltb (first_wrong file) n) (Ok n) (ap is_batch (sym (a.1 ∙ b.1)) ∙ e) in
     let count = not-not (leb 1 n && leb n 64) (or-first _ _ (or-second (ltb (length file) 4) _ a.0)) in
     record {
       form = a.1 ∙ b.1 ∙ c.1;

@@ -1,102 +1,89 @@
 // Whether a file is a batch: its three causes of refusal, in their order.
 ghost use Rattle.std.specs.Prelude.{◌≡◌};
-ghost use Rattle.batch.specs.Batch.{too_short, misplaced as Batch·misplaced, first_misplaced, wrong_length, first_wrong, form_of};
+ghost use Rattle.batch.specs.Batch.{too_short, misplaced as Batch·misplaced, first_misplaced, wrong_length, first_wrong, count_in, below, form_of};
 
-use crate::Form;
-use crate::pairs::{begins_at, count, end_at, length_at, offset_at, participant_at};
-use crate::parts::part_in;
+use crate::Misfit;
+use crate::pairs::count;
+use crate::reader::BatchReader;
+use refusal::Refusal;
 
 // Whether a file is too short for its pairs, or has none or more than 64 of them.
+#[tactic(auto, unfolding(crate::specs::Batch::too_short))]
 fn too_short(file: &[u8]) -> bool
     ensures { result ≡ too_short file.now }
 {
     let n = count(file);
-    if file.len() < 4 {
-        return true;
-    }
-    if n < 1 {
-        return true;
-    }
-    if 64 < n {
-        return true;
-    }
-    file.len() < 4 + 8 * (n as usize)
+    file.len() < 4 || n < 1 || 64 < n || file.len() < 4 + 8 * (n as usize)
 }
 
 // Whether a pair's part does not begin where it must.
-fn misplaced(file: &[u8], i: u32) -> bool
-    ensures { result ≡ Batch·misplaced file.now i }
+#[tactic(auto, unfolding(crate::specs::Batch::misplaced))]
+fn misplaced(pair: BatchReader) -> bool
+    ensures { result ≡ Batch·misplaced pair.entry.file.now pair.entry.at }
 {
-    let offset = offset_at(file, i) as u64;
-    offset != begins_at(file, i)
+    pair.offset() as u64 != pair.begins()
 }
 
-// The first pair whose part does not begin where it must, or the count of pairs.
-fn first_misplaced(file: &[u8]) -> u32
-    ensures { result ≡ first_misplaced file.now }
+// The first pair whose part does not begin where it must.
+fn first_misplaced(file: &[u8]) -> Option<u32>
+    ensures { result ≡ below (first_misplaced file.now) (count_in file.now) }
 {
-    let n = count(file);
-    let mut i = 0;
-    while i < n {
-        if misplaced(file, i) {
-            return i;
-        }
-        i += 1;
-    }
-    n
+    (0..count(file)).find(|i| misplaced(BatchReader::new(file).moved(*i)))
 }
 
 // Whether the length of a pair is not that of its part.
-fn wrong_length(file: &[u8], i: u32) -> bool
-    ensures { result ≡ wrong_length file.now i }
+#[tactic(auto, unfolding(crate::specs::Batch::wrong_length))]
+fn wrong_length(pair: BatchReader) -> bool
+    ensures { result ≡ wrong_length pair.entry.file.now pair.entry.at }
 {
-    let length = length_at(file, i) as usize;
-    let part = part_in(file, i);
-    if length < 2 {
-        return true;
-    }
-    length != 2 + 8 * part.rows
+    let length = pair.length() as usize;
+    length < 2 || length != 2 + 8 * pair.part().rows
 }
 
-// The first pair whose length is wrong or whose participant is that of a pair before it, or the count of pairs.
-fn first_wrong(file: &[u8]) -> u32
-    ensures { result ≡ first_wrong file.now }
+// The first pair whose length is wrong or whose participant is that of a pair before it.
+fn first_wrong(file: &[u8]) -> Option<u32>
+    ensures { result ≡ below (first_wrong file.now) (count_in file.now) }
 {
-    let n = count(file);
     let mut seen = [false; 256];
-    let mut i = 0;
-    while i < n {
-        let p = participant_at(file, i) as usize;
-        if wrong_length(file, i) {
-            return i;
-        }
-        if seen[p] {
-            return i;
+    for i in 0..count(file) {
+        let pair = BatchReader::new(file).moved(i);
+        let p = pair.participant() as usize;
+        if wrong_length(pair) || seen[p] {
+            return Some(i);
         }
         seen[p] = true;
-        i += 1;
     }
-    n
+    None
 }
 
-// What a file is.
-pub fn form_of(file: &[u8]) -> Form
+// What a file is: a batch of so many parts, or its first misfit.
+pub fn form_of(file: &[u8]) -> Result<u32, Misfit>
     ensures { result ≡ form_of file.now }
 {
     if too_short(file) {
-        return Form::Refused(20, 0);
+        return Err(Misfit {
+            refusal: Refusal::BatchTooShort,
+            pair: 0,
+        });
     }
     let n = count(file);
-    let first = first_misplaced(file);
-    if first < n {
-        return Form::Refused(21, first);
+    if let Some(pair) = first_misplaced(file) {
+        return Err(Misfit {
+            refusal: Refusal::PartsMisplaced,
+            pair,
+        });
     }
-    if end_at(file, n - 1) != file.len() as u64 {
-        return Form::Refused(21, n - 1);
+    if BatchReader::new(file).moved(n - 1).end() != file.len() as u64 {
+        return Err(Misfit {
+            refusal: Refusal::PartsMisplaced,
+            pair: n - 1,
+        });
     }
-    let wrong = first_wrong(file);
-    if wrong < n {
-        return Form::Refused(22, wrong);
+    if let Some(pair) = first_wrong(file) {
+        return Err(Misfit {
+            refusal: Refusal::WrongPart,
+            pair,
+        });
     }
-    Form::Parts(n)
+    Ok(n)
 }

@@ -2,19 +2,20 @@
 #![tactic(auto)]
 
 mod bytes; // bytes.rt: numbers in the bytes of a file
-mod pairs; // pairs.rt: what a file says of its month, its pairs and their parts
-mod parts; // parts.rt: one part, and its figures
+mod pairs; // pairs.rt: what a file says of its month and its count of pairs
+mod parts; // parts.rt: one part, and the sum of its figures
 mod checks; // checks.rt: whether a file is a batch
-pub mod reader; // reader.rt: the reader of a file's parts
+pub mod reader; // reader.rt: the reader of a file's pairs and parts
 
 pub use checks::form_of;
 pub use pairs::month;
 pub use parts::{Part, sum_part};
 pub use reader::{BatchReader, part_at};
+use refusal::Refusal;
 
-// What a file is: a batch of so many parts, or the number of its refusal and the index of the pair that it concerns.
-#[derive(Clone, Copy)]
-pub enum Form {
-    Parts(u32),
-    Refused(u32, u32),
+// Why a batch is refused, and the index of the pair that it concerns.
+#[derive(Clone, Copy, PartialEq, Eq)]
+pub struct Misfit {
+    pub refusal: Refusal,
+    pub pair: u32,
 }

@@ -2,54 +2,31 @@
 ghost use Rattle.std.specs.Prelude.{◌≡◌, ◌+◌, ◌*◌, ◌≤◌, length};
 ghost use Rattle.manual.specs.Figures.{summed};
 ghost use Rattle.batch.specs.Batch.{figures_behind};
-ghost use Rattle.batch.specs.Parts.{PartIs};
+ghost use Rattle.batch.specs.Bytes.{number_at, signed_of};
 
-use crate::bytes::{byte_at, eight_at, signed};
-use crate::pairs::offset_at;
-use manual::Sum;
-use manual::figures::{within, wrong_count};
+use crate::bytes::signed8;
+use manual::figures::sum_of_figures;
+use refusal::Refusal;
 
 // A part: its participant, how many figures it has, and where it begins.
-#[derive(Clone, Copy)]
+#[derive(Clone, Copy, PartialEq, Eq)]
 pub struct Part {
     pub participant: u64,
     pub rows: usize,
     pub offset: usize,
 }
 
-// The part of a pair.
-pub fn part_in(file: &[u8], at: u32) -> Part
-    ensures { PartIs file.now at result }
-{
-    let offset = offset_at(file, at) as usize;
-    let participant = byte_at(file, offset) as u64;
-    let rows = byte_at(file, offset + 1) as usize;
-    Part {
-        participant,
-        rows,
-        offset,
-    }
-}
-
 // The sum of the figures of a part that lies in the file, or the first of the causes 10 and 11 that holds.
-pub fn sum_part(file: &[u8], part: Part) -> Sum
+pub fn sum_part(file: &[u8], part: Part) -> Result<i64, Refusal>
     requires { part.offset + 2 + 8 * part.rows ≤ length file.now }
     ensures { result ≡ summed (figures_behind file.now part.offset part.rows) }
 {
-    let rows = part.rows;
-    if wrong_count(rows) {
-        return Sum::Refused(10);
-    }
     let offset = part.offset;
-    let mut total: i64 = 0;
-    let mut i = 0;
-    while i < rows {
-        let figure = signed(eight_at(file, offset + 2 + 8 * i));
-        if !within(figure) {
-            return Sum::Refused(11);
-        }
-        total += figure;
-        i += 1;
-    }
-    Sum::Total(total)
+    sum_of_figures(
+        part.rows,
+        |i|
+            requires { offset + 2 + 8 * i + 8 ≤ length file.now }
+            ensures { result ≡ signed_of (number_at file.entry.now (offset + 2 + 8 * i) 8) }
+        { signed8(file, offset + 2 + 8 * i) },
+    )
 }

@@ -1,43 +1,96 @@
-// The reader of a batch: the lent file, and its place in the pairs. Its functions are thin; the work is done by `parts::part_in`.
+// The reader of a batch: the lent file, and its place in the pairs.
 ghost use Rattle.std.specs.Prelude.{◌≡◌};
+ghost use Rattle.batch.specs.Batch.{offset_at, length_at, end_at, begins_at, participant_at};
 ghost use Rattle.batch.specs.Parts.{PartIs};
 
-use crate::parts::{Part, part_in};
+use crate::bytes::{byte_at, number4};
+use crate::pairs::count;
+use crate::parts::Part;
 
 // The lent file, and the index of a pair.
+// Kept: a place beside the file, since a slice from the pair on would lose the offsets, which count from the file's first byte.
 #[derive(Clone, Copy)]
 pub struct BatchReader<'a> {
     pub file: &'a [u8],
     pub at: u32,
 }
 
-// A reader of a file, at its first pair.
-pub fn new<'a>(file: &'a [u8]) -> BatchReader<'a>
-    ensures { (result.file ≡ file.entry) × (result.at ≡ 0) }
-{
-    BatchReader { file, at: 0 }
-}
-
-// The reader at another pair.
-pub fn moved<'a>(reader: BatchReader<'a>, at: u32) -> BatchReader<'a>
-    ensures { (result.file ≡ reader.entry.file) × (result.at ≡ at) }
-{
-    BatchReader {
-        file: reader.file,
-        at,
+impl<'a> BatchReader<'a> {
+    // A reader of a file, at its first pair.
+    pub fn new(file: &'a [u8]) -> BatchReader<'a>
+        ensures { (result.file ≡ file.entry) × (result.at ≡ 0) }
+    {
+        BatchReader { file, at: 0 }
     }
-}
 
-// The part of the reader's pair.
-pub fn part<'a>(reader: BatchReader<'a>) -> Part
-    ensures { PartIs reader.entry.file.now reader.entry.at result }
-{
-    part_in(reader.file, reader.at)
+    // The reader at another pair.
+    pub fn moved(self, at: u32) -> BatchReader<'a>
+        ensures { (result.file ≡ self.entry.file) × (result.at ≡ at) }
+    {
+        BatchReader {
+            file: self.file,
+            at,
+        }
+    }
+
+    // The offset of the pair.
+    #[tactic(auto, unfolding(crate::specs::Batch::offset_at))]
+    pub fn offset(self) -> u32
+        ensures { result ≡ offset_at self.entry.file.now self.entry.at }
+    {
+        number4(self.file, 4 + 8 * (self.at as usize))
+    }
+
+    // The length of the pair.
+    #[tactic(auto, unfolding(crate::specs::Batch::length_at))]
+    pub fn length(self) -> u32
+        ensures { result ≡ length_at self.entry.file.now self.entry.at }
+    {
+        number4(self.file, 8 + 8 * (self.at as usize))
+    }
+
+    // Where the part of the pair ends.
+    #[tactic(auto, unfolding(crate::specs::Batch::end_at))]
+    pub fn end(self) -> u64
+        ensures { result ≡ end_at self.entry.file.now self.entry.at }
+    {
+        self.offset() as u64 + self.length() as u64
+    }
+
+    // Where the part of the pair must begin.
+    pub fn begins(self) -> u64
+        ensures { result ≡ begins_at self.entry.file.now self.entry.at }
+    {
+        if self.at == 0 {
+            return 4 + 8 * (count(self.file) as u64);
+        }
+        self.moved(self.at - 1).end()
+    }
+
+    // The participant of the pair's part.
+    #[tactic(auto, unfolding(crate::specs::Batch::participant_at))]
+    pub fn participant(self) -> u8
+        ensures { result ≡ participant_at self.entry.file.now self.entry.at }
+    {
+        byte_at(self.file, self.offset() as usize)
+    }
+
+    // The part of the pair.
+    pub fn part(self) -> Part
+        ensures { PartIs self.entry.file.now self.entry.at result }
+    {
+        let offset = self.offset() as usize;
+        Part {
+            participant: byte_at(self.file, offset) as u64,
+            rows: byte_at(self.file, offset + 1) as usize,
+            offset,
+        }
+    }
 }
 
 // The part of a pair of a file, by a reader of it.
 pub fn part_at(file: &[u8], at: u32) -> Part
     ensures { PartIs file.now at result }
 {
-    part(moved(new(file), at))
+    BatchReader::new(file).moved(at).part()
 }

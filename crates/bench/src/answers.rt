@@ -1,57 +1,80 @@
 // Answers as numbers, for the check sum.
-use book::{Advanced, Loaded, Stated};
-use file::{AnnualRun, Outcome, Settled};
-use std::num::wrapping_add_u64;
+ghost use Rattle.std.specs.Iterator.{IsFinite};
 
-// An admission's, a lodging's or a release's answer.
-pub fn outcome(answer: Outcome) -> u64 {
-    match answer {
-        Outcome::Done => 1000,
-        Outcome::Refused(number) => number as u64,
+use batch::Misfit;
+use file::{AnnualRun, Settled, Statement};
+use refusal::Refusal;
+
+// An answer of which a number goes into the check sum.
+pub trait Answer {
+    // The number.
+    fn number(self) -> u64;
+}
+
+// An admission's, a lodging's or a release's.
+impl Answer for () {
+    fn number(self) -> u64 {
+        1000
     }
 }
 
-// A settlement's answer.
-pub fn settled(answer: Settled) -> u64 {
-    match answer {
-        Settled::Called(amount, asked, _) => wrapping_add_u64(amount, asked),
-        Settled::Covered(_) => 2000,
-        Settled::Recorded(_) => 3000,
-        Settled::Refused(number) => number as u64,
-    }
-}
-
-// An annual run's answer.
-pub fn annual(answer: AnnualRun) -> u64 {
-    match answer {
-        AnnualRun::Amount(amount, months) => wrapping_add_u64(amount, months),
-        AnnualRun::Refused(number) => number as u64,
-    }
-}
-
-// A statement: its figures, added and combined by 'exclusive or' in turn.
-pub fn stated(answer: Stated) -> u64 {
-    match answer {
-        Stated::Is(s) => {
-            let charge = wrapping_add_u64(s.charged, s.accrued);
-            wrapping_add_u64(s.cover, s.shortfall ^ charge) ^ s.firm
+impl Answer for Settled {
+    fn number(self) -> u64 {
+        match self {
+            Settled::Called(amount, asked, _) => amount.wrapping_add(asked),
+            Settled::Covered(_) => 2000,
+            Settled::Recorded(_) => 3000,
         }
-        Stated::Refused(number) => number as u64,
     }
 }
 
-// The days that an advance opened.
-pub fn days(answer: Advanced) -> u64 {
-    match answer {
-        Advanced::Opened(days) => days as u64,
-        Advanced::Refused(_) => 0,
+impl Answer for AnnualRun {
+    fn number(self) -> u64 {
+        self.amount.wrapping_add(self.months)
     }
 }
 
-// A batch's answer.
-pub fn loaded(answer: Loaded) -> u64 {
-    match answer {
-        Loaded::Parts(parts) => parts as u64,
-        Loaded::Refused(number, _) => number as u64,
+// The figures of a statement, added and combined by 'exclusive or' in turn.
+impl Answer for Statement {
+    fn number(self) -> u64 {
+        let charge = self.charged.wrapping_add(self.accrued);
+        self.cover.wrapping_add(self.shortfall ^ charge) ^ self.firm
     }
+}
+
+// The parts of a batch.
+impl Answer for u32 {
+    fn number(self) -> u64 {
+        self as u64
+    }
+}
+
+// A refusal's number in the paper.
+impl Answer for Refusal {
+    fn number(self) -> u64 {
+        Refusal::number(self) as u64
+    }
+}
+
+impl Answer for Misfit {
+    fn number(self) -> u64 {
+        self.refusal.number() as u64
+    }
+}
+
+impl<T: Answer, E: Answer> Answer for Result<T, E> {
+    fn number(self) -> u64 {
+        match self {
+            Ok(said) => said.number(),
+            Err(refused) => refused.number(),
+        }
+    }
+}
+
+// The sum of the numbers of answers that are given one after the other.
+pub fn sum<I: Iterator<Item = u64> + Drop>(numbers: I) -> u64
+    requires can { I.can_next numbers }
+    requires ends { IsFinite (I.remaining numbers) }
+{
+    numbers.fold(0, u64::wrapping_add)
 }

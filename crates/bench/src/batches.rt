@@ -1,151 +1,69 @@
 // A month of 64 participants with 16 figures each, by settlements and by the file of a batch.
-ghost use Rattle.std.specs.Prelude.{◌+◌, ◌*◌, ◌<◌, ◌≤◌, length};
-ghost use Rattle.layout.specs.WellFormed.{WellFormed};
+ghost use Rattle.std.specs.Prelude.{◌<◌};
 
-use crate::{answers, clock, output, participants};
-use calendar::{Day, Month};
-use std::num::wrapping_add_u64;
+use crate::answers::sum;
+use crate::bench::Bench;
+use crate::book_words::BookWords;
+use crate::participants;
+use calendar::Month;
+use std::alloc::{AllocError, Global};
+use std::io;
 
-// A participant's figure of a month.
-fn figure(participant: usize, k: usize) -> u64
-    requires { (participant < 64) × (k < 16) }
-    ensures { result < 10000 }
+// The figures of a month, sixteen of each participant.
+type Figures = [[i64; 16]; 64];
+
+// A participant's figures of a month.
+fn figures_of(participant: usize) -> [i64; 16]
+    requires { participant < 64 }
 {
-    (1000 + 16 * participant + k) as u64
-}
-
-// Writes the figures of all participants, sixteen each.
-fn put_month(figures: &mut [i64])
-    requires { 1024 ≤ length figures.old }
-{
-    let mut i = 0;
-    while i < 1024 {
-        figures[i] = figure(i / 16, i % 16) as i64;
-        i += 1;
-    }
+    std::array::from_fn(|k: usize| (1000 + 16 * participant + k % 16) as i64)
 }
 
 // The settlements of a month, one of each participant. The sum of the answers.
-fn settle_all(book: &mut [u64], month: Month, figures: &[i64]) -> u64
-    requires { WellFormed book.old × (1024 ≤ length figures.now) }
-    ensures { WellFormed book.new }
-{
-    let mut sum = 0;
-    let mut participant = 0;
-    while participant < 64 {
-        let at = 16 * participant as usize;
-        let end = at + 16;
-        let answer = answers::settled(book::settle(book, participant, month, &figures[at..end]));
-        sum = wrapping_add_u64(sum, answer);
-        participant += 1;
-    }
-    sum
+fn settle_all(book: &mut BookWords, month: Month, figures: &Figures) -> u64 {
+    let participants = (0..64).zip(figures);
+    sum(participants.map(|(participant, figures)| book.settle(participant, month, figures)))
 }
 
 // So many times the settlements of a month. The sum of the answers.
-fn settlements(book: &mut [u64], month: Month, figures: &[i64], rounds: u64) -> u64
-    requires { WellFormed book.old × (1024 ≤ length figures.now) }
-    ensures { WellFormed book.new }
-{
-    let mut sum = 0;
-    let mut i = 0;
-    while i < rounds {
-        sum = wrapping_add_u64(sum, settle_all(book, month, figures));
-        i += 1;
-    }
-    sum
-}
-
-// Writes a number in so many bytes, least byte first.
-fn put_number(file: &mut [u8], at: usize, number: u64, count: usize)
-    requires { at + count ≤ length file.old }
-{
-    let mut left = number;
-    let mut i = 0;
-    while i < count {
-        file[at + i] = (left % 256) as u8;
-        left = left / 256;
-        i += 1;
-    }
-}
-
-// Writes the 16 figures of a participant's part.
-fn put_figures(file: &mut [u8], at: usize, participant: usize)
-    requires { (at + 128 ≤ length file.old) × (participant < 64) }
-{
-    let mut i = 0;
-    while i < 16 {
-        put_number(file, at + 8 * i, figure(participant, i), 8);
-        i += 1;
-    }
-}
-
-// Writes a participant's pair and part.
-fn put_part(file: &mut [u8], participant: usize)
-    requires { (participant < 64) × (8836 ≤ length file.old) }
-{
-    let offset = 516 + 130 * participant;
-    put_number(file, 4 + 8 * participant, offset as u64, 4);
-    put_number(file, 8 + 8 * participant, 130, 4);
-    put_number(file, offset, participant as u64, 1);
-    put_number(file, offset + 1, 16, 1);
-    put_figures(file, offset + 2, participant);
-}
-
-// Writes the file of a month.
-fn put_file(file: &mut [u8], month: Month)
-    requires { 8836 ≤ length file.old }
-{
-    put_number(file, 0, month.0 as u64, 2);
-    put_number(file, 2, 64, 2);
-    let mut participant = 0;
-    while participant < 64 {
-        put_part(file, participant);
-        participant += 1;
-    }
+fn settlements(book: &mut BookWords, month: Month, figures: &Figures, rounds: u64) -> u64 {
+    sum((0..rounds).map(|_| settle_all(book, month, figures)))
 }
 
 // So many times the batch of a month. The sum of the answers.
-fn batches(book: &mut [u64], file: &[u8], rounds: u64) -> u64
-    requires { WellFormed book.old }
-    ensures { WellFormed book.new }
-{
-    let mut sum = 0;
-    let mut i = 0;
-    while i < rounds {
-        sum = wrapping_add_u64(sum, answers::loaded(book::load(book, file)));
-        i += 1;
-    }
-    sum
+fn batches(book: &mut BookWords, file: &[u8], rounds: u64) -> u64 {
+    sum((0..rounds).map(|_| book.load(file)))
 }
 
-// How many rounds of each were made, the sum of the answers and the time.
-fn report(timed: bool, text: &[u8], rounds: u64, sum: u64, took: u64) {
-    output::number(text, rounds);
-    output::end();
-    output::figure(timed, b"  sum of the answers ", sum);
-    if timed {
-        output::end();
+// The file of a month: its number, the count of parts, a pair of offset and length for each, and the parts.
+fn file_of(alloc: Global, month: Month, figures: &Figures) -> Result<Vec<u8>, AllocError> {
+    let mut file = Vec::new(alloc);
+    file.extend_from_slice(&month.0.to_le_bytes()[..2])?;
+    file.extend_from_slice(&64u16.to_le_bytes())?;
+    for participant in 0..64u32 {
+        file.extend_from_slice(&(516 + 130 * participant).to_le_bytes())?;
+        file.extend_from_slice(&130u32.to_le_bytes())?;
     }
-    output::time(timed, took);
+    for (participant, figures) in (0..64u8).zip(figures) {
+        file.extend_from_slice(&[participant, 16])?;
+        for figure in figures {
+            file.extend_from_slice(&figure.to_le_bytes())?;
+        }
+    }
+    Ok(file)
 }
 
 // October 2021 settled on 1 December 2021 for 64 participants with four letters each, whose cover is enough.
-pub fn run(rt: &HostRuntime, timed: bool, rounds: u64) {
-    let mut book = [0u64; 6147];
-    participants::admit_all(&mut book, 4);
-    book::advance(&mut book, Day(700), 29219);
+pub fn run(bench: &Bench, rounds: u64) -> io::Result<()> {
+    let mut book = participants::admitted(4);
+    book.advance(700, 29219);
     let month = Month(21);
-    let mut figures = [0i64; 1024];
-    put_month(&mut figures);
-    let began = clock::now(rt);
-    let sum = settlements(&mut book, month, &figures, rounds);
-    let took = clock::since(rt, began);
-    report(timed, b"64 settlements: ", rounds, sum, took);
-    let mut file = [0u8; 8836];
-    put_file(&mut file, month);
-    let began = clock::now(rt);
-    let sum = batches(&mut book, &file, rounds);
-    let took = clock::since(rt, began);
-    report(timed, b"batches of 64 parts: ", rounds, sum, took);
+    let figures: Figures = std::array::from_fn(|participant: usize| figures_of(participant % 64));
+    bench.measure("64 settlements", rounds, || {
+        settlements(&mut book, month, &figures, rounds)
+    })?;
+    let file = file_of(bench.rt.alloc(), month, &figures)?;
+    bench.measure("batches of 64 parts", rounds, || {
+        batches(&mut book, &file, rounds)
+    })
 }

@@ -1,21 +1,17 @@
 // The opening of every day of the calendar.
-use crate::{answers, clock, output, participants};
-use calendar::Day;
+use crate::bench::Bench;
+use crate::{clock, participants};
+use std::io;
 
 // One advance over the whole calendar for 64 participants with eight letters each.
-pub fn run(rt: &HostRuntime, timed: bool) {
-    let mut book = [0u64; 6147];
-    participants::admit_all(&mut book, 8);
-    let began = clock::now(rt);
-    let answer = book::advance(&mut book, Day(29219), 29219);
-    let took = clock::since(rt, began);
-    output::number(b"whole calendar: days opened ", answers::days(answer));
-    output::number(b", calls made ", book::calls_made(&book));
-    output::figure(
-        timed,
-        b", sum of the statements ",
-        participants::statements(&book),
-    );
-    output::end();
-    output::time(timed, took);
+pub fn run(bench: &Bench) -> io::Result<()> {
+    let mut book = participants::admitted(8);
+    let (opened, micros) = clock::timed(&bench.rt, || book.advance(29219, 29219));
+    let made = book.calls_made();
+    print!(bench.rt; "whole calendar: days opened {opened}, calls made {made}")?;
+    if bench.timed {
+        print!(bench.rt; ", sum of the statements {}", book.statements())?;
+    }
+    println!(bench.rt)?;
+    bench.took(micros)
 }

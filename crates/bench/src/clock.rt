@@ -2,7 +2,7 @@
 use std::time::CpuClock;
 
 // The microseconds of processor time used so far; 0 where the system does not say.
-pub fn now(rt: &HostRuntime) -> u64 {
+fn now(rt: &HostRuntime) -> u64 {
     match rt.process_cpu_time() {
         Ok(used) => used
             .as_secs()
@@ -12,8 +12,12 @@ pub fn now(rt: &HostRuntime) -> u64 {
     }
 }
 
-// The microseconds since a time.
-pub fn since(rt: &HostRuntime, began: u64) -> u64 {
-    let ended = now(rt);
-    if began < ended { ended - began } else { 0 }
+// What some work gives, and the microseconds that it took.
+pub fn timed<T, F: FnOnce() -> T>(rt: &HostRuntime, work: F) -> (T, u64)
+    requires { F.pre work }
+    ensures { F.post work result.0 }
+{
+    let began = now(rt);
+    let given = work();
+    (given, now(rt).saturating_sub(began))
 }

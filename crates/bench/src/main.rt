@@ -3,17 +3,20 @@
 // questions, and writes a sum of all answers and the processor time of each part too.
 #![tactic(auto)]
 
+use bench::Bench;
 use mixed::Plan;
 use std::env::{Env, FillError};
+use std::io;
 
 mod answers;
 mod batches;
+mod bench;
+mod book_words;
 mod calendar_opened;
 mod calls;
 mod clock;
 mod draws;
 mod mixed;
-mod output;
 mod participants;
 mod questions;
 
@@ -22,44 +25,38 @@ fn has_argument(rt: &HostRuntime) -> bool {
     !matches!(rt.arg(1, &mut [0u8; 1]), Err(FillError::NotPresent))
 }
 
+// All parts of the benchmark, in turn; with `timed` the longer ones.
+fn measured(rt: HostRuntime, timed: bool) -> io::Result<()> {
+    let bench = Bench { rt, timed };
+    let rounds = if timed { 1000 } else { 100 };
+    calendar_opened::run(&bench)?;
+    // 5 September 2021: annual runs are accepted, and a settlement is recorded only
+    let september = Plan {
+        start: 613,
+        rounds,
+        calls: 1000,
+        days: 0,
+    };
+    september.run(&bench)?;
+    // 1 December 2021: annual runs are refused, and a settlement is checked
+    Plan {
+        start: 700,
+        ..september
+    }
+    .run(&bench)?;
+    // days are opened after each thousand calls
+    Plan {
+        days: 28,
+        ..september
+    }
+    .run(&bench)?;
+    let count = if timed { 10000000 } else { 100000 };
+    questions::run(&bench, count)?;
+    batches::run(&bench, rounds)
+}
+
+// A write or an allocation that fails ends the benchmark, and changes nothing else.
 fn main(rt: HostRuntime) {
     let timed = has_argument(&rt);
-    let rounds = if timed { 1000 } else { 100 };
-    calendar_opened::run(&rt, timed);
-    // 5 September 2021: annual runs are accepted, and a settlement is recorded only
-    mixed::run(
-        &rt,
-        timed,
-        Plan {
-            start: 613,
-            rounds,
-            calls: 1000,
-            days: 0,
-        },
-    );
-    // 1 December 2021: annual runs are refused, and a settlement is checked
-    mixed::run(
-        &rt,
-        timed,
-        Plan {
-            start: 700,
-            rounds,
-            calls: 1000,
-            days: 0,
-        },
-    );
-    // days are opened after each thousand calls
-    mixed::run(
-        &rt,
-        timed,
-        Plan {
-            start: 613,
-            rounds,
-            calls: 1000,
-            days: 28,
-        },
-    );
-    let count = if timed { 10000000 } else { 100000 };
-    questions::run(&rt, timed, count);
-    batches::run(&rt, timed, rounds);
+    let _ = measured(rt, timed);
 }

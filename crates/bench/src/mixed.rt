@@ -1,9 +1,10 @@
 // Mixed calls in memory.
-ghost use Rattle.layout.specs.WellFormed.{WellFormed};
-
-use crate::{answers, calls, clock, draws, output, participants};
-use calendar::Day;
-use std::num::wrapping_add_u64;
+use crate::answers::sum;
+use crate::bench::Bench;
+use crate::book_words::BookWords;
+use crate::draws::Draws;
+use crate::{calls, clock, participants};
+use std::io;
 
 // A day to start on, and rounds of so many calls and one advance of so many days.
 #[derive(Clone, Copy)]
@@ -14,70 +15,47 @@ pub struct Plan {
     pub days: u64,
 }
 
-// So many calls one after the other: the kind, the participant and the argument of each by a drawn number. The sum of their answers.
-fn round(book: &mut [u64], seed: u64, count: u64) -> u64
-    requires { WellFormed book.old }
-    ensures { WellFormed book.new }
-{
-    let mut sum = 0;
-    let mut draw = seed;
-    let mut i = 0;
-    while i < count {
-        draw = draws::next(draw);
-        let participant = draws::participant(draw);
-        let argument = draws::argument(draw);
-        let answer = calls::make(book, draws::kind(draw), participant, argument);
-        sum = wrapping_add_u64(sum, answer);
-        i += 1;
+impl Plan {
+    // A round: the calls drawn after a seed, and the advance. The sum of the answers.
+    fn round(self, book: &mut BookWords, seed: u64) -> u64 {
+        let drawn = Draws::after(seed).take(self.calls as usize);
+        let answers = sum(drawn.map(|draw| calls::make(book, draw)));
+        answers.wrapping_add(book.advance(29219, self.days))
     }
-    sum
-}
 
-// The rounds of a plan. The sum of the answers.
-fn rounds(book: &mut [u64], plan: Plan) -> u64
-    requires { WellFormed book.old }
-    ensures { WellFormed book.new }
-{
-    let mut sum = 0;
-    let mut i = 0;
-    while i < plan.rounds {
-        sum = wrapping_add_u64(sum, round(book, i, plan.calls));
-        let days = answers::days(book::advance(book, Day(29219), plan.days));
-        sum = wrapping_add_u64(sum, days);
-        i += 1;
+    // The rounds. The sum of the answers.
+    fn rounds(self, book: &mut BookWords) -> u64 {
+        sum((0..self.rounds).map(|seed| self.round(book, seed)))
     }
-    sum
-}
 
-// What a plan's calls led to.
-fn report(timed: bool, book: &[u64], plan: Plan, sum: u64)
-    requires { WellFormed book.now }
-{
-    let today = book::today(book);
-    output::number(b"mixed calls: from day ", plan.start as u64);
-    output::number(b", rounds ", plan.rounds);
-    output::number(b", calls each ", plan.calls);
-    output::number(b", days after each ", plan.days);
-    output::end();
-    output::number(b"  to day ", today.0 as u64);
-    output::figure(timed, b", calls made ", book::calls_made(book));
-    output::figure(timed, b", sum of the answers ", sum);
-    output::figure(
-        timed,
-        b", sum of the statements ",
-        participants::statements(book),
-    );
-    output::end();
-}
+    // Writes what the calls led to.
+    fn report(self, bench: &Bench, book: &BookWords, sum: u64) -> io::Result<()> {
+        let Plan {
+            start,
+            rounds,
+            calls,
+            days,
+        } = self;
+        println!(bench.rt;
+            "mixed calls: from day {start}, rounds {rounds}, calls each {calls}, days after each {days}"
+        )?;
+        print!(bench.rt; "  to day {}", book.today().0)?;
+        if bench.timed {
+            print!(bench.rt;
+                ", calls made {}, sum of the answers {sum}",
+                book.calls_made()
+            )?;
+            print!(bench.rt; ", sum of the statements {}", book.statements())?;
+        }
+        println!(bench.rt)
+    }
 
-// A plan for 64 participants with four letters each.
-pub fn run(rt: &HostRuntime, timed: bool, plan: Plan) {
-    let mut book = [0u64; 6147];
-    participants::admit_all(&mut book, 4);
-    book::advance(&mut book, Day(plan.start), 29219);
-    let began = clock::now(rt);
-    let sum = rounds(&mut book, plan);
-    let took = clock::since(rt, began);
-    report(timed, &book, plan, sum);
-    output::time(timed, took);
+    // Measures the rounds for 64 participants with four letters each.
+    pub fn run(self, bench: &Bench) -> io::Result<()> {
+        let mut book = participants::admitted(4);
+        book.advance(self.start, 29219);
+        let (sum, micros) = clock::timed(&bench.rt, || self.rounds(&mut book));
+        self.report(bench, &book, sum)?;
+        bench.took(micros)
+    }
 }

@@ -1,11 +1,11 @@
 -- What the functions that load a batch ensure, part by part.
 -- Assumes nothing.
-use Rattle.std.specs.Prelude.{ℕ, zero, suc, ◌<◌, ◌≡◌, true, List, get_or}
+use Rattle.std.specs.Prelude.{ℕ, zero, suc, ◌<◌, ◌≡◌, List, get_or, pos}
 use Rattle.batch.specs.Batch.{participant_at}
-use Rattle.file.specs.declared.Settled.TheVariants.{Refused}
-use Rattle.file.specs.Answer.{Answer, accepted, settled_says}
+use Rattle.file.specs.declared.Settled.{Settled}
+use Rattle.file.specs.declared.Settled.TheVariants.{Recorded}
+use Rattle.file.specs.Answer.{Answer, settlement_says}
 use Rattle.layout.specs.Book.{Book}
-use Rattle.book.specs.declared.batches.PartAnswer.{PartAnswer}
 use Rattle.book.specs.Call.{on, part_act}
 use Rattle.book.specs.Rule.{new_rule}
 use Rattle.book.specs.Account.{answer_on, step}
@@ -19,7 +19,6 @@ unfoldable pub made_parts : Book → List ℕ → ℕ → Book
 made_parts b file zero = b
 made_parts b file (suc k) = step new_rule (made_parts b file k) (on (participant_at file k) (part_act file k))
 
--- The first k of these are the answers of the first k parts, none of which is refused.
-pub record Judges (b : Book) (file : List ℕ) (k : ℕ) (answers : List PartAnswer) : Type 0 where
-  pub same : (j : ℕ) → j < k → settled_says (get_or answers j (record { answer = Refused 0 })).answer ≡ judged b file j
-  pub settled : (j : ℕ) → j < k → accepted (judged b file j) ≡ true
+-- The first k of these are the answers of the first k parts, so none of those is refused.
+pub record Judges (b : Book) (file : List ℕ) (k : ℕ) (answers : List Settled) : Type 0 where
+  pub same : (j : ℕ) → j < k → settlement_says (get_or answers j (Recorded (pos 0))) ≡ judged b file j

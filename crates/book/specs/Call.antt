@@ -1,19 +1,15 @@
--- The calls of papers 01 and 02, with their arguments, and the answers that the book's enums stand for.
+-- The calls of papers 01 and 02, with their arguments, and the answers that the code's results stand for.
 -- Assumes nothing.
-use Rattle.std.specs.Prelude.{ℕ, List, ltb, ℤ, Bool, true, false, not, cond}
+use Rattle.std.specs.Prelude.{ℕ, List, ltb, ℤ, Bool, true, false, not, cond, Result, Ok, Err}
 use Rattle.file.specs.declared.Position.{Position}
 use Rattle.file.specs.Answer.{Answer, refused, done, called, covered, recorded, annual, days_opened, stated, counted, batched, refused_pair}
-use Rattle.file.specs.Answer.{accepted, statement_says}
+use Rattle.file.specs.Answer.{accepted, says, statement_says}
 use Rattle.laws.specs.Least.{least}
-use Rattle.batch.specs.declared.Form.{Form}
-use Rattle.batch.specs.declared.Form.TheVariants as Forms
+use Rattle.batch.specs.declared.Misfit.{Misfit}
 use Rattle.batch.specs.Batch.{month_in, figures_at}
-use Rattle.book.specs.declared.Advanced.{Advanced}
-use Rattle.book.specs.declared.Advanced.TheVariants as Advances
-use Rattle.book.specs.declared.Stated.{Stated}
-use Rattle.book.specs.declared.Stated.TheVariants as Statements
-use Rattle.book.specs.declared.Loaded.{Loaded}
-use Rattle.book.specs.declared.Loaded.TheVariants as Loads
+use Rattle.refusal.specs.declared.Refusal.{Refusal}
+use Rattle.refusal.specs.Numbers.{number_of}
+use Rattle.file.specs.declared.Statement.{Statement}
 
 -- What a call asks of one participant's file.
 pub data Act : Type 0 where
@@ -41,15 +37,13 @@ pub data Call : Type 0 where
   -- paper 02, Ask 1: "A month in one file", by its bytes
   batch : (file : List ℕ) → Call
 
--- The answer that each case of an advance stands for.
-abbrev pub advanced_says : Advanced → Answer
-advanced_says (Advances.Opened n) = days_opened n
-advanced_says (Advances.Refused n) = refused n
+-- The answer that an advance's stands for.
+abbrev pub advanced_says : Result ℕ Refusal → Answer
+advanced_says = says days_opened
 
--- The answer that each case of a statement stands for.
-abbrev pub stated_says : Stated → Answer
-stated_says (Statements.Is s) = statement_says s
-stated_says (Statements.Refused n) = refused n
+-- The answer that the question for a statement has.
+abbrev pub stated_says : Result Statement Refusal → Answer
+stated_says = says statement_says
 
 -- Whether an answer is a settlement's call.
 abbrev pub is_called : Answer → Bool
@@ -65,10 +59,10 @@ is_called (counted n) = false
 is_called (batched n) = false
 is_called (refused_pair n i) = false
 
--- The answer that each case of a batch stands for.
-abbrev pub loaded_says : Loaded → Answer
-loaded_says (Loads.Parts n) = batched n
-loaded_says (Loads.Refused n i) = refused_pair n i
+-- The answer that a batch's stands for.
+abbrev pub loaded_says : Result ℕ Misfit → Answer
+loaded_says (Ok n) = batched n
+loaded_says (Err m) = refused_pair (number_of m.refusal) m.pair
 
 -- Paper 02, Ask 1: what part k of a batch asks of its participant's file, the settlement of the batch's month by the part's figures.
 abbrev pub part_act : List ℕ → ℕ → Act
@@ -94,9 +88,9 @@ first_refused answers n = least (λ k. not (accepted (answers k))) n
 
 -- "The first refusal is answered with its pair's index, from 0, ..; an accepted batch answers n": what a batch of this form answers, whose
 -- settlements answer so, "all three [20, 21, 22] come before any settlement".
-unfoldable pub batch_says : Form → (ℕ → Answer) → Answer
-batch_says (Forms.Refused n i) answers = refused_pair n i
-batch_says (Forms.Parts n) answers =
+unfoldable pub batch_says : Result ℕ Misfit → (ℕ → Answer) → Answer
+batch_says (Err m) answers = loaded_says (Err m)
+batch_says (Ok n) answers =
     cond (ltb (first_refused answers n) n)
     (refused_pair (refusal_of (answers (first_refused answers n))) (first_refused answers n))
     (batched n)

@@ -8,8 +8,11 @@ pub mod Reached
 pub mod InWords
 pub mod Opened
 pub mod Positions
+pub mod View
 pub mod Left
 pub mod Settlements
-pub mod Batches
 pub mod Admissions
 pub mod Retired
+pub mod OneProof
+pub mod Batches
+pub mod Seen

@@ -1,173 +1,116 @@
 // Lodgings and releases (paper 01, 'Lodge' and 'Release'): each reads the words that its causes ask for, and writes one position.
-ghost use Rattle.std.specs.Prelude.{◌≡◌, false, ◌≤◌, ltb, set};
-ghost use Rattle.file.specs.Answer.{accepted, outcome_says};
-ghost use Rattle.file.specs.Position.{slot_of, position_at, not_releasable, cover_on};
+ghost use Rattle.std.specs.Prelude.{◌≡◌, ◌≤◌, length, set, MatchResult};
+ghost use Rattle.refusal.specs.Numbers.{number_of};
+ghost use Rattle.file.specs.Answer.{refused, done, outcome_says};
+ghost use Rattle.file.specs.Lodge.{lodge_answer};
+ghost use Rattle.file.specs.Position.{slot_of, position_at, less_released, cover_on};
+ghost use Rattle.file.specs.Release.{release_answer};
 ghost use Rattle.file.specs.Sound.{SoundPosition};
-ghost use Rattle.file.specs.Release.{release_floor, slots_left};
-ghost use Rattle.layout.specs.Words.{file_in_words, today_in};
+ghost use Rattle.layout.specs.Words.{book_length, file_in_words, today_in};
 ghost use Rattle.layout.specs.WellFormed.{WellFormed};
 ghost use Rattle.book.specs.Call.{lodge, release, on};
-ghost use Rattle.book.specs.Account.{file_answer};
 ghost use Rattle.book.specs.InWords.{GivenWords};
-ghost use Rattle.book.specs.Positions.{SlotLeft};
+ghost use Rattle.book.specs.Positions.{PutsPosition};
 
-use calendar::Day;
+use crate::view::{FileView, place};
 use file::cover::cover;
-use file::holding::{
-    against_days, amount_of, is_filled, less_released, not_releasable, outside_amounts,
-};
-use file::release::release_floor;
+use file::holding::outside_amounts;
 use file::{Outcome, Position, Slot};
-use layout::files::{calls, slot_at, slots};
-use layout::parts::{flag, number, put_slot};
+use layout::rows::{Row, read_rows};
+use refusal::Refusal;
 
-// Whether an outcome is no refusal.
-pub fn is_done(answer: Outcome) -> bool
-    ensures { result ≡ accepted (outcome_says answer) }
-{
-    match answer {
-        Outcome::Done => true,
-        Outcome::Refused(_) => false,
+impl FileView<'_> {
+    ghost use Rattle.book.specs.Seen.{file_seen, today_seen};
+
+    // What a lodging answers: done, or the first of the causes 5, 6, 8 and 9 that holds.
+    #[tactic(auto, unfolding(file::specs::Lodge::lodge_answer, laws::specs::Causes::decide))]
+    fn lodging(self, position: u64, holding: Position) -> Outcome
+        ensures { outcome_says result
+            ≡ lodge_answer (file_seen self.entry) (today_seen self.entry) position holding }
+    {
+        if 7 < position {
+            return Err(Refusal::NoSuchPosition);
+        }
+        if self.position(position).is_filled() {
+            return Err(Refusal::PositionFilled);
+        }
+        if outside_amounts(holding.amount()) {
+            return Err(Refusal::AmountOutOfRange);
+        }
+        if holding.against_days(self.today()) {
+            return Err(Refusal::LetterDays);
+        }
+        Ok(())
+    }
+
+    // The cover today that would be left with another holding at a position.
+    #[tactic(auto, using(crate::proofs::Functions::OnPositions::covers), unfolding(layout::specs::Files::file_of_words))]
+    fn cover_with(self, position: u64, left: Position) -> u64
+        requires { (position ≤ 7) × SoundPosition left }
+        ensures { result ≡ cover_on (today_seen self.entry)
+            (set (file_seen self.entry).slots position (slot_of left)) }
+    {
+        let mut slots = read_rows::<Slot, 8>(self.words, self.place());
+        slots[position as usize] = Slot { position: left };
+        cover(&slots, self.today())
+    }
+
+    // What a release leaves at a position, or the first of the causes 5, 7, 8, 15 and 16 that holds.
+    #[tactic(auto, using(crate::proofs::Functions::OnPositions::left_sound), unfolding(file::specs::Release::release_answer, file::specs::Release::slots_left, laws::specs::Causes::decide))]
+    fn released(self, position: u64, amount: u64) -> Result<Position, Refusal>
+        ensures { let f = file_seen self.entry in
+            let t = today_seen self.entry in
+            MatchResult result
+            (λ left. (done ≡ release_answer f t position amount) × (left ≡ less_released amount (position_at f.slots position)))
+            (λ r. refused (number_of r) ≡ release_answer f t position amount) }
+    {
+        if 7 < position {
+            return Err(Refusal::NoSuchPosition);
+        }
+        let held = self.position(position);
+        if !held.is_filled() {
+            return Err(Refusal::PositionEmpty);
+        }
+        if outside_amounts(amount) {
+            return Err(Refusal::AmountOutOfRange);
+        }
+        if held.not_releasable(amount) {
+            return Err(Refusal::MoreThanHeld);
+        }
+        let left = held.less_released(amount);
+        if self.cover_with(position, left) < self.floor() {
+            return Err(Refusal::TooLittleCover);
+        }
+        Ok(left)
     }
 }
 
-// What a lodging answers: done, or the first of the causes 2, 5, 6, 8 and 9 that holds.
-fn lodge_answer(words: &[u64], participant: u64, position: u64, holding: Position) -> Outcome
-    requires { WellFormed words.now × (participant ≤ 63) }
-    ensures { outcome_says result
-        ≡ file_answer (file_in_words words.now participant) (today_in words.now) (lodge position holding) }
+// Writes what a position of a participant's file holds.
+fn put_position(words: &mut [u64], participant: u64, position: u64, holding: Position)
+    requires { (length words.old ≡ book_length) × (participant ≤ 63) × (position ≤ 7) }
+    ensures { PutsPosition words.old participant position holding words.new }
 {
-    let at = 2 + 96 * participant as usize;
-    let admitted = flag(words[at + 1]);
-    if !admitted {
-        return Outcome::Refused(2);
-    }
-    if 7 < position {
-        return Outcome::Refused(5);
-    }
-    let slot = slot_at(words, at + (9 + 4 * position as usize));
-    let held = slot.position;
-    if is_filled(held) {
-        return Outcome::Refused(6);
-    }
-    if outside_amounts(amount_of(holding)) {
-        return Outcome::Refused(8);
-    }
-    if against_days(holding, Day(number(words[1]))) {
-        return Outcome::Refused(9);
-    }
-    Outcome::Done
+    Slot { position: holding }.put(words, place(participant) + (9 + 4 * position as usize));
 }
 
 // Lodges cash or a letter at a position of a participant's file.
+#[tactic(auto, using(crate::proofs::Functions::OnPositions::lodgings))]
 pub fn lodge(words: &mut [u64], participant: u64, position: u64, holding: Position) -> Outcome
     requires { WellFormed words.old }
     ensures { GivenWords words.old (on participant (lodge position holding)) (outcome_says result) words.new }
 {
-    if 63 < participant {
-        return Outcome::Refused(1);
-    }
-    let answer = lodge_answer(words, participant, position, holding);
-    if is_done(answer) {
-        let at = 2 + 96 * participant as usize;
-        let k = (position % 8) as usize; // which is `position`: a lodging elsewhere is refused
-        put_slot(words, at + (9 + 4 * k), Slot { position: holding });
-        return answer;
-    }
-    answer
-}
-
-// The cover today that would be left with another holding at a position.
-fn cover_with(words: &[u64], participant: u64, position: u64, left: Position) -> u64
-    requires { WellFormed words.now × (participant ≤ 63) × (position ≤ 7) × SoundPosition left }
-    ensures { result ≡ cover_on (today_in words.now) (set (file_in_words words.now participant).slots position (slot_of left)) }
-{
-    let mut slots = slots(words, 2 + 96 * participant as usize);
-    slots[position as usize] = Slot { position: left };
-    cover(slots, Day(number(words[1])))
-}
-
-// The cover that a release must leave.
-fn floor_of(words: &[u64], participant: u64) -> u64
-    requires { WellFormed words.now × (participant ≤ 63) }
-    ensures { result ≡ release_floor (file_in_words words.now participant) }
-{
-    let at = 2 + 96 * participant as usize;
-    let open = calls(words, at);
-    release_floor(words[at + 3], open, words[at + 4] as usize, words[at + 6])
-}
-
-// Whether a release that has no other cause would leave too little cover.
-fn is_uncovered(words: &[u64], participant: u64, position: u64, amount: u64) -> bool
-    requires { WellFormed words.now × (participant ≤ 63) × (position ≤ 7)
-        × (not_releasable amount (position_at (file_in_words words.now participant).slots position) ≡ false) }
-    ensures { result ≡ ltb (cover_on (today_in words.now) (slots_left (file_in_words words.now participant) position amount))
-        (release_floor (file_in_words words.now participant)) }
-{
-    let at = 2 + 96 * participant as usize;
-    let slot = slot_at(words, at + (9 + 4 * position as usize));
-    let held = slot.position;
-    let left = less_released(held, amount);
-    cover_with(words, participant, position, left) < floor_of(words, participant)
-}
-
-// What a release answers: done, or the first of the causes 2, 5, 7, 8, 15 and 16 that holds.
-fn release_answer(words: &[u64], participant: u64, position: u64, amount: u64) -> Outcome
-    requires { WellFormed words.now × (participant ≤ 63) }
-    ensures { outcome_says result
-        ≡ file_answer (file_in_words words.now participant) (today_in words.now) (release position amount) }
-{
-    let at = 2 + 96 * participant as usize;
-    let admitted = flag(words[at + 1]);
-    if !admitted {
-        return Outcome::Refused(2);
-    }
-    if 7 < position {
-        return Outcome::Refused(5);
-    }
-    let slot = slot_at(words, at + (9 + 4 * position as usize));
-    let held = slot.position;
-    if !is_filled(held) {
-        return Outcome::Refused(7);
-    }
-    if outside_amounts(amount) {
-        return Outcome::Refused(8);
-    }
-    if not_releasable(held, amount) {
-        return Outcome::Refused(15);
-    }
-    if is_uncovered(words, participant, position, amount) {
-        return Outcome::Refused(16);
-    }
-    Outcome::Done
-}
-
-// Writes what a release of an amount leaves at a position, of which as much is held.
-fn put_left(words: &mut [u64], participant: u64, position: u64, amount: u64)
-    requires { WellFormed words.old × (participant ≤ 63)
-        × (position ≤ 7) × (not_releasable amount (position_at (file_in_words words.old participant).slots position) ≡ false) }
-    ensures { SlotLeft words.old participant position amount words.new }
-{
-    let at = 2 + 96 * participant as usize;
-    let k = at + (9 + 4 * position as usize);
-    let slot = slot_at(words, k);
-    let held = slot.position;
-    let left = less_released(held, amount);
-    put_slot(words, k, Slot { position: left });
+    FileView::admitted(words, participant)?.lodging(position, holding)?;
+    put_position(words, participant, position, holding);
+    Ok(())
 }
 
 // Releases an amount at a position of a participant's file.
+#[tactic(auto, using(crate::proofs::Functions::OnPositions::releases))]
 pub fn release(words: &mut [u64], participant: u64, position: u64, amount: u64) -> Outcome
     requires { WellFormed words.old }
     ensures { GivenWords words.old (on participant (release position amount)) (outcome_says result) words.new }
 {
-    if 63 < participant {
-        return Outcome::Refused(1);
-    }
-    let answer = release_answer(words, participant, position, amount);
-    if is_done(answer) {
-        put_left(words, participant, position, amount);
-        return answer;
-    }
-    answer
+    let left = FileView::admitted(words, participant)?.released(position, amount)?;
+    put_position(words, participant, position, left);
+    Ok(())
 }

@@ -7,14 +7,14 @@ ghost use Rattle.book.specs.Call.{statement, calls_made, stated_says};
 ghost use Rattle.book.specs.Account.{file_at};
 ghost use Rattle.book.specs.Reached.{Given};
 
-use crate::Stated;
+use crate::view::FileView;
 use calendar::Day;
 use file::Statement;
-use file::cover::less_cover;
-use layout::files::cover_at;
-use layout::parts::{flag, number};
+use layout::parts::number;
+use refusal::Refusal;
 
 // Today.
+#[tactic(auto, unfolding(layout::specs::Words::book_of_words))]
 pub fn today(words: &[u64]) -> Day
     requires { WellFormed words.now }
     ensures { result ≡ (book_of_words words.now).today }
@@ -23,6 +23,7 @@ pub fn today(words: &[u64]) -> Day
 }
 
 // The count of calls made.
+#[tactic(auto, using(crate::proofs::Functions::OnWords::questions))]
 pub fn calls_made(words: &[u64]) -> u64
     requires { WellFormed words.now }
     ensures { Given (book_of_words words.now) calls_made (counted result) (book_of_words words.now) }
@@ -31,51 +32,40 @@ pub fn calls_made(words: &[u64]) -> u64
 }
 
 // Whether a participant is admitted.
+#[tactic(auto, using(crate::proofs::Functions::OnWords::questions))]
 pub fn is_admitted(words: &[u64], participant: u64) -> bool
     requires { WellFormed words.now }
     ensures { result ≡ (file_at (book_of_words words.now) participant).admitted }
 {
-    if 63 < participant {
-        return false;
-    }
-    let at = 2 + 96 * participant as usize;
-    flag(words[at + 1])
+    FileView::admitted(words, participant).is_ok()
 }
 
 // The role of a participant, 0 if it isn't admitted.
+#[tactic(auto, using(crate::proofs::Functions::OnWords::questions))]
 pub fn role(words: &[u64], participant: u64) -> u64
     requires { WellFormed words.now }
     ensures { result ≡ (file_at (book_of_words words.now) participant).role }
 {
-    if 63 < participant {
+    let Ok(file) = FileView::of(words, participant) else {
         return 0;
-    }
-    let at = 2 + 96 * participant as usize;
-    words[at + 2]
+    };
+    file.role()
 }
 
 // The statement of a participant.
-pub fn statement(words: &[u64], participant: u64) -> Stated
+#[tactic(auto, using(crate::proofs::Functions::OnWords::questions))]
+pub fn statement(words: &[u64], participant: u64) -> Result<Statement, Refusal>
     requires { WellFormed words.now }
     ensures { Given (book_of_words words.now) (statement participant) (stated_says result) (book_of_words words.now) }
 {
-    if 63 < participant {
-        return Stated::Refused(1);
-    }
-    let at = 2 + 96 * participant as usize;
-    let admitted = flag(words[at + 1]);
-    if !admitted {
-        return Stated::Refused(2);
-    }
-    let today = Day(number(words[1]));
-    let covered = cover_at(words, at, today, today);
-    let firm = words[at + 3];
-    let shortfall = less_cover(firm, covered);
-    Stated::Is(Statement {
+    let file = FileView::admitted(words, participant)?;
+    let firm = file.firm();
+    let cover = file.cover(file.today(), file.today());
+    Ok(Statement {
         firm,
-        cover: covered,
-        shortfall,
-        charged: words[at + 7],
-        accrued: words[at + 8],
+        cover,
+        shortfall: firm.saturating_sub(cover),
+        charged: file.charged(),
+        accrued: file.accrued(),
     })
 }

@@ -1,7 +1,7 @@
 // Settlements (paper 01, 'Settle'): each reads the words that its causes and its check ask for, and writes the month's total and, where it calls,
 // the call.
 ghost use Rattle.std.specs.Prelude.{◌≡◌, ℕ, ◌+◌, ◌*◌, ◌%◌, ◌≤◌, length, set};
-ghost use Rattle.file.specs.Answer.{accepted, called, settled_says};
+ghost use Rattle.file.specs.Answer.{called, settlement_says, settled_says};
 ghost use Rattle.file.specs.Calls.{call_of};
 ghost use Rattle.file.specs.DueCheck.{check_answer};
 ghost use Rattle.file.specs.Settle.{deposited};
@@ -11,87 +11,73 @@ ghost use Rattle.layout.specs.Words.{file_in_words, today_in};
 ghost use Rattle.layout.specs.WellFormed.{WellFormed};
 ghost use Rattle.book.specs.Call.{settle, on};
 ghost use Rattle.book.specs.InWords.{GivenWords};
-ghost use Rattle.book.specs.Settlements.{AnswersSettlement, PutsSettlement};
+ghost use Rattle.book.specs.Settlements.{due_on, AnswersSettlement, PutsSettlement};
 
+use crate::view::{FileView, place};
 use calendar::{Day, Month, month_of};
 use file::settle::{check_due, outside_months};
 use file::{MonthTotal, OpenCall, Settled, ring_place};
-use layout::files::cover_at;
-use layout::parts::{flag, number, put_call, put_total};
+use layout::rows::Row;
 use manual::figures::sum_figures;
 use manual::monthly::check;
-use manual::{Check, Sum};
+use refusal::Refusal;
 
-// Whether a settlement's answer is no refusal.
-pub fn is_settled(answer: Settled) -> bool
-    ensures { result ≡ accepted (settled_says answer) }
+// Whether a check of a month is due on a day; cause 12 refuses a month outside its range.
+pub fn due_on(today: Day, month: Month) -> Result<bool, Refusal>
+    ensures { result ≡ due_on today.0 month.0 }
 {
-    match answer {
-        Settled::Called(_, _, _) => true,
-        Settled::Covered(_) => true,
-        Settled::Recorded(_) => true,
-        Settled::Refused(_) => false,
+    let current = month_of(today);
+    if outside_months(current, month) {
+        return Err(Refusal::MonthOutOfRange);
     }
+    Ok(check_due(current, month))
 }
 
-// D of a check today: what a participant's positions give from today through day t + 11.
-fn deposited_today(words: &[u64], participant: u64) -> u64
-    requires { WellFormed words.now × (participant ≤ 63) }
-    ensures { result ≡ deposited (file_in_words words.now participant) (today_in words.now) }
-{
-    let at = 2 + 96 * participant as usize;
-    let today = number(words[1]);
-    cover_at(words, at, Day(today), Day(today + 11))
-}
+impl FileView<'_> {
+    ghost use Rattle.book.specs.Seen.{file_seen, today_seen};
 
-// What a check that is due answers to a total: 13 where the call would be a fifth open one, or what the check says.
-fn check_answer(words: &[u64], participant: u64, total: i64) -> Settled
-    requires { WellFormed words.now × (participant ≤ 63) }
-    ensures { settled_says result ≡ check_answer (file_in_words words.now participant) (today_in words.now) total }
-{
-    let at = 2 + 96 * participant as usize;
-    let today = Day(number(words[1]));
-    let deposited = deposited_today(words, participant);
-    let opens = [
-        words[at + 41],
-        words[at + 43],
-        words[at + 45],
-        words[at + 47],
-    ];
-    match check(total, deposited, words[at + 3], &opens) {
-        Check::Covered => Settled::Covered(total),
-        Check::Call { amount, asked } => {
-            if 4 <= words[at + 4] {
-                Settled::Refused(13)
-            } else {
-                Settled::Called(amount, asked, Day(today.0 + 10))
-            }
+    // D of a check today: what the positions give from today through day t + 11.
+    #[tactic(auto, unfolding(file::specs::Settle::deposited))]
+    fn deposited(self) -> u64
+        ensures { result ≡ deposited (file_seen self.entry) (today_seen self.entry) }
+    {
+        let today = self.today();
+        self.cover(today, Day(today.0 + 11))
+    }
+
+    // What a check that is due answers to a total: 13 where the call would be a fifth open one, or what the check says.
+    #[tactic(auto, using(crate::proofs::Functions::OnSettlements::checks))]
+    fn checked(self, total: i64) -> Result<Settled, Refusal>
+        ensures { settled_says result
+            ≡ check_answer (file_seen self.entry) (today_seen self.entry) total }
+    {
+        let Some(call) = check(total, self.deposited(), self.firm(), &self.called_amounts()) else {
+            return Ok(Settled::Covered(total));
+        };
+        if 4 <= self.count() {
+            return Err(Refusal::FifthCall);
         }
+        Ok(Settled::Called(call.amount, call.asked, Day(self.today().0 + 10)))
     }
-}
 
-// What a settlement answers, given whether its month is outside its range, whether a check is due, and the sum of its figures: the first of the
-// causes 2, 12, 10, 11 and 13 that holds, or the total with what the check says.
-pub fn settle_answer(words: &[u64], participant: u64, outside: bool, due: bool, sum: Sum) -> Settled
-    requires { WellFormed words.now × (participant ≤ 63) }
-    ensures { AnswersSettlement words.now participant outside due sum (settled_says result) }
-{
-    let at = 2 + 96 * participant as usize;
-    let admitted = flag(words[at + 1]);
-    if !admitted {
-        return Settled::Refused(2);
-    }
-    if outside {
-        return Settled::Refused(12);
-    }
-    match sum {
-        Sum::Refused(number) => Settled::Refused(number),
-        Sum::Total(total) => {
-            if due {
-                check_answer(words, participant, total)
-            } else {
-                Settled::Recorded(total)
-            }
+    // What a settlement answers, given whether a check of its month is due and the sum of its figures: the first of the causes 12, 10, 11 and 13
+    // that holds, or the total with what the check says.
+    #[tactic(auto, using(crate::proofs::Functions::OnSettlements::settles))]
+    #[inline(always)]
+    pub fn settlement(
+        self,
+        due: Result<bool, Refusal>,
+        sum: Result<i64, Refusal>,
+    ) -> Result<Settled, Refusal>
+        ensures { AnswersSettlement (file_seen self.entry) (today_seen self.entry)
+            due sum (settled_says result) }
+    {
+        let due = due?;
+        let total = sum?;
+        if due {
+            self.checked(total)
+        } else {
+            Ok(Settled::Recorded(total))
         }
     }
 }
@@ -107,7 +93,7 @@ fn put_month(words: &mut [u64], at: usize, month: Month, total: i64)
         month,
         total,
     };
-    put_total(words, at + (49 + 3 * ring_place(month)), recorded);
+    recorded.put(words, at + (49 + 3 * ring_place(month)));
 }
 
 // Writes a call behind the first n, which are open.
@@ -117,17 +103,18 @@ fn put_open_call(words: &mut [u64], at: usize, n: u64, amount: u64, last: Day)
         ≡ set (written words.old (at + (41 + 2 * n)) (open_call_words (call_of amount last.0))) (at + 4) (n + 1))
         × CallBack (call_of amount last.0) }
 {
-    put_call(words, at + (41 + 2 * n as usize), OpenCall { amount, last });
+    OpenCall { amount, last }.put(words, at + (41 + 2 * n as usize));
     words[at + 4] = n + 1;
 }
 
 // Writes what a settlement that called leaves: the month's total, the call, and one more in the count of calls made.
+// Kept: a call's writers take the words and a number (the new form is no plainer): between their writes the words are no book, so no view holds of them.
 fn put_called(words: &mut [u64], participant: u64, month: Month, amount: u64, last: Day)
     requires { WellFormed words.old × (participant ≤ 63) }
     ensures { (asked : ℕ) → PutsSettlement words.old participant month.0 (called amount asked last.0)
         words.new }
 {
-    let at = 2 + 96 * participant as usize;
+    let at = place(participant);
     let n = words[at + 4];
     let made = words[2] + 1;
     let total = (amount % 9_223_372_036_854_775_808) as i64; // which is `amount`: no total is so large
@@ -136,33 +123,34 @@ fn put_called(words: &mut [u64], participant: u64, month: Month, amount: u64, la
     words[2] = made;
 }
 
-// Writes what a settlement with this answer leaves.
-pub fn put_settled(words: &mut [u64], participant: u64, month: Month, answer: Settled)
+// Writes what a settlement leaves.
+#[tactic(auto, using(crate::proofs::Functions::SettlementsPut::puts))]
+pub fn put_settled(words: &mut [u64], participant: u64, month: Month, settled: Settled)
     requires { WellFormed words.old × (participant ≤ 63) }
-    ensures { PutsSettlement words.old participant month.0 (settled_says answer) words.new }
+    ensures { PutsSettlement words.old participant month.0 (settlement_says settled) words.new }
 {
-    let at = 2 + 96 * participant as usize;
-    match answer {
+    let at = place(participant);
+    match settled {
         Settled::Called(amount, _, last) => put_called(words, participant, month, amount, last),
         Settled::Covered(total) => put_month(words, at, month, total),
         Settled::Recorded(total) => put_month(words, at, month, total),
-        Settled::Refused(_) => {}
     }
 }
 
 // Settles a month of a participant by its figures.
-pub fn settle(words: &mut [u64], participant: u64, month: Month, figures: &[i64]) -> Settled
+#[tactic(auto, using(crate::proofs::Functions::SettlementsPut::settlements))]
+pub fn settle(
+    words: &mut [u64],
+    participant: u64,
+    month: Month,
+    figures: &[i64],
+) -> Result<Settled, Refusal>
     requires { WellFormed words.old }
     ensures { GivenWords words.old (on participant (settle month.0 figures.now)) (settled_says result)
         words.new }
 {
-    if 63 < participant {
-        return Settled::Refused(1);
-    }
-    let current = month_of(Day(number(words[1])));
-    let outside = outside_months(current, month);
-    let due = check_due(current, month);
-    let answer = settle_answer(words, participant, outside, due, sum_figures(figures));
-    put_settled(words, participant, month, answer);
-    answer
+    let file = FileView::admitted(words, participant)?;
+    let settled = file.settlement(due_on(file.today(), month), sum_figures(figures))?;
+    put_settled(words, participant, month, settled);
+    Ok(settled)
 }

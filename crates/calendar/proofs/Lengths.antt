@@ -2,56 +2,11 @@
 -- Assumes nothing.
 use Prim.Native.Nat.{ℕ, suc, ◌+◌, ◌*◌, ◌/◌, ◌%◌, ◌≤◌, ◌<◌}
 use mathlib.Core.Path.{◌≡◌, sym, ap, ◌∙◌}
-use mathlib.Core.Bool.{Bool, true, false, and-true, and-false, or-false}
 use native.Mathlib.Nat.{min-eq_left, min-eq_right}
 use native.Mathlib.Omega.{arith}
-use borrow.Author.Tests.{eq-eqb, ne_eqb}
-use lib.Dec.{eqb, lit≤}
-use lib.ListN.{get_or, get_or-eq_default}
-use Rattle.calendar.specs.Civil.{leap, common_lengths, length_in, length_of, first_day, first_day_of}
+use Rattle.calendar.specs.Civil.{length_in, length_of, first_day, first_day_of}
 use Rattle.calendar.specs.Laws.{first_day-mono, first_day-suc}
 use Rattle.calendar.specs.Years.{first_day-year, first_day-last}
-
--- the Gregorian rule by the three tests of the code
-pub leap-four_hundredth : (y : ℕ) → y % 400 ≡ 0 → true ≡ leap y
-unfolding leap
-leap-four_hundredth y h =
-    let e : y % 4 ≡ 0 = omega arith in
-    let f : y % 100 ≡ 0 = omega arith in
-    simp (eq-eqb (y % 4) 0 e, eq-eqb (y % 100) 0 f, eq-eqb (y % 400) 0 h)
-
-pub leap-hundredth : (y : ℕ) → (y % 400 ≡ 0 → ⊥) → y % 100 ≡ 0 → false ≡ leap y
-unfolding leap
-leap-hundredth y n h =
-    let e : y % 4 ≡ 0 = omega arith in
-    simp (eq-eqb (y % 4) 0 e, eq-eqb (y % 100) 0 h, ne_eqb (y % 400) 0 n)
-
-pub leap-otherwise : (y : ℕ) → (y % 400 ≡ 0 → ⊥) → (y % 100 ≡ 0 → ⊥) → eqb (y % 4) 0 ≡ leap y
-unfolding leap
-leap-otherwise y n h = simp (ne_eqb (y % 100) 0 h, ne_eqb (y % 400) 0 n, or-false, and-true)
-
--- the length of a month by its place: none past December, one day more in a leap year's February, else the table's
-other-month : (y p : ℕ) → (p ≡ 1 → ⊥) → length_in y p ≡ get_or common_lengths p 0
-unfolding length_in
-other-month y p h = rw (ne_eqb p 1 h, and-false (leap y)) (omega arith)
-
-pub length-past : (y p : ℕ) → 12 ≤ p → 0 ≡ length_in y p
-length-past y p h = sym (other-month y p (λ e. omega arith) ∙ get_or-eq_default common_lengths 0 h)
-
-pub length-leap : (y p : ℕ) (t : Bool) → p ≡ 1 → t ≡ leap y → t ≡ true → get_or common_lengths p 0 + 1 ≡ length_in y p
-unfolding length_in
-length-leap y p t h e f = rw (h, sym (sym f ∙ e))
-
-pub length-common : (y p : ℕ) (t : Bool) → p ≡ 1 → t ≡ leap y → t ≡ false → get_or common_lengths p 0 ≡ length_in y p
-unfolding length_in
-length-common y p t h e f = rw (h, sym (sym f ∙ e))
-
-pub length-other : (y p : ℕ) → (p ≡ 1 → ⊥) → get_or common_lengths p 0 ≡ length_in y p
-length-other y p h = sym (other-month y p h)
-
--- a leap year's February is a small number of days
-pub february-small : (p : ℕ) → p ≡ 1 → get_or common_lengths p 0 + 1 ≤ 29
-february-small p h = rw h (lit≤ tt)
 
 -- the first day of a number that is no month
 pub first_day_of-none : (m : ℕ) → 960 ≤ m → 29220 ≡ first_day_of m

@@ -134,14 +134,14 @@ month-in-common k q n h l m =
     ))
 
 -- the month of a day of the calendar, by the day's place in its cycle
-pub month-early : (d : ℕ) → d ≤ 29219 → d % 1461 < 366 → 12 * (4 * (d / 1461)) + begun 11 (d % 1461) ≡ month_of d
-month-early d h l =
+pub month_early : (d : ℕ) → d ≤ 29219 → d % 1461 < 366 → 12 * (4 * (d / 1461)) + begun 11 (d % 1461) ≡ month_of d
+month_early d h l =
     let e : 1461 * (d / 1461) + d % 1461 ≡ d = omega arith in
     omega (arith, month-in-leap (d / 1461) (d % 1461) (omega arith) l, ap month_of e)
 
-pub month-later : (d : ℕ) → d ≤ 29219 → 366 ≤ d % 1461
+pub month_later : (d : ℕ) → d ≤ 29219 → 366 ≤ d % 1461
     → 12 * (4 * (d / 1461) + 1 + (d % 1461 - 366) / 365) + begun 11 (with_leap_day ((d % 1461 - 366) % 365)) ≡ month_of d
-month-later d h l =
+month_later d h l =
     let e : 1461 * (d / 1461) + 366 + 365 * ((d % 1461 - 366) / 365) + (d % 1461 - 366) % 365 ≡ d = omega arith in
     let q : ℕ = (d % 1461 - 366) / 365 in
     let n : ℕ = (d % 1461 - 366) % 365 in

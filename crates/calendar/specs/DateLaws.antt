@@ -1,6 +1,6 @@
 -- Laws of dates: the date of a date's day is that date, the day of a day's date is that day, and the days that paper 01 names.
 -- Assumes nothing.
-use Rattle.std.specs.Prelude.{ℕ, suc, ◌+◌, ◌-◌, ◌*◌, ◌%◌, ◌≤◌, ◌<◌, ◌≡◌, refl, true, ◌&&◌, leb}
+use Rattle.std.specs.Prelude.{ℕ, suc, ◌+◌, ◌-◌, ◌*◌, ◌%◌, ◌≤◌, ◌<◌, ◌≡◌, refl, true, ◌&&◌, leb, Option, Some, None}
 use Rattle.std.proofs.Common.{sym, ◌∙◌, leb-true, le-leb, lit≤, lit<}
 use Rattle.std.proofs.Math.Path.{ap}
 use Rattle.std.proofs.Math.Bool.{and-eq-true_iff}
@@ -13,8 +13,6 @@ use Rattle.calendar.specs.Laws.{day_of_month-ge, day_of_month-le, day_of_month-i
 use Rattle.calendar.specs.Years.{first_day-last}
 use Rattle.calendar.specs.declared.Day.{Day}
 use Rattle.calendar.specs.declared.date.Date.{Date}
-use Rattle.calendar.specs.declared.date.DateDay.{DateDay}
-use Rattle.calendar.specs.declared.date.Dated.{Dated}
 
 -- what it takes for a date to exist
 pub record Exists (y m d : ℕ) : Type 0 where
@@ -56,7 +54,7 @@ is-exists y m d e =
     }
 
 same-date : {y z m n d e : ℕ} → y ≡ z → m ≡ n → d ≡ e
-    → Dated.Date (record { year = y; month = m; day = d }) ≡ Dated.Date (record { year = z; month = n; day = e })
+    → ◌≡◌ {A = Option Date} (Some (record { year = y; month = m; day = d })) (Some (record { year = z; month = n; day = e }))
 same-date f g h = cc
 
 abbrev date_parts : ℕ → Date
@@ -101,23 +99,23 @@ module _ (y m d : ℕ) (h : Exists y m d) where
   day-number : day_of_month (first_day (month_number y m) + (d - 1)) ≡ d
   day-number = omega (arith, day_of_month-in (month_number y m) (d - 1) number_small within)
 
-  date-back : date_of (first_day (month_number y m) + (d - 1)) ≡ Dated.Date (record { year = y; month = m; day = d })
+  date-back : date_of (first_day (month_number y m) + (d - 1)) ≡ Some (record { year = y; month = m; day = d })
   unfolding date_of
   date-back =
       rw (le-leb (first_day (month_number y m) + (d - 1)) 29219 day-small)
       (same-date (ap year_of day-month ∙ number-year) (omega (arith, ap place_of day-month, number-place)) day-number)
 
 -- the date of a date's day is that date
-pub date_of-day_of_date : (y m d : ℕ) (x : Day) → day_of_date y m d ≡ DateDay.On x
-    → date_of x.0 ≡ Dated.Date (record { year = y; month = m; day = d })
+pub date_of-day_of_date : (y m d : ℕ) (x : Day) → day_of_date y m d ≡ Some x
+    → date_of x.0 ≡ Some (record { year = y; month = m; day = d })
 unfolding day_of_date
 date_of-day_of_date y m d x e =
     split (is_date y m d)
     (λ t.
-    let f : DateDay.On (record { 0 = first_day (month_number y m) + (d - 1) }) ≡ DateDay.On x = rw t at e in
+    let f : ◌≡◌ {A = Option Day} (Some (record { 0 = first_day (month_number y m) + (d - 1) })) (Some x) = rw t at e in
     let g : record { 0 = first_day (month_number y m) + (d - 1) } ≡ x = cc in
     ap (λ (z : Day). date_of z.0) (sym g) ∙ date-back y m d (is-exists y m d t))
-    (λ t. let f : DateDay.NoDate ≡ DateDay.On x = rw t at e in cc)
+    (λ t. let f : ◌≡◌ {A = Option Day} None (Some x) = rw t at e in cc)
 
 -- the date of a day exists
 dates-exist : (d : ℕ) → d ≤ 29219 → Exists (year_of (month_of d)) (place_of (month_of d) + 1) (day_of_month d)
@@ -133,30 +131,30 @@ dates-exist d h =
       last = rw e (day_of_month-le d h);
     }
 
-day-back : (d : ℕ) → d ≤ 29219 → day_of_date (year_of (month_of d)) (place_of (month_of d) + 1) (day_of_month d) ≡ DateDay.On (record { 0 = d })
+day-back : (d : ℕ) → d ≤ 29219 → day_of_date (year_of (month_of d)) (place_of (month_of d) + 1) (day_of_month d) ≡ Some (record { 0 = d })
 unfolding day_of_date month_number
 day-back d h =
     let e : 12 * (year_of (month_of d) - 2020) + (place_of (month_of d) + 1 - 1) ≡ month_of d = omega arith in
     rw (exists-is (year_of (month_of d)) (place_of (month_of d) + 1) (day_of_month d) (dates-exist d h), e, day_of_month-sum d)
 
 -- the day of a day's date is that day
-pub day_of_date-date_of : (d : ℕ) (x : Date) → date_of d ≡ Dated.Date x
-    → day_of_date x.year x.month x.day ≡ DateDay.On (record { 0 = d })
+pub day_of_date-date_of : (d : ℕ) (x : Date) → date_of d ≡ Some x
+    → day_of_date x.year x.month x.day ≡ Some (record { 0 = d })
 unfolding date_of
 day_of_date-date_of d x e =
     split (leb d 29219)
     (λ t.
-    let f : Dated.Date (date_parts d) ≡ Dated.Date x = rw t at e in
+    let f : ◌≡◌ {A = Option Date} (Some (date_parts d)) (Some x) = rw t at e in
     let g : date_parts d ≡ x = cc in
     ap (λ (z : Date). day_of_date z.year z.month z.day) (sym g) ∙ day-back d (leb-true d 29219 t))
-    (λ t. let f : Dated.NoDate ≡ Dated.Date x = rw t at e in cc)
+    (λ t. let f : ◌≡◌ {A = Option Date} None (Some x) = rw t at e in cc)
 
 -- 29 February 2020 is day 59, 1 October 2021 day 639 (paper 01, 'Units and calendar'), and 31 December 2099 the last day
-pub leap-day : day_of_date 2020 2 29 ≡ DateDay.On (record { 0 = 59 })
+pub leap-day : day_of_date 2020 2 29 ≡ Some (record { 0 = 59 })
 unfolding day_of_date is_date month_number first_day length_of length_in leap
 leap-day = refl
 
-pub october-2021 : day_of_date 2021 10 1 ≡ DateDay.On (record { 0 = 639 })
+pub october-2021 : day_of_date 2021 10 1 ≡ Some (record { 0 = 639 })
 unfolding day_of_date is_date month_number first_day length_of length_in leap
 october-2021 = refl
 

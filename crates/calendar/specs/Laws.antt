@@ -87,8 +87,8 @@ unfolding month_of first_day
 month_of-begun d = holding-begun 960 0 d d (omega arith)
 
 -- no day lies in a month past 960
-pub month_of-le : (d : ℕ) → month_of d ≤ 960
-month_of-le d = rw (month_of-begun d) (begun-le 960 d)
+pub month_of_le : (d : ℕ) → month_of d ≤ 960
+month_of_le d = rw (month_of-begun d) (begun-le 960 d)
 
 -- a later day lies in no earlier month
 pub month_of-mono : (d e : ℕ) → d ≤ e → month_of d ≤ month_of e
@@ -107,11 +107,11 @@ pub month_of-last : (d : ℕ) → d ≤ 29219 → month_of d ≤ 959
 month_of-last d h =
     ⊎_elim (λ (e : month_of d ≡ 960). omega (arith, first_day-last, month_of-first d, ap first_day e))
     (λ (l : month_of d < 960). le_of_suc-le-suc l)
-    (eq-or-lt_of_le (month_of-le d))
+    (eq-or-lt_of_le (month_of_le d))
 
 -- any other day lies in none
-pub month_of-after : (d : ℕ) → 29219 < d → month_of d ≡ 960
-month_of-after d h = month_of-begun d ∙ begun-at 960 960 d (lit≤ tt) (omega (arith, first_day-last)) (λ l. omega arith)
+pub month_of_after : (d : ℕ) → 29219 < d → month_of d ≡ 960
+month_of_after d h = month_of-begun d ∙ begun-at 960 960 d (lit≤ tt) (omega (arith, first_day-last)) (λ l. omega arith)
 
 -- the month that has begun by a day, and whose successor has not, is the day's
 pub month_of-is : (m d : ℕ) → m < 960 → first_day m ≤ d → d < first_day (suc m) → month_of d ≡ m

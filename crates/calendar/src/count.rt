@@ -1,5 +1,5 @@
 // Months counted from one another. No number is refused, and none wraps.
-ghost use Rattle.std.specs.Prelude.{◌≡◌, ◌-◌, eqb};
+ghost use Rattle.std.specs.Prelude.{◌≡◌, ◌-◌};
 
 use crate::Month;
 
@@ -7,23 +7,12 @@ use crate::Month;
 pub fn months_before(month: Month, months: u32) -> Month
     ensures { result.0 ≡ month.0 - months }
 {
-    if months < month.0 {
-        Month(month.0 - months)
-    } else {
-        Month(0)
-    }
+    Month(month.0.saturating_sub(months))
 }
 
 // How many months there are from a first month on, before an end; 0 for an end that is not later.
 pub fn months_between(first: Month, end: Month) -> u32
     ensures { result ≡ end.0 - first.0 }
 {
-    if first.0 < end.0 { end.0 - first.0 } else { 0 }
-}
-
-// Whether two months are the same.
-pub fn same_month(a: Month, b: Month) -> bool
-    ensures { result ≡ eqb a.0 b.0 }
-{
-    a.0 == b.0
+    end.0.saturating_sub(first.0)
 }

@@ -7,33 +7,27 @@ ghost use Rattle.calendar.specs.Places.{with_leap_day};
 const COMMON_LENGTHS: [u32; 12] = [31, 28, 31, 30, 31, 30, 31, 31, 30, 31, 30, 31];
 
 // Whether a year is a leap year, by the Gregorian rule.
+#[tactic(auto, unfolding(crate::specs::Civil::leap))]
 pub fn is_leap(year: u32) -> bool
     ensures { result ≡ leap year }
 {
-    if year % 400 == 0 {
-        return true;
-    }
-    if year % 100 == 0 {
-        return false;
-    }
-    year % 4 == 0
+    year % 4 == 0 && year % 100 != 0 || year % 400 == 0
 }
 
 // The length of a month of a year, January being place 0; 0 past December.
+#[tactic(auto, unfolding(crate::specs::Civil::length_in))]
 pub fn length_in(year: u32, place: u32) -> u32
     ensures { result ≡ length_in year place }
 {
     if 12 <= place {
         return 0;
     }
-    let at = place as usize;
-    let days = COMMON_LENGTHS[at];
-    if place == 1 {
-        if is_leap(year) {
-            return days + 1;
-        }
+    let days = COMMON_LENGTHS[place as usize];
+    if place == 1 && is_leap(year) {
+        days + 1
+    } else {
+        days
     }
-    days
 }
 
 // A day by its year, counted from 2020, and by its number in the year, from 0, as a leap year counts: 1 March is 60 in
@@ -45,6 +39,7 @@ pub struct YearDay {
 }
 
 // The number that a day of a common year has in a leap year, which counts 29 February too.
+#[tactic(auto, unfolding(crate::specs::Places::with_leap_day))]
 fn with_leap_day(n: u32) -> u32
     requires { n < 365 }
     ensures { result ≡ with_leap_day n }
@@ -53,6 +48,7 @@ fn with_leap_day(n: u32) -> u32
 }
 
 // The year of a day of the calendar and its number there: a leap year and three common years are a cycle of 1,461 days.
+#[tactic(auto, using(crate::proofs::YearDays::month_early, crate::proofs::YearDays::month_later))]
 pub fn year_day(d: u32) -> YearDay
     requires { d ≤ last_day }
     ensures { 12 * result.year + begun 11 result.day ≡ month_of d }

@@ -24,9 +24,9 @@ use Rattle.layout.specs.Words.{book_of_words}
 use Rattle.clib.specs.Numbers.{SmallTotal}
 
 -- A refusal has no total.
-pub refused-small : (n : ℕ) → SmallTotal (refused n)
+pub refused_small : (n : ℕ) → SmallTotal (refused n)
 unfolding SmallTotal
-refused-small n = omega arith
+refused_small n = omega arith
 
 -- An answer behind causes: small if it is so where none of them holds.
 decide-small : (causes : List Cause) (x : Answer) → (All (λ (c : Cause). c.holds ≡ false) causes → SmallTotal x)
@@ -34,7 +34,7 @@ decide-small : (causes : List Cause) (x : Answer) → (All (λ (c : Cause). c.ho
 unfolding decide
 decide-small [] x h = h tt
 decide-small (c ∷ causes) x h =
-    split c.holds (λ e. rw e (refused-small c.number)) (λ e. rw e (decide-small causes x (λ a. h (e, a))))
+    split c.holds (λ e. rw e (refused_small c.number)) (λ e. rw e (decide-small causes x (λ a. h (e, a))))
 
 -- An accepted answer's total is the sum of the figures.
 settled-small : (f : File) (t m : ℕ) (figures : List ℤ) → wrong_count figures ≡ false → out_of_range figures ≡ false
@@ -53,5 +53,5 @@ answer-small b p m figures =
     settled-small (file_at b p) b.today.0 m figures none.1.0 none.1.1.0)))
 
 -- What a settlement gives has a small total.
-pub given-small : (l : List ℕ) (p m : ℕ) (figures : List ℤ) (x : Answer) (l' : List ℕ) → GivenWords l (on p (settle m figures)) x l' → SmallTotal x
-given-small l p m figures x l' g = subst SmallTotal (sym g.given.answered) (answer-small (book_of_words l) p m figures)
+pub given_small : (l : List ℕ) (p m : ℕ) (figures : List ℤ) (x : Answer) (l' : List ℕ) → GivenWords l (on p (settle m figures)) x l' → SmallTotal x
+given_small l p m figures x l' g = subst SmallTotal (sym g.given.answered) (answer-small (book_of_words l) p m figures)

@@ -1,9 +1,12 @@
 -- The numbers that a function of the C library returns for each answer of papers 01 and 02.
 -- Assumes nothing.
-use Rattle.std.specs.Prelude.{ℕ, ◌≤◌, ℤ, pos, nat_abs}
+use Rattle.std.specs.Prelude.{ℕ, ◌≤◌, ℤ, pos, nat_abs, Result, Ok, Err}
+use Rattle.refusal.specs.declared.Refusal.{Refusal}
+use Rattle.refusal.specs.Numbers.{number_of}
+use Rattle.batch.specs.declared.Misfit.{Misfit}
 use Rattle.file.specs.Answer.{Answer, refused, done, called, covered, recorded, annual, days_opened, stated, counted, batched, refused_pair}
-use Rattle.special.specs.declared.Special.{Special}
-use Rattle.special.specs.declared.Special.TheVariants as Specials
+use Rattle.clib.specs.declared.fault.Fault.{Fault}
+use Rattle.clib.specs.declared.fault.Fault.TheVariants as Faults
 use Rattle.clib.specs.declared.GuaranteeSettled.{GuaranteeSettled}
 use Rattle.clib.specs.declared.GuaranteeBatch.{GuaranteeBatch}
 use Rattle.clib.specs.declared.GuaranteeAnnual.{GuaranteeAnnual}
@@ -93,6 +96,23 @@ unfoldable pub SmallTotal : Answer → Type 0
 SmallTotal x = nat_abs (answer_numbers x).total ≤ 16000000000000
 
 -- For a special guarantee's.
-abbrev pub special_numbers : Special → GuaranteeSpecial
-special_numbers (Specials.Guarantee n) = record { refusal = 0; cents = n }
-special_numbers (Specials.Refused n) = record { refusal = n; cents = 0 }
+abbrev pub special_numbers : Result ℕ Refusal → GuaranteeSpecial
+special_numbers (Ok n) = record { refusal = 0; cents = n }
+special_numbers (Err r) = record { refusal = number_of r; cents = 0 }
+
+-- The answer that the book's refusal of a call stands for, and of a batch.
+abbrev pub refusal_says : Refusal → Answer
+refusal_says r = refused (number_of r)
+
+abbrev pub misfit_says : Misfit → Answer
+misfit_says m = refused_pair (number_of m.refusal) m.pair
+
+-- The answer to a call that gives nothing: 100 where the words are not as many as a book's.
+abbrev pub fault_says : {E : Type 0} → (E → Answer) → Fault E → Answer
+fault_says refusal Faults.OtherLength = refused 100
+fault_says refusal (Faults.Refused e) = refusal e
+
+-- The answer to a call on lent words, given those that its value and its refusal stand for.
+abbrev pub lent_says : {A E : Type 0} → (A → Answer) → (E → Answer) → Result A (Fault E) → Answer
+lent_says value refusal (Ok x) = value x
+lent_says value refusal (Err f) = fault_says refusal f

@@ -6,13 +6,15 @@
 #![tactic(auto)]
 
 mod calls; // calls.rt: the calls that change a book
+mod fault; // fault.rt: why a call on lent words gives nothing
+mod lent; // lent.rt: a call on lent words
 mod numbers; // numbers.rt: answers as numbers
 mod questions; // questions.rt: the questions, and the special guarantee
 
 // What a settlement answers: its kind is 1 called, 2 covered, 3 recorded; the month's total in cents; where it is called, the cents asked
 // beyond what is deposited, and the last free day.
 #[repr(C)]
-#[derive(Clone, Copy)]
+#[derive(Clone, Copy, Default)]
 pub struct GuaranteeSettled {
     pub refusal: u64,
     pub kind: u64,
@@ -23,7 +25,7 @@ pub struct GuaranteeSettled {
 
 // What a batch answers: how many parts were settled; where it is refused, the index from 0 of the pair that the refusal concerns.
 #[repr(C)]
-#[derive(Clone, Copy)]
+#[derive(Clone, Copy, Default)]
 pub struct GuaranteeBatch {
     pub refusal: u64,
     pub parts: u64,
@@ -32,7 +34,7 @@ pub struct GuaranteeBatch {
 
 // What an annual run answers: the next amount in cents, and how many months were recorded.
 #[repr(C)]
-#[derive(Clone, Copy)]
+#[derive(Clone, Copy, Default)]
 pub struct GuaranteeAnnual {
     pub refusal: u64,
     pub amount: u64,
@@ -41,7 +43,7 @@ pub struct GuaranteeAnnual {
 
 // What an advance answers: how many days it opened.
 #[repr(C)]
-#[derive(Clone, Copy)]
+#[derive(Clone, Copy, Default)]
 pub struct GuaranteeAdvanced {
     pub refusal: u64,
     pub opened: u64,
@@ -49,7 +51,7 @@ pub struct GuaranteeAdvanced {
 
 // A statement: firm amount, cover and shortfall in cents, days charged, and the accrued charge in mills.
 #[repr(C)]
-#[derive(Clone, Copy)]
+#[derive(Clone, Copy, Default)]
 pub struct GuaranteeStatement {
     pub refusal: u64,
     pub firm: u64,
@@ -61,7 +63,7 @@ pub struct GuaranteeStatement {
 
 // The count of calls made.
 #[repr(C)]
-#[derive(Clone, Copy)]
+#[derive(Clone, Copy, Default)]
 pub struct GuaranteeCount {
     pub refusal: u64,
     pub count: u64,
@@ -69,7 +71,7 @@ pub struct GuaranteeCount {
 
 // A day.
 #[repr(C)]
-#[derive(Clone, Copy)]
+#[derive(Clone, Copy, Default)]
 pub struct GuaranteeDay {
     pub refusal: u64,
     pub day: u64,
@@ -77,7 +79,7 @@ pub struct GuaranteeDay {
 
 // A special guarantee in cents.
 #[repr(C)]
-#[derive(Clone, Copy)]
+#[derive(Clone, Copy, Default)]
 pub struct GuaranteeSpecial {
     pub refusal: u64,
     pub cents: u64,

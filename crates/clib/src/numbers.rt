@@ -1,150 +1,185 @@
 // Answers as numbers.
 ghost use Rattle.std.specs.Prelude.{◌≡◌};
-ghost use Rattle.file.specs.Answer.{outcome_says, settled_says, annual_says};
-ghost use Rattle.book.specs.Call.{advanced_says, stated_says, loaded_says};
-ghost use Rattle.clib.specs.Numbers.{refusal_number, settled_numbers, batch_numbers, annual_numbers, advanced_numbers, statement_numbers};
-ghost use Rattle.clib.specs.Numbers.{special_numbers, SmallTotal};
+ghost use Rattle.file.specs.Answer.{done, annual, counted, batched, days_opened, settlement_says, statement_says};
+ghost use Rattle.clib.specs.Numbers.{lent_says, refusal_says, misfit_says, refusal_number, settled_numbers, batch_numbers, annual_numbers, advanced_numbers};
+ghost use Rattle.clib.specs.Numbers.{statement_numbers, count_numbers, day_numbers, special_numbers, SmallTotal};
 
+use crate::fault::{Fault, NOT_A_BOOK};
 use crate::{
-    GuaranteeAdvanced, GuaranteeAnnual, GuaranteeBatch, GuaranteeSettled, GuaranteeSpecial,
-    GuaranteeStatement,
+    GuaranteeAdvanced, GuaranteeAnnual, GuaranteeBatch, GuaranteeCount, GuaranteeDay,
+    GuaranteeSettled, GuaranteeSpecial, GuaranteeStatement,
 };
-use book::{Advanced, Loaded, Stated};
-use file::{AnnualRun, Outcome, Settled};
-use special::Special;
+use batch::Misfit;
+use calendar::Day;
+use file::{AnnualRun, Settled, Statement};
+use refusal::Refusal;
 
 // An outcome's number.
-pub fn outcome_number(answer: Outcome) -> u64
-    ensures { result ≡ refusal_number (outcome_says answer) }
+pub fn outcome_number(answer: Result<(), Fault<Refusal>>) -> u64
+    ensures { result ≡ refusal_number (lent_says (λ _. done) refusal_says answer) }
 {
-    match answer {
-        Outcome::Done => 0,
-        Outcome::Refused(number) => number as u64,
-    }
+    answer.map_or_else(|fault| fault.number(), |()| 0)
 }
 
 // A settlement's numbers; its total is a signed number of 64 bits, also where it is called.
-pub fn settled_numbers(answer: Settled) -> GuaranteeSettled
-    requires { SmallTotal (settled_says answer) }
-    ensures { result ≡ settled_numbers (settled_says answer) }
-{
-    match answer {
-        Settled::Called(total, asked, last) => GuaranteeSettled {
-            refusal: 0,
-            kind: 1,
-            total: total as i64,
-            asked,
-            last_free_day: last.0 as u64,
-        },
-        Settled::Covered(total) => GuaranteeSettled {
-            refusal: 0,
-            kind: 2,
-            total,
-            asked: 0,
-            last_free_day: 0,
-        },
-        Settled::Recorded(total) => GuaranteeSettled {
-            refusal: 0,
-            kind: 3,
-            total,
-            asked: 0,
-            last_free_day: 0,
-        },
-        Settled::Refused(number) => GuaranteeSettled {
-            refusal: number as u64,
-            kind: 0,
-            total: 0,
-            asked: 0,
-            last_free_day: 0,
-        },
+impl From<Result<Settled, Fault<Refusal>>> for GuaranteeSettled {
+    ghost from_gives = { λ answer numbers. SmallTotal (lent_says settlement_says refusal_says answer)
+        → numbers ≡ settled_numbers (lent_says settlement_says refusal_says answer) };
+
+    #[tactic(auto, using(crate::proofs::Shown::called_total), unfolding(crate::specs::Numbers::SmallTotal))]
+    fn from(answer: Result<Settled, Fault<Refusal>>) -> Self {
+        match answer {
+            Ok(Settled::Called(total, asked, last)) => GuaranteeSettled {
+                refusal: 0,
+                kind: 1,
+                total: total.cast_signed(),
+                asked,
+                last_free_day: last.0 as u64,
+            },
+            Ok(Settled::Covered(total)) => GuaranteeSettled {
+                kind: 2,
+                total,
+                ..Default::default()
+            },
+            Ok(Settled::Recorded(total)) => GuaranteeSettled {
+                kind: 3,
+                total,
+                ..Default::default()
+            },
+            Err(fault) => GuaranteeSettled {
+                refusal: fault.number(),
+                ..Default::default()
+            },
+        }
     }
 }
 
 // A batch's numbers.
-pub fn batch_numbers(answer: Loaded) -> GuaranteeBatch
-    ensures { result ≡ batch_numbers (loaded_says answer) }
-{
-    match answer {
-        Loaded::Parts(count) => GuaranteeBatch {
-            refusal: 0,
-            parts: count as u64,
-            pair: 0,
-        },
-        Loaded::Refused(number, pair) => GuaranteeBatch {
-            refusal: number as u64,
-            parts: 0,
-            pair: pair as u64,
-        },
+impl From<Result<u32, Fault<Misfit>>> for GuaranteeBatch {
+    ghost from_gives = { λ answer numbers. numbers ≡ batch_numbers (lent_says batched misfit_says answer) };
+
+    fn from(answer: Result<u32, Fault<Misfit>>) -> Self {
+        match answer {
+            Ok(parts) => GuaranteeBatch {
+                parts: parts as u64,
+                ..Default::default()
+            },
+            Err(Fault::Refused(misfit)) => GuaranteeBatch {
+                refusal: misfit.refusal.number() as u64,
+                parts: 0,
+                pair: misfit.pair as u64,
+            },
+            Err(Fault::OtherLength) => GuaranteeBatch {
+                refusal: NOT_A_BOOK,
+                ..Default::default()
+            },
+        }
     }
 }
 
 // An annual run's numbers.
-pub fn annual_numbers(answer: AnnualRun) -> GuaranteeAnnual
-    ensures { result ≡ annual_numbers (annual_says answer) }
-{
-    match answer {
-        AnnualRun::Amount(amount, months) => GuaranteeAnnual {
-            refusal: 0,
-            amount,
-            months,
-        },
-        AnnualRun::Refused(number) => GuaranteeAnnual {
-            refusal: number as u64,
-            amount: 0,
-            months: 0,
-        },
+impl From<Result<AnnualRun, Fault<Refusal>>> for GuaranteeAnnual {
+    ghost from_gives = { λ answer numbers. numbers ≡ annual_numbers (lent_says (λ run. annual run.amount run.months) refusal_says answer) };
+
+    fn from(answer: Result<AnnualRun, Fault<Refusal>>) -> Self {
+        match answer {
+            Ok(run) => GuaranteeAnnual {
+                refusal: 0,
+                amount: run.amount,
+                months: run.months,
+            },
+            Err(fault) => GuaranteeAnnual {
+                refusal: fault.number(),
+                ..Default::default()
+            },
+        }
     }
 }
 
 // An advance's numbers.
-pub fn advanced_numbers(answer: Advanced) -> GuaranteeAdvanced
-    ensures { result ≡ advanced_numbers (advanced_says answer) }
-{
-    match answer {
-        Advanced::Opened(days) => GuaranteeAdvanced {
-            refusal: 0,
-            opened: days as u64,
-        },
-        Advanced::Refused(number) => GuaranteeAdvanced {
-            refusal: number as u64,
-            opened: 0,
-        },
+impl From<Result<u32, Fault<Refusal>>> for GuaranteeAdvanced {
+    ghost from_gives = { λ answer numbers. numbers ≡ advanced_numbers (lent_says days_opened refusal_says answer) };
+
+    fn from(answer: Result<u32, Fault<Refusal>>) -> Self {
+        match answer {
+            Ok(days) => GuaranteeAdvanced {
+                refusal: 0,
+                opened: days as u64,
+            },
+            Err(fault) => GuaranteeAdvanced {
+                refusal: fault.number(),
+                ..Default::default()
+            },
+        }
     }
 }
 
 // A statement's numbers.
-pub fn statement_numbers(answer: Stated) -> GuaranteeStatement
-    ensures { result ≡ statement_numbers (stated_says answer) }
-{
-    match answer {
-        Stated::Is(statement) => GuaranteeStatement {
-            refusal: 0,
-            firm: statement.firm,
-            cover: statement.cover,
-            shortfall: statement.shortfall,
-            days_charged: statement.charged,
-            accrued_mills: statement.accrued,
-        },
-        Stated::Refused(number) => GuaranteeStatement {
-            refusal: number as u64,
-            firm: 0,
-            cover: 0,
-            shortfall: 0,
-            days_charged: 0,
-            accrued_mills: 0,
-        },
+impl From<Result<Statement, Fault<Refusal>>> for GuaranteeStatement {
+    ghost from_gives = { λ answer numbers. numbers ≡ statement_numbers (lent_says statement_says refusal_says answer) };
+
+    fn from(answer: Result<Statement, Fault<Refusal>>) -> Self {
+        match answer {
+            Ok(statement) => GuaranteeStatement {
+                refusal: 0,
+                firm: statement.firm,
+                cover: statement.cover,
+                shortfall: statement.shortfall,
+                days_charged: statement.charged,
+                accrued_mills: statement.accrued,
+            },
+            Err(fault) => GuaranteeStatement {
+                refusal: fault.number(),
+                ..Default::default()
+            },
+        }
+    }
+}
+
+// The numbers of the count of calls made.
+impl From<Result<u64, Fault<Refusal>>> for GuaranteeCount {
+    ghost from_gives = { λ answer numbers. numbers ≡ count_numbers (lent_says counted refusal_says answer) };
+
+    fn from(answer: Result<u64, Fault<Refusal>>) -> Self {
+        match answer {
+            Ok(count) => GuaranteeCount { refusal: 0, count },
+            Err(fault) => GuaranteeCount {
+                refusal: fault.number(),
+                ..Default::default()
+            },
+        }
+    }
+}
+
+// Today's numbers.
+impl From<Result<Day, Fault<Refusal>>> for GuaranteeDay {
+    ghost from_gives = { λ answer numbers. numbers ≡ day_numbers (lent_says (λ day. counted day.0) refusal_says answer) };
+
+    fn from(answer: Result<Day, Fault<Refusal>>) -> Self {
+        match answer {
+            Ok(day) => GuaranteeDay {
+                refusal: 0,
+                day: day.0 as u64,
+            },
+            Err(fault) => GuaranteeDay {
+                refusal: fault.number(),
+                ..Default::default()
+            },
+        }
     }
 }
 
 // A special guarantee's numbers.
-pub fn special_numbers(answer: Special) -> GuaranteeSpecial
-    ensures { result ≡ special_numbers answer }
-{
-    match answer {
-        Special::Guarantee(cents) => GuaranteeSpecial { refusal: 0, cents },
-        Special::Refused(number) => GuaranteeSpecial {
-            refusal: number as u64,
-            cents: 0,
-        },
+impl From<Result<u64, Refusal>> for GuaranteeSpecial {
+    ghost from_gives = { λ answer numbers. numbers ≡ special_numbers answer };
+
+    fn from(answer: Result<u64, Refusal>) -> Self {
+        match answer {
+            Ok(cents) => GuaranteeSpecial { refusal: 0, cents },
+            Err(refusal) => GuaranteeSpecial {
+                refusal: refusal.number() as u64,
+                ..Default::default()
+            },
+        }
     }
 }

@@ -1,4 +1,5 @@
 // The questions, which leave a book as it was, and the special guarantee, which needs none.
+// Kept: by the C interface each question is lent the words anew, and asks that they are a book.
 ghost use Rattle.std.specs.Prelude.{◌≡◌};
 ghost use Rattle.special.specs.Guarantee.{special_guarantee};
 ghost use Rattle.book.specs.Call.{statement, calls_made};
@@ -6,11 +7,11 @@ ghost use Rattle.book.specs.InWords.{GivenWords};
 ghost use Rattle.clib.specs.Numbers.{statement_numbers, count_numbers, day_numbers, special_numbers};
 ghost use Rattle.clib.specs.Returned.{FormedIfBook, Returned, TodayOf, Checked};
 
-use crate::numbers::{special_numbers, statement_numbers};
+use crate::fault::NOT_A_BOOK;
+use crate::lent::of_book;
 use crate::{GuaranteeCount, GuaranteeDay, GuaranteeSpecial, GuaranteeStatement};
-use book::Stated;
 use formed::is_well_formed;
-use special::special_guarantee;
+use special::{Lists, special_guarantee};
 
 // The statement of a participant.
 #[unsafe(no_mangle)]
@@ -19,10 +20,7 @@ pub extern "C" fn guarantee_statement(words: &[u64], participant: u64) -> Guaran
     ensures { Returned statement_numbers words.now
         (GivenWords words.now (statement participant)) result words.now }
 {
-    if words.len() != 6147 {
-        return statement_numbers(Stated::Refused(100));
-    }
-    statement_numbers(book::statement(words, participant))
+    of_book(words, |book| book::statement(book, participant)).into()
 }
 
 // The count of calls made.
@@ -31,16 +29,7 @@ pub extern "C" fn guarantee_calls_made(words: &[u64]) -> GuaranteeCount
     requires { FormedIfBook words.now }
     ensures { Returned count_numbers words.now (GivenWords words.now calls_made) result words.now }
 {
-    if words.len() != 6147 {
-        return GuaranteeCount {
-            refusal: 100,
-            count: 0,
-        };
-    }
-    GuaranteeCount {
-        refusal: 0,
-        count: book::calls_made(words),
-    }
+    of_book(words, |book| Ok(book::calls_made(book))).into()
 }
 
 // Today.
@@ -49,17 +38,7 @@ pub extern "C" fn guarantee_today(words: &[u64]) -> GuaranteeDay
     requires { FormedIfBook words.now }
     ensures { Returned day_numbers words.now (TodayOf words.now) result words.now }
 {
-    if words.len() != 6147 {
-        return GuaranteeDay {
-            refusal: 100,
-            day: 0,
-        };
-    }
-    let today = book::today(words);
-    GuaranteeDay {
-        refusal: 0,
-        day: today.0 as u64,
-    }
+    of_book(words, |book| Ok(book::today(book))).into()
 }
 
 // Whether words of any number and content are a book: 0 if they are, 100 if not.
@@ -67,10 +46,7 @@ pub extern "C" fn guarantee_today(words: &[u64]) -> GuaranteeDay
 pub extern "C" fn guarantee_check(words: &[u64]) -> u64
     ensures { Checked words.now result }
 {
-    if is_well_formed(words) {
-        return 0;
-    }
-    100
+    if is_well_formed(words) { 0 } else { NOT_A_BOOK }
 }
 
 // The special guarantee: the rates of the medium and of the low voltage, a mark for each of the low voltage's, and by semester the
@@ -88,7 +64,7 @@ pub extern "C" fn guarantee_special(
     ensures { result ≡ special_numbers (special_guarantee medium.now low.now marks.now zero_medium.now
         zero_low.now excess_medium.now excess_low.now) }
 {
-    special_numbers(special_guarantee(
+    special_guarantee(Lists {
         medium,
         low,
         marks,
@@ -96,5 +72,6 @@ pub extern "C" fn guarantee_special(
         zero_low,
         excess_medium,
         excess_low,
-    ))
+    })
+    .into()
 }

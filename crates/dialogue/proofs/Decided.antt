@@ -38,22 +38,8 @@ book-more seen a = refl
 -- The rule behind a line: the new one behind the mark, and behind any other line what it was.
 rule-more : (seen : List Asked) (r : Request) (zs : List ℤ) → rule_behind (asked r zs ∷ seen) ≡ cond (is_role_retired r) new_rule (rule_behind seen)
 unfolding rule_behind
-rule-more seen Request.Nothing zs = refl
-rule-more seen (Request.Fresh d) zs = refl
-rule-more seen (Request.Admit p r) zs = refl
-rule-more seen (Request.LodgeCash p q a) zs = refl
-rule-more seen (Request.LodgeLetter p q a f l) zs = refl
-rule-more seen (Request.Release p q a) zs = refl
-rule-more seen (Request.Settle p m n) zs = refl
-rule-more seen (Request.Annual p) zs = refl
-rule-more seen (Request.Advance t b) zs = refl
-rule-more seen (Request.Statement p) zs = refl
-rule-more seen Request.Calls zs = refl
-rule-more seen (Request.Special n) zs = refl
-rule-more seen (Request.Batch n) zs = refl
 rule-more seen Request.RoleRetired zs = refl
-rule-more seen Request.Report zs = refl
-rule-more seen (Request.Error e) zs = refl
+rule-more seen r zs = refl
 
 -- .. as the place has it: where a journal is replayed the mark ends the first stretch, and elsewhere the rule is the new one.
 rule-behind : (replays early mark kept : Bool)

@@ -40,22 +40,8 @@ takes-any rule b n m (fault e) = refl
 
 -- What is taken is not the mark.
 no-mark : (rule : Rule) (b : Book) (n : ℕ) (r : Request) (zs : List ℤ) → takes (answer_to rule b n (asked r zs)) ≡ true → is_role_retired r ≡ false
-no-mark rule b n Request.Nothing zs h = refl
-no-mark rule b n (Request.Fresh d) zs h = refl
-no-mark rule b n (Request.Admit p r) zs h = refl
-no-mark rule b n (Request.LodgeCash p q a) zs h = refl
-no-mark rule b n (Request.LodgeLetter p q a f l) zs h = refl
-no-mark rule b n (Request.Release p q a) zs h = refl
-no-mark rule b n (Request.Settle p m k) zs h = refl
-no-mark rule b n (Request.Annual p) zs h = refl
-no-mark rule b n (Request.Advance t k) zs h = refl
-no-mark rule b n (Request.Statement p) zs h = refl
-no-mark rule b n Request.Calls zs h = refl
-no-mark rule b n (Request.Special k) zs h = refl
-no-mark rule b n (Request.Batch k) zs h = refl
 no-mark rule b n Request.RoleRetired zs h = sym h
-no-mark rule b n Request.Report zs h = refl
-no-mark rule b n (Request.Error e) zs h = refl
+no-mark rule b n r zs h = refl
 
 -- What is taken is not refused.
 unrefused : (a : Answer) → takes a ≡ true → refuses a ≡ false

@@ -39,21 +39,7 @@ numeric-plain room before l = printed-plain (parsed room (text_of before l)).req
 first_byte : (r : Request) (zs : List ℤ) → eqb (get_or (printed r zs) 0 0) 239 ≡ false
 unfolding printed joined call_words
 first_byte Request.Nothing zs = refl
-first_byte (Request.Fresh d) zs = refl
-first_byte (Request.Admit p r) zs = refl
-first_byte (Request.LodgeCash p q a) zs = refl
-first_byte (Request.LodgeLetter p q a f l) zs = refl
-first_byte (Request.Release p q a) zs = refl
-first_byte (Request.Settle p m n) zs = refl
-first_byte (Request.Annual p) zs = refl
-first_byte (Request.Advance t b) zs = refl
-first_byte (Request.Statement p) zs = refl
-first_byte Request.Calls zs = refl
-first_byte (Request.Special n) zs = refl
-first_byte (Request.Batch n) zs = refl
-first_byte Request.RoleRetired zs = refl
-first_byte Request.Report zs = refl
-first_byte (Request.Error e) zs = refl
+first_byte r zs = refl
 
 unmarked : (before : ℕ) (l : List ℕ) → eqb (get_or l 0 0) 239 ≡ false → text_of before l ≡ l
 unfolding text_of mark_length

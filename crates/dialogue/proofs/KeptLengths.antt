@@ -5,8 +5,8 @@ use lib.Signed.{mag}
 use lib.ListN.{length-map}
 use Rattle.laws.specs.Cases.{clash}
 use Rattle.laws.specs.Lists.{All}
-use Rattle.special.specs.declared.Special.{Special}
-use Rattle.special.specs.declared.Special.TheVariants as Specials
+use Rattle.std.specs.Prelude.{Result, Ok, Err}
+use Rattle.refusal.specs.declared.Refusal.{Refusal}
 use Rattle.file.specs.Answer as Said
 use Rattle.file.specs.Answer.{accepted}
 use Rattle.layout.specs.Book.{Book}
@@ -17,7 +17,7 @@ use Rattle.journal.specs.Grammar.{are_marks, length_list}
 use Rattle.journal.specs.declared.Request.{Request}
 use Rattle.journal.proofs.Counts.{count_of}
 use Rattle.printing.specs.Decimals.{decimal, integer, spaced, joined}
-use Rattle.printing.specs.PlacedLaws.{spaced-append}
+use Rattle.printing.specs.WrittenLaws.{spaced-append}
 use Rattle.printing.specs.Lines.{cut, list_words, call_words, printed, Natural64, Holds, Hold, Fitting}
 use Rattle.printing.proofs.HexLaws.{batch-short}
 use Rattle.answering.specs.Asked.{asked, answer_to, guarantee_of, byte_of, batch_bytes}
@@ -84,7 +84,6 @@ file-short n zs = omega (arith, batch-short n zs)
 -- A call whose numbers fit their types, as a line.
 printed-short : (r : Request) (zs : List ℤ) → Fitting r zs → length (printed r zs) ≤ 200 + 22 * length zs
 unfolding printed call_words joined spaced
-printed-short Request.Nothing zs f = omega arith
 printed-short (Request.Fresh d) zs f = simp length-append (omega (arith, natural d.0 (omega (arith, f.0))))
 printed-short (Request.Admit p r) zs f = simp length-append (omega (arith, natural p f.0, natural r f.1))
 printed-short (Request.LodgeCash p q a) zs f = simp length-append (omega (arith, natural p f.0, natural q f.1, natural a f.2))
@@ -97,19 +96,17 @@ printed-short (Request.Settle p m n) zs f =
 printed-short (Request.Annual p) zs f = simp length-append (omega (arith, natural p f.0))
 printed-short (Request.Advance t b) zs f = simp length-append (omega (arith, natural t.0 (omega (arith, f.0)), natural b f.1))
 printed-short (Request.Statement p) zs f = simp length-append (omega (arith, natural p f.0))
-printed-short Request.Calls zs f = omega arith
 printed-short (Request.Special n) zs f = simp length-append (omega (arith, lists-short are_marks (length_list n) zs f.2 f.0))
 printed-short (Request.Batch n) zs f = file-short n zs
-printed-short Request.RoleRetired zs f = omega arith
-printed-short Request.Report zs f = omega arith
 printed-short (Request.Error e) zs f = absurd f
+printed-short r zs f = omega arith
 
 -- ---- a kept call's numbers
 
 -- The answer of a special guarantee is not kept.
-special-untaken : (x : Special) → takes (guarantee_shown x) ≡ false
-special-untaken (Specials.Guarantee c) = refl
-special-untaken (Specials.Refused n) = refl
+special-untaken : (x : Result ℕ Refusal) → takes (guarantee_shown x) ≡ false
+special-untaken (Ok c) = refl
+special-untaken (Err r) = refl
 
 -- A call that is kept is accepted.
 taken-accepted : (x : Said.Answer) → takes (shown x) ≡ true → accepted x ≡ true
@@ -135,23 +132,12 @@ batch-few rule b n zs e h =
 -- A kept call has room: at most 16 figures of a settlement or 8,836 bytes of a batch are printed.
 pub kept-short : (rule : Rule) (b : Book) (k : ℕ) (r : Request) (zs : List ℤ) → Fitting r zs → count_of r ≡ length zs
     → takes (answer_to rule b k (asked r zs)) ≡ true → length (printed r zs) ≤ 20000
-kept-short rule b k Request.Nothing zs f e h = omega (arith, printed-short Request.Nothing zs f)
-kept-short rule b k (Request.Fresh d) zs f e h = omega (arith, printed-short (Request.Fresh d) zs f)
-kept-short rule b k (Request.Admit p r) zs f e h = omega (arith, printed-short (Request.Admit p r) zs f)
-kept-short rule b k (Request.LodgeCash p q a) zs f e h = omega (arith, printed-short (Request.LodgeCash p q a) zs f)
-kept-short rule b k (Request.LodgeLetter p q a l m) zs f e h = omega (arith, printed-short (Request.LodgeLetter p q a l m) zs f)
-kept-short rule b k (Request.Release p q a) zs f e h = omega (arith, printed-short (Request.Release p q a) zs f)
 kept-short rule b k (Request.Settle p m n) zs f e h =
     let x : accepted (answer rule b (on p (settle m.0 (take n zs)))) ≡ true =
     taken-accepted (answer rule b (on p (settle m.0 (take n zs)))) h in
     omega (arith, printed-short (Request.Settle p m n) zs f, settle-few rule b p m.0 (take n zs) x, length-take n zs)
-kept-short rule b k (Request.Annual p) zs f e h = omega (arith, printed-short (Request.Annual p) zs f)
-kept-short rule b k (Request.Advance t n) zs f e h = omega (arith, printed-short (Request.Advance t n) zs f)
-kept-short rule b k (Request.Statement p) zs f e h = omega (arith, printed-short (Request.Statement p) zs f)
-kept-short rule b k Request.Calls zs f e h = omega (arith, printed-short Request.Calls zs f)
 kept-short rule b k (Request.Special n) zs f e h = clash {t = false} (sym (special-untaken (guarantee_of n zs)) ∙ h) refl
 kept-short rule b k (Request.Batch n) zs f e h =
     omega (arith, batch-short n zs, batch-few rule b n zs e (taken-accepted (answer rule b (batch (batch_bytes n zs))) h))
-kept-short rule b k Request.RoleRetired zs f e h = omega (arith, printed-short Request.RoleRetired zs f)
-kept-short rule b k Request.Report zs f e h = omega (arith, printed-short Request.Report zs f)
 kept-short rule b k (Request.Error w) zs f e h = absurd f
+kept-short rule b k r zs f e h = omega (arith, printed-short r zs f)

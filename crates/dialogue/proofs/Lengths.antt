@@ -6,7 +6,7 @@ use Rattle.laws.specs.Cases.{split}
 use Rattle.journal.specs.declared.Reason.{Reason}
 use Rattle.printing.specs.declared.Answer.{Answer}
 use Rattle.printing.specs.Decimals.{decimal, integer, spaced, joined}
-use Rattle.printing.specs.PlacedLaws.{decimal_step, decimal-small}
+use Rattle.printing.specs.WrittenLaws.{decimal_step, decimal-small}
 use Rattle.printing.specs.Answers.{reason_text, answer_words, answer_line}
 use Rattle.dialogue.specs.Said.{Small, SmallNumbers, said}
 
@@ -34,38 +34,26 @@ integer-short (negsuc n) h = omega (arith, decimal-short 19 (suc n) (omega arith
 
 reason-short : (e : Reason) → length (reason_text e) ≤ 41
 reason-short Reason.ControlByte = omega arith
-reason-short Reason.NoCall = omega arith
-reason-short Reason.TooFewWords = omega arith
-reason-short Reason.TooManyWords = omega arith
-reason-short Reason.NotNumber = omega arith
-reason-short Reason.NotDay = omega arith
-reason-short Reason.NotMonth = omega arith
-reason-short Reason.NotRole = omega arith
-reason-short Reason.NotCashOrLetter = omega arith
-reason-short Reason.NotHex = omega arith
-reason-short Reason.TooLong = omega arith
-reason-short Reason.FreshLater = omega arith
-reason-short Reason.NoNewline = omega arith
-reason-short Reason.ReadOnly = omega arith
+reason-short e = omega arith
 
 -- Every answer with its newline has at most 128 bytes.
-pub said-short : (a : Answer) → SmallNumbers a → length (said a) ≤ 128
+pub said_short : (a : Answer) → SmallNumbers a → length (said a) ≤ 128
 unfolding said answer_line answer_words joined spaced
-said-short Answer.Nothing h = omega arith
-said-short Answer.Done h = omega arith
-said-short (Answer.Refused n) h = simp length-append (omega (arith, number_short n h))
-said-short (Answer.Called e a d) h =
+said_short Answer.Nothing h = omega arith
+said_short Answer.Done h = omega arith
+said_short (Answer.Refused n) h = simp length-append (omega (arith, number_short n h))
+said_short (Answer.Called e a d) h =
     simp length-append (omega (arith, number_short e h.0, number_short a h.1, number_short d.0 h.2))
-said-short (Answer.Covered e) h = simp length-append (omega (arith, integer-short e h))
-said-short (Answer.Recorded e) h = simp length-append (omega (arith, integer-short e h))
-said-short (Answer.Annual a m) h = simp length-append (omega (arith, number_short a h.0, number_short m h.1))
-said-short (Answer.Opened d) h = simp length-append (omega (arith, number_short d h))
-said-short (Answer.Statement f c s d m) h =
+said_short (Answer.Covered e) h = simp length-append (omega (arith, integer-short e h))
+said_short (Answer.Recorded e) h = simp length-append (omega (arith, integer-short e h))
+said_short (Answer.Annual a m) h = simp length-append (omega (arith, number_short a h.0, number_short m h.1))
+said_short (Answer.Opened d) h = simp length-append (omega (arith, number_short d h))
+said_short (Answer.Statement f c s d m) h =
     simp length-append
     (omega
     (arith, number_short f h.0, number_short c h.1, number_short s h.2, number_short d h.3, number_short m h.4))
-said-short (Answer.Calls n) h = simp length-append (omega (arith, number_short n h))
-said-short (Answer.Special c) h = simp length-append (omega (arith, number_short c h))
-said-short (Answer.Batch n) h = simp length-append (omega (arith, number_short n h))
-said-short (Answer.RefusedPair n i) h = simp length-append (omega (arith, number_short n h.0, number_short i h.1))
-said-short (Answer.Error l e) h = simp length-append (omega (arith, number_short l h, reason-short e))
+said_short (Answer.Calls n) h = simp length-append (omega (arith, number_short n h))
+said_short (Answer.Special c) h = simp length-append (omega (arith, number_short c h))
+said_short (Answer.Batch n) h = simp length-append (omega (arith, number_short n h))
+said_short (Answer.RefusedPair n i) h = simp length-append (omega (arith, number_short n h.0, number_short i h.1))
+said_short (Answer.Error l e) h = simp length-append (omega (arith, number_short l h, reason-short e))

@@ -1,7 +1,5 @@
-pub mod Newlines
 pub mod SplitLaws
 pub mod AskLaws
-pub mod Spoken
 pub mod Lengths
 pub mod ReportLength
 pub mod BatchLength

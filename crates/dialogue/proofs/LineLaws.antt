@@ -1,141 +1,50 @@
 -- One line taken.
 -- Assumes nothing.
-use Rattle.std.proofs.Common.{◌≡◌, ℕ, ◌+◌, ◌%◌, ◌^◌, ◌≤◌, Bool, true, false, cond, not, ◌&&◌, List, [], ◌∷◌, ◌++◌, length, ℤ, sym, refl, ap, ◌∙◌, subst, arith, length-append}
+use Rattle.std.proofs.Common.{◌≡◌, ℕ, ◌≤◌, Bool, true, false, cond, ◌&&◌, List, [], ◌∷◌, ◌++◌, length, ℤ, sym, refl, ap, ◌∙◌, subst, arith, length-append}
 use Rattle.laws.specs.Cases.{split, clash, by-test, and_right}
 use Rattle.layout.specs.Book.{Book}
 use Rattle.layout.specs.Words.{book_of_words}
 use Rattle.layout.specs.WellFormed.{WellFormed}
-use Rattle.book.specs.Rule.{Rule, old_rule, new_rule}
+use Rattle.book.specs.Rule.{Rule}
 use Rattle.journal.specs.Grammar.{parsed}
 use Rattle.journal.specs.Steps.{ParsedIs}
 use Rattle.journal.specs.declared.Request.{Request}
 use Rattle.journal.proofs.Counts.{IsCall, parsed-counted}
 use Rattle.printing.specs.declared.Answer.{Answer}
-use Rattle.printing.specs.Answers.{answer_line}
 use Rattle.printing.specs.Decimals.{spaced, joined}
 use Rattle.printing.specs.Lines.{call_words, printed}
-use Rattle.printing.specs.Placed.{Put}
-use Rattle.printing.specs.PlacedLaws.{put_then, put-none}
+use Rattle.printing.specs.Written.{Sheet, followed}
+use Rattle.printing.specs.WrittenLaws.{followed_twice}
 use Rattle.printing.proofs.ParsedFits.{parsed-fitting}
 use Rattle.report.specs.Table.{report_text}
 use Rattle.answering.specs.Asked.{Asked, asked, answer_to, book_after}
 use Rattle.answering.specs.InWords.{AnsweredWords}
-use Rattle.answering.specs.Kept.{takes, refuses, is_role_retired, kept_line, retired_line}
+use Rattle.answering.specs.Kept.{takes, refuses, kept_line, retired_line}
 use Rattle.answering.specs.Lines.{line_request, LineIs}
 use Rattle.answering.proofs.OwnNumbers.{own, asked-cut}
 use Rattle.answering.proofs.ParsedLines.{parsed-own, call-is-parsed}
 use Rattle.dialogue.specs.declared.Way.{Way}
 use Rattle.dialogue.specs.declared.Place.{Place}
 use Rattle.dialogue.specs.Asks.{text_of, held_back, request_of, asks, rule_at, LineAsked}
-use Rattle.dialogue.specs.Said.{speaks, Spoken, said, Said, wants_table, tabled, Tabled, Added}
-use Rattle.dialogue.specs.Turns.{next, counted, ends_stretch, ends_at, further, answer_of, is_kept, after, bytes_of, numeric, journal_of}
+use Rattle.dialogue.specs.Said.{said, Said, wants_table, tabled, Tabled, Added}
+use Rattle.dialogue.specs.Turns.{next, ends_stretch, ends_at, further, answer_of, is_kept, after, bytes_of, numeric, journal_of}
 use Rattle.dialogue.specs.Answers.{state_of, Turned, LineTaken}
 use Rattle.dialogue.proofs.AskLaws.{held-call}
 use Rattle.dialogue.proofs.KeptLengths.{kept-short}
-use Rattle.dialogue.proofs.Lengths.{said-short}
 use Rattle.dialogue.proofs.ReportLength.{report-short}
 
-pub next-is : (n r : ℕ) → r ≡ (n + 1) % 2 ^ 64 → r ≡ next n
-unfolding next
-next-is n r e = e
-
--- What is said, and what is shown.
-pub said-line : (answer : Answer) (e f : List ℕ) (at r : ℕ) (t : Bool) → Spoken answer t → t ≡ true → Put (answer_line answer ++ (10 ∷ [])) e at r f
-    → Said answer e at r f
-unfolding said
-said-line answer e f at r t k h x =
-    let g : speaks answer ≡ true = sym k.whether ∙ h in
-    record { put = rw g x; most = said-short answer k.small }
-
-pub said-none : (answer : Answer) (e : List ℕ) (at : ℕ) (t : Bool) → Spoken answer t → t ≡ false → Said answer e at at e
-unfolding said
-said-none answer e at t k h =
-    let g : speaks answer ≡ false = sym k.whether ∙ h in
-    record { put = rw g (put-none e at); most = said-short answer k.small }
-
-tabled-short : (request : Request) (l : List ℕ) → WellFormed l → length (tabled request (book_of_words l)) ≤ 15000
+-- The table, and nothing in its place, are short.
+pub tabled_short : (request : Request) (l : List ℕ) → WellFormed l → length (tabled request (book_of_words l)) ≤ 15000
 unfolding tabled
-tabled-short request l w =
+tabled_short request l w =
     by-test (wants_table request) (report_text (book_of_words l)) [] (λ (t : List ℕ). length t ≤ 15000) (λ e. report-short l w) (λ e. omega arith)
-
-pub tabled-book : (request : Request) (l e f : List ℕ) (at r : ℕ) (t : Bool) → WellFormed l → t ≡ wants_table request → t ≡ true
-    → Put (report_text (book_of_words l)) e at r f → Tabled request (book_of_words l) e at r f
-unfolding tabled
-tabled-book request l e f at r t w k h x =
-    let g : wants_table request ≡ true = sym k ∙ h in
-    record { put = rw g x; most = tabled-short request l w }
-
-pub tabled-none : (request : Request) (l e : List ℕ) (at : ℕ) (t : Bool) → WellFormed l → t ≡ wants_table request → t ≡ false
-    → Tabled request (book_of_words l) e at at e
-unfolding tabled
-tabled-none request l e at t w k h =
-    let g : wants_table request ≡ false = sym k ∙ h in
-    record { put = rw g (put-none e at); most = tabled-short request l w }
-
-pub put-taken : (t : Bool) (bs e f : List ℕ) (at r : ℕ) → t ≡ true → Put bs e at r f → Put (cond t bs []) e at r f
-put-taken t bs e f at r h x = rw h x
-
-pub put-untaken : (t : Bool) (bs e : List ℕ) (at : ℕ) → t ≡ false → Put (cond t bs []) e at at e
-put-untaken t bs e at h = rw h (put-none e at)
-
--- A count.
-pub one_more : (t : Bool) (n r : ℕ) → t ≡ true → r ≡ next n → r ≡ counted t n
-one_more t n r h e = rw h e
-
-pub as_many : (t : Bool) (n : ℕ) → t ≡ false → n ≡ counted t n
-as_many t n h = rw h refl
-
--- The place behind a line.
-pub place-further : (p : Place) (kept refused marked : Bool) (a b c : ℕ) → a ≡ next p.line → b ≡ counted refused p.refused
-    → c ≡ counted kept p.kept
-    → record { line = a; refused = b; kept = c; long = false; early = p.early && not marked } ≡ further p kept refused marked
-place-further p kept refused marked a b c x y z =
-    λ i. record { line = x i; refused = y i; kept = z i; long = false; early = p.early && not marked }
-
--- Whether a line ends the first stretch of a journal, by the tests of the code.
-pub ends-replayed : (way : Way) (p : Place) (request : Request) (kept r : Bool) → way.replays ≡ true → r ≡ is_role_retired request
-    → (p.early && r) ≡ ends_stretch way p request kept
-ends-replayed way p request kept r e h = rw e (ap (λ (z : Bool). p.early && z) h)
-
-pub ends-kept : (way : Way) (p : Place) (request : Request) (kept : Bool) → way.replays ≡ false
-    → (p.early && kept) ≡ ends_stretch way p request kept
-ends-kept way p request kept e = rw e refl
-
--- The rule that a line's call is made under, by the test of the code.
-pub by-old-rule : (way : Way) (p : Place) (l : List ℕ) (n : ℕ) (a : Asked) (x : Answer) (m : List ℕ) → (way.replays && p.early) ≡ true
-    → AnsweredWords old_rule l n a x m → AnsweredWords (rule_at way p) l n a x m
-by-old-rule way p l n a x m e g = rw e g
-
-pub by-new-rule : (way : Way) (p : Place) (l : List ℕ) (n : ℕ) (a : Asked) (x : Answer) (m : List ℕ) → (way.replays && p.early) ≡ false
-    → AnsweredWords new_rule l n a x m → AnsweredWords (rule_at way p) l n a x m
-by-new-rule way p l n a x m e g = rw e g
-
--- The line of the mark.
-pub put-marked : (t : Bool) (ys : List ℤ) (e f : List ℕ) (at r : ℕ) → t ≡ true → Put (kept_line Request.RoleRetired ys) e at r f
-    → Put (cond t retired_line []) e at r f
-unfolding kept_line
-put-marked t ys e f at r h x = rw h x
 
 -- ---- the call that is kept
 
 -- What is taken is a call.
 pub is_call : (rule : Rule) (b : Book) (n : ℕ) (q : Request) (ys : List ℤ) → takes (answer_to rule b n (asked q ys)) ≡ true → IsCall q
-is_call rule b n Request.Nothing ys h = tt
-is_call rule b n (Request.Fresh d) ys h = tt
-is_call rule b n (Request.Admit p r) ys h = tt
-is_call rule b n (Request.LodgeCash p q a) ys h = tt
-is_call rule b n (Request.LodgeLetter p q a f l) ys h = tt
-is_call rule b n (Request.Release p q a) ys h = tt
-is_call rule b n (Request.Settle p m k) ys h = tt
-is_call rule b n (Request.Annual p) ys h = tt
-is_call rule b n (Request.Advance t k) ys h = tt
-is_call rule b n (Request.Statement p) ys h = tt
-is_call rule b n Request.Calls ys h = tt
-is_call rule b n (Request.Special k) ys h = tt
-is_call rule b n (Request.Batch k) ys h = tt
-is_call rule b n Request.RoleRetired ys h = tt
-is_call rule b n Request.Report ys h = tt
 is_call rule b n (Request.Error e) ys h = clash {t = false} h refl
+is_call rule b n q ys h = tt
 
 -- The request of a kept line is the one that was parsed, and its numbers are its own in the lent slice.
 record KeptCall (l : List ℕ) (room : ℕ) (q : Request) (ys : List ℤ) : Type 0 where
@@ -284,22 +193,25 @@ module _ (way : Way) (p : Place) (l : List ℕ) (zs ys : List ℤ) (request : Re
             mark-few (way.keeps && v),
           ))
 
-pub added : (request : Request) (answer : Answer) (kept marked : Bool) (ys : List ℤ) (words j i k : List ℕ) (x o y : ℕ) (e f g : List ℕ)
-    (at a b : ℕ) → Put (cond marked retired_line []) j x o i → Put (cond kept (kept_line request ys) []) i o y k → Said answer e at a f
-    → Tabled request (book_of_words words) f a b g → Added request answer kept marked ys words j x e at y k b g
-added request answer kept marked ys words j i k x o y e f g at a b v w c d =
+pub added : (request : Request) (answer : Answer) (kept marked : Bool) (ys : List ℤ) (words : List ℕ) (j i k e f g : Sheet)
+    → i ≡ followed j (cond marked (kept_line Request.RoleRetired ys) []) → k ≡ followed i (cond kept (kept_line request ys) []) → Said answer e f
+    → Tabled request (book_of_words words) f g → Added request answer kept marked ys words j e k g
+unfolding kept_line
+added request answer kept marked ys words j i k e f g v w c d =
     record {
-      journal = put_then (cond marked retired_line []) (cond kept (kept_line request ys) []) j i k x o y v w;
-      bytes = put_then (said answer) (tabled request (book_of_words words)) e f g at a b c.put d.put;
+      journal = w ∙ ap (λ (z : Sheet). followed z (cond kept (kept_line request ys) [])) v
+          ∙ followed_twice j (cond marked retired_line []) (cond kept (kept_line request ys) []);
+      bytes = d.put ∙ ap (λ (z : Sheet). followed z (tabled request (book_of_words words))) c.put
+          ∙ followed_twice e (said answer) (tabled request (book_of_words words));
       most = omega (arith, length-append (said answer) (tabled request (book_of_words words)), c.most, d.most);
     }
 
 -- What a line leaves, by the tests of the code.
-pub turned : (way : Way) (p q : Place) (request : Request) (answer : Answer) (ys : List ℤ) (words : List ℕ) (t t₁ u v : Bool) (j k : List ℕ)
-    (x y : ℕ) (e f : List ℕ) (at r : ℕ) → t₁ ≡ takes answer → t ≡ (way.keeps && t₁) → v ≡ ends_stretch way p request t
-    → Added request answer t (way.keeps && v) ys words j x e at y k r f → u ≡ refuses answer → q ≡ further p t u v
-    → Turned way p request answer ys words j x e at q y k r f
-turned way p q request answer ys words t t₁ u v j k x y e f at r h₁ h ends c w d =
+pub turned : (way : Way) (p q : Place) (request : Request) (answer : Answer) (ys : List ℤ) (words : List ℕ) (t t₁ u v : Bool) (j e k f : Sheet)
+    → t₁ ≡ takes answer → t ≡ (way.keeps && t₁) → v ≡ ends_stretch way p request t
+    → Added request answer t (way.keeps && v) ys words j e k f → u ≡ refuses answer → q ≡ further p t u v
+    → Turned way p request answer ys words j e q k f
+turned way p q request answer ys words t t₁ u v j e k f h₁ h ends c w d =
     record {
       kept = t;
       whether = h ∙ ap (λ (z : Bool). way.keeps && z) h₁;
@@ -308,11 +220,11 @@ turned way p q request answer ys words t t₁ u v j k x y e f at r h₁ h ends c
     }
 
 pub line_taken : (way : Way) (p q : Place) (l : List ℕ) (zs ys : List ℤ) (request : Request) (answer : Answer) (words m : List ℕ)
-    (number : ℕ) (j k : List ℕ) (x y : ℕ) (e f : List ℕ) (at r : ℕ) → LineAsked way p l zs request ys → number ≡ next p.line
-    → AnsweredWords (rule_at way p) words number (asked request ys) answer m → Turned way p request answer ys m j x e at q y k r f
-    → length zs ≤ 18446744073709551615 → LineTaken way (length zs) words p l j x e at m q y k r f
+    (number : ℕ) (j e k f : Sheet) → LineAsked way p l zs request ys → number ≡ next p.line
+    → AnsweredWords (rule_at way p) words number (asked request ys) answer m → Turned way p request answer ys m j e q k f
+    → length zs ≤ 18446744073709551615 → LineTaken way (length zs) words p l j e m q k f
 unfolding bytes_of
-line_taken way p q l zs ys request answer words m number j k x y e f at r is n given turn long =
+line_taken way p q l zs ys request answer words m number j e k f is n given turn long =
     let t = turn.kept in
     let kept = turn.whether in
     let v = ends_stretch way p request t in
@@ -321,9 +233,7 @@ line_taken way p q l zs ys request answer words m number j k x y e f at r is n g
     let o = left-book way p l zs ys request answer words m number is n given in
     record {
       left = left-state way p l zs ys request answer words m number is n given t kept v refl q (refuses answer) refl turn.place;
-      journal =
-          subst (λ (z : List ℕ). Put z j x y k) (journal-line way p l zs ys request answer words m number is n given t kept v refl)
-          c.journal;
+      journal = c.journal ∙ ap (followed j) (journal-line way p l zs ys request answer words m number is n given t kept v refl);
       bytes = rw (← i, ← o, ← is.request) c.bytes;
       few_kept = journal-few way p l zs ys request answer words m number is n given t kept v refl long;
       few_said = rw (← i, ← o, ← is.request) c.most;

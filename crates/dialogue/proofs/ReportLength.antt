@@ -6,7 +6,8 @@ use Rattle.laws.specs.Cases.{split}
 use Rattle.laws.specs.Lists.{all-default, table}
 use Rattle.laws.specs.Tabulated.{length-table, get_d-table}
 use Rattle.calendar.specs.Dates.{date_of}
-use Rattle.calendar.specs.declared.date.Dated.{Dated}
+use Rattle.std.specs.Prelude.{Option, Some, None}
+use Rattle.calendar.specs.declared.date.Date.{Date}
 use Rattle.file.specs.Answer.{stated, decide}
 use Rattle.file.specs.Fields.{cover_of, shortfall_of}
 use Rattle.file.specs.KeepsPositions.{sound-cover}
@@ -108,10 +109,10 @@ rows_short (suc n) b r eight h =
 
 -- ---- the title and the heading
 
-dated-short : (d : Dated) → length (dated_text d) ≤ 10
-dated-short (Dated.Date x) =
+dated-short : (d : Option Date) → length (dated_text d) ≤ 10
+dated-short (Some x) =
     simp length-append (omega (arith, digits-count 4 x.year, digits-count 2 x.month, digits-count 2 x.day))
-dated-short Dated.NoDate = omega arith
+dated-short None = omega arith
 
 date-short : (d : ℕ) → length (date_text d) ≤ 10
 unfolding date_text

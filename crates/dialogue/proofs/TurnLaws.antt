@@ -1,48 +1,57 @@
 -- One line more behind lines taken.
 -- Assumes nothing.
-use Rattle.std.proofs.Common.{◌≡◌, ℕ, ◌+◌, ◌-◌, ◌<◌, ◌≤◌, Bool, true, false, not, ◌&&◌, ◌||◌, eqb, ltb, leb, List, [], ◌∷◌, ◌++◌, length, take, drop, sym, refl, ap, ◌∙◌, subst, append_assoc, append-nil, arith, length-append, length-drop, length-take-le, take_at, leb-true}
+use Rattle.std.proofs.Common.{◌≡◌, ℕ, ◌+◌, ◌-◌, ◌<◌, ◌≤◌, Bool, true, false, not, ◌&&◌, ◌||◌, eqb, ltb, leb, List, [], ◌∷◌, ◌++◌, length, take, drop, sym, refl, ap, ◌∙◌, append_assoc, append-nil, arith, length-append, length-drop, take_all, leb-true, ltb-true, ltb-false}
+use Rattle.std.specs.Prelude.{Option, Some, None}
+use Rattle.std.specs.List.{position, position_or_len}
+use Rattle.std.proofs.Math.Seq.{drop-nil}
 use borrow.Author.Tests.{not-true}
-use lib.Seq.{sets-eq, length-sets}
 use Rattle.laws.specs.Cases.{split, and_left, and_right, clash}
-use Rattle.printing.specs.Placed.{Put}
-use Rattle.printing.specs.PlacedLaws.{put-end}
+use Rattle.printing.specs.Written.{Sheet, followed, emptied, sized, blank}
+use Rattle.printing.specs.WrittenLaws.{same_sheet, followed_none, followed_twice, written_fits, room_left}
 use Rattle.dialogue.specs.declared.Way.{Way}
 use Rattle.dialogue.specs.declared.Place.{Place}
-use Rattle.dialogue.specs.Split.{lines_in, rest_in, EndIs}
+use Rattle.dialogue.specs.Split.{lines_in, rest_in, until_newline}
 use Rattle.dialogue.specs.Turns.{State, after, bytes_of, journal_of, ended, after_all, all_bytes, all_journal}
-use Rattle.dialogue.specs.Answers.{state_of, LineTaken, goes_on, WentOn, Taken, Answers}
+use Rattle.dialogue.specs.Answers.{space, state_of, LineTaken, goes_on, NextLine, WentOn, Taken, Answers}
 use Rattle.dialogue.proofs.Decided.{decided-bytes}
 use Rattle.dialogue.proofs.SplitLaws.{lines_more, whole-more, no_line}
 
 -- ---- bytes put behind others
 
--- Where they have room, what stands up to their end is what stood before, and then they.
-record Behind (bs e f : List ℕ) (at r : ℕ) : Type 0 where
-  end : r ≡ at + length bs
-  same : length f ≡ length e
-  front : take r f ≡ take at e ++ bs
+-- Where they have room, what is written is what was written before, and then they.
+record Behind (bs : List ℕ) (e f : Sheet) : Type 0 where
+  same : space f ≡ space e
+  front : f.written ≡ e.written ++ bs
 
-behind : (bs e f : List ℕ) (at r : ℕ) → Put bs e at r f → at + length bs ≤ length e → Behind bs e f at r
-behind bs e f at r x h =
-    let here : r ≡ at + length bs = put-end bs e f at r x h in
-    let w : length (take at e ++ bs) ≡ r = length-append (take at e) bs ∙ omega (arith, length-take-le at e (omega arith), here) in
-    let k : f ≡ (take at e ++ bs) ++ drop (at + length bs) e = x.written ∙ sets-eq bs e at h in
-    record {
-      end = here;
-      same = ap length x.written ∙ length-sets e at bs;
-      front = rw k (take_at (take at e ++ bs) (drop (at + length bs) e) r w);
-    }
+behind : (bs : List ℕ) (e f : Sheet) → f ≡ followed e bs → length bs ≤ e.room → Behind bs e f
+behind bs e f x h =
+    let w : f.written ≡ e.written ++ bs = ap (λ (z : Sheet). z.written) x ∙ written_fits e bs h in
+    let r : f.room ≡ e.room - length bs = ap (λ (z : Sheet). z.room) x ∙ room_left e bs in
+    record { same = omega (arith, ap length w, length-append e.written bs, r); front = w }
+
+-- All that is written on a sheet, written on one of its size when it was blank.
+filled : (k : Sheet) (t : List ℕ) → k.written ≡ t → followed (blank (space k)) t ≡ sized k
+unfolding followed blank sized
+filled k t e =
+    let n : length k.written ≡ length t = ap length e in
+    same_sheet (take (space k) t) k.written (space k - length t) k.room (drop (length t) []) []
+    (take_all (space k) t (omega arith) ∙ sym e) (omega arith) (drop-nil (length t))
+
+-- Whether one more line is taken does not hang on the bytes behind those that are written.
+goes_sized : (way : Way) (p : Place) (j e : Sheet) → goes_on way p j e ≡ true → goes_on way p (sized j) (sized e) ≡ true
+unfolding goes_on sized
+goes_sized way p j e g = g
 
 -- ---- where one more line is taken
 
-module _ (way : Way) (p : Place) (j a r b : ℕ) (g : goes_on way p j a r b ≡ true) where
+module _ (way : Way) (p : Place) (j e : Sheet) (g : goes_on way p j e ≡ true) where
   -- there is room for its bytes
-  goes-room : (20480 ≤ a - j) × (16384 ≤ b - r)
+  goes-room : (20480 ≤ j.room) × (16384 ≤ e.room)
   unfolding goes_on
   goes-room =
-      let h = and_right (not (ended way p) && (way.gathers || eqb j 0)) (leb 20480 (a - j) && leb 16384 (b - r)) g in (
-        leb-true 20480 (a - j) (and_left (leb 20480 (a - j)) (leb 16384 (b - r)) h),
-        leb-true 16384 (b - r) (and_right (leb 20480 (a - j)) (leb 16384 (b - r)) h),
+      let h = and_right (not (ended way p) && (way.gathers || eqb (length j.written) 0)) (leb 20480 j.room && leb 16384 e.room) g in (
+        leb-true 20480 j.room (and_left (leb 20480 j.room) (leb 16384 e.room) h),
+        leb-true 16384 e.room (and_right (leb 20480 j.room) (leb 16384 e.room) h),
       )
 
   -- and the lines have not ended
@@ -50,8 +59,8 @@ module _ (way : Way) (p : Place) (j a r b : ℕ) (g : goes_on way p j a r b ≡ 
   unfolding goes_on
   going =
       not-true (ended way p)
-      (and_left (not (ended way p)) (way.gathers || eqb j 0)
-      (and_left (not (ended way p) && (way.gathers || eqb j 0)) (leb 20480 (a - j) && leb 16384 (b - r)) g))
+      (and_left (not (ended way p)) (way.gathers || eqb (length j.written) 0)
+      (and_left (not (ended way p) && (way.gathers || eqb (length j.written) 0)) (leb 20480 j.room && leb 16384 e.room) g))
 
 -- ---- lines one after the other, and one more
 
@@ -116,151 +125,171 @@ module _ (way : Way) (room : ℕ) where
   journal-one s l e = rw e (append-nil (journal_of way room s l))
 
   -- One more that is taken, behind lines that were.
-  went-more : (journal_room answer_room : ℕ) (s : State) (j r : ℕ) (ls : List (List ℕ)) (l : List ℕ) → WentOn way room journal_room answer_room s j r ls
-      → goes_on way (after_all way room s ls).place (j + length (all_journal way room s ls)) journal_room
-      (r + length (all_bytes way room s ls)) answer_room ≡ true
-      → WentOn way room journal_room answer_room s j r (ls ++ (l ∷ []))
+  went-more : (j e : Sheet) (s : State) (ls : List (List ℕ)) (l : List ℕ) → WentOn way room j e s ls
+      → goes_on way (after_all way room s ls).place (followed j (all_journal way room s ls)) (followed e (all_bytes way room s ls)) ≡ true
+      → WentOn way room j e s (ls ++ (l ∷ []))
   unfolding after_all all_bytes all_journal
-  went-more journal_room answer_room s j r [] l w g =
-      let x : j + 0 ≡ j = omega arith in
-      let y : r + 0 ≡ r = omega arith in
-      ((rw (x, y) at g), tt)
-  went-more journal_room answer_room s j r (k ∷ ls) l w g =
+  went-more j e s [] l w g = ((rw (followed_none j, followed_none e) at g), tt)
+  went-more j e s (k ∷ ls) l w g =
       let jk = journal_of way room s k in
-      let rk = bytes_of way room s k in
+      let ek = bytes_of way room s k in
       let t = after way room s k in
-      let on = going way s.place j journal_room r answer_room w.0 in
-      let x : j + length (jk ++ all_journal way room t ls) ≡ j + length jk + length (all_journal way room t ls) =
-      omega (arith, length-append jk (all_journal way room t ls)) in
-      let y : r + length (rk ++ all_bytes way room t ls) ≡ r + length rk + length (all_bytes way room t ls) =
-      omega (arith, length-append rk (all_bytes way room t ls)) in
-      (w.0, went-more journal_room answer_room t (j + length jk) (r + length rk) ls l w.1 (rw (on, x, y) at g))
+      let on = going way s.place j e w.0 in
+      let g1 : goes_on way (after_all way room t ls).place (followed j (jk ++ all_journal way room t ls)) (followed e (ek ++ all_bytes way room t ls)) ≡ true =
+      rw on at g in (
+        w.0,
+        went-more (followed j jk) (followed e ek) t ls l w.1
+            (rw (followed_twice j jk (all_journal way room t ls), followed_twice e ek (all_bytes way room t ls)) g1),
+      )
 
 -- ---- what is taken
 
-pub none-taken : (way : Way) (room : ℕ) (s : State) (input k f : List ℕ) → Taken way room s input 0 s 0 k 0 f
-unfolding after_all all_bytes all_journal lines_in rest_in
-none-taken way room s input k f =
+pub none_taken : (way : Way) (room : ℕ) (s : State) (input : List ℕ) (k f j e : Sheet) → k ≡ emptied j → f ≡ emptied e
+    → Taken way room s input 0 s k f
+unfolding after_all all_bytes all_journal lines_in rest_in emptied
+none_taken way room s input k f j e x y =
     record {
       within = omega arith;
       whole = refl;
       left = refl;
-      journal = refl;
-      bytes = refl;
-      in_journal = omega arith;
-      in_answers = omega arith;
+      journal = ap (λ (z : Sheet). z.written) x;
+      bytes = ap (λ (z : Sheet). z.written) y;
       went = tt;
     }
 
+-- A sheet that is cleared has as many bytes.
+pub cleared : (k j : Sheet) → k ≡ emptied j → space k ≡ space j
+unfolding emptied
+cleared k j e = ap space e ∙ omega arith
+
 -- One line more: its bytes stand behind those of the lines before.
-module _ (way : Way) (room : ℕ) (s : State) (input words m : List ℕ) (p q : Place) (j k f g : List ℕ) (start end x y at r : ℕ)
-    (before : Taken way room s input start (state_of words p) x j at f) (at-end : EndIs input start end) (more : end < length input)
-    (one : LineTaken way room words p (take (end - start) (drop start input)) j x f at m q y k r g)
-    (goes : goes_on way p x (length j) at (length f) ≡ true) where
+module _ (way : Way) (room : ℕ) (s : State) (input words m : List ℕ) (p q : Place) (j k e f : Sheet) (used n : ℕ)
+    (before : Taken way room s input used (state_of words p) j e) (end : n ≡ until_newline (drop used input)) (more : n < length (drop used input))
+    (one : LineTaken way room words p (take n (drop used input)) j e m q k f) (goes : goes_on way p j e ≡ true) where
   abbrev line : List ℕ
-  line = take (end - start) (drop start input)
+  line = take n (drop used input)
 
   abbrev lines : List (List ℕ)
-  lines = lines_in (take start input)
+  lines = lines_in (take used input)
 
-  one_more : lines_in (take (end + 1) input) ≡ lines ++ (line ∷ [])
-  one_more = lines_more input start end at-end more before.whole
+  one_more : lines_in (take (used + (n + 1)) input) ≡ lines ++ (line ∷ [])
+  one_more = lines_more input used n end more before.whole
 
-  room-left : (20480 ≤ length j - x) × (16384 ≤ length f - at)
-  room-left = goes-room way p x (length j) at (length f) goes
+  room-left-here : (20480 ≤ j.room) × (16384 ≤ e.room)
+  room-left-here = goes-room way p j e goes
 
   not-ended : ended way (after_all way room s lines).place ≡ false
-  not-ended = ap (λ (z : State). ended way z.place) (sym before.left) ∙ going way p x (length j) at (length f) goes
+  not-ended = ap (λ (z : State). ended way z.place) (sym before.left) ∙ going way p j e goes
 
-  journal-behind : Behind (journal_of way room (state_of words p) line) j k x y
-  journal-behind =
-      behind (journal_of way room (state_of words p) line) j k x y one.journal (omega (arith, one.few_kept, room-left.0, before.in_journal))
+  journal-behind : Behind (journal_of way room (state_of words p) line) j k
+  journal-behind = behind (journal_of way room (state_of words p) line) j k one.journal (omega (arith, one.few_kept, room-left-here.0))
 
-  answer-behind : Behind (bytes_of way room (state_of words p) line) f g at r
-  answer-behind =
-      behind (bytes_of way room (state_of words p) line) f g at r one.bytes (omega (arith, one.few_said, room-left.1, before.in_answers))
+  answer-behind : Behind (bytes_of way room (state_of words p) line) e f
+  answer-behind = behind (bytes_of way room (state_of words p) line) e f one.bytes (omega (arith, one.few_said, room-left-here.1))
 
   left-more : state_of m q ≡ after_all way room s (lines ++ (line ∷ []))
   left-more =
       one.left ∙ ap (λ (z : State). after way room z line) before.left ∙ sym (after_one way room (after_all way room s lines) line not-ended)
       ∙ sym (after-append way room s lines (line ∷ []))
 
-  journal-more : take y k ≡ all_journal way room s (lines ++ (line ∷ []))
+  journal-more : k.written ≡ all_journal way room s (lines ++ (line ∷ []))
   journal-more =
       journal-behind.front ∙ ap (λ (z : List ℕ). z ++ journal_of way room (state_of words p) line) before.journal
       ∙ ap (λ (z : State). all_journal way room s lines ++ journal_of way room z line) before.left
       ∙ ap (λ (z : List ℕ). all_journal way room s lines ++ z) (sym (journal-one way room (after_all way room s lines) line not-ended))
       ∙ sym (journal-append way room s lines (line ∷ []))
 
-  bytes-more : take r g ≡ all_bytes way room s (lines ++ (line ∷ []))
+  bytes-more : f.written ≡ all_bytes way room s (lines ++ (line ∷ []))
   bytes-more =
       answer-behind.front ∙ ap (λ (z : List ℕ). z ++ bytes_of way room (state_of words p) line) before.bytes
       ∙ ap (λ (z : State). all_bytes way room s lines ++ bytes_of way room z line) before.left
       ∙ ap (λ (z : List ℕ). all_bytes way room s lines ++ z) (sym (bytes_one way room (after_all way room s lines) line not-ended))
       ∙ sym (bytes-append way room s lines (line ∷ []))
 
-  went-here : WentOn way room (length k) (length g) s 0 0 (lines ++ (line ∷ []))
+  went-here : WentOn way room (blank (space k)) (blank (space f)) s (lines ++ (line ∷ []))
   went-here =
-      let jn : x ≡ length (all_journal way room s lines) = sym (length-take-le x j before.in_journal) ∙ ap length before.journal in
-      let rn : at ≡ length (all_bytes way room s lines) = sym (length-take-le at f before.in_answers) ∙ ap length before.bytes in
-      let jl : x ≡ 0 + length (all_journal way room s lines) = omega (arith, jn) in
-      let rl : at ≡ 0 + length (all_bytes way room s lines) = omega (arith, rn) in
       let pl : p ≡ (after_all way room s lines).place = ap (λ (z : State). z.place) before.left in
-      let g1 : goes_on way (after_all way room s lines).place (0 + length (all_journal way room s lines)) (length j)
-      (0 + length (all_bytes way room s lines))
-      (length f) ≡ true =
-      rw (← pl, ← jl, ← rl) goes in
+      let g : goes_on way (after_all way room s lines).place (followed (blank (space j)) (all_journal way room s lines))
+      (followed (blank (space e)) (all_bytes way room s lines)) ≡ true =
+      rw (← pl, filled j (all_journal way room s lines) before.journal, filled e (all_bytes way room s lines) before.bytes)
+      (goes_sized way p j e goes) in
       rw (journal-behind.same, answer-behind.same)
-      (went-more way room (length j) (length f) s 0 0 lines line before.went g1)
+      (went-more way room (blank (space j)) (blank (space e)) s lines line before.went g)
 
-  pub turn : Taken way room s input (end + 1) (state_of m q) y k r g
+  pub turn : Taken way room s input (used + (n + 1)) (state_of m q) k f
   turn =
       record {
-        within = omega (arith, more);
-        whole = whole-more input start end at-end more before.whole;
+        within = omega (arith, more, length-drop used input, before.within);
+        whole = whole-more input used n end more before.whole;
         left = rw one_more left-more;
         journal = rw one_more journal-more;
         bytes = rw one_more bytes-more;
-        in_journal = omega (arith, journal-behind.end, journal-behind.same, one.few_kept, room-left.0, before.in_journal);
-        in_answers = omega (arith, answer-behind.end, answer-behind.same, one.few_said, room-left.1, before.in_answers);
         went = rw one_more went-here;
       }
 
+-- A turn as the loop has it: the rest of the input is cut off at its end, and the slice for the numbers keeps its length.
+pub record Turn (way : Way) (room : ℕ) (s : State) (input : List ℕ) (used : ℕ) (t : State) (j e k f : Sheet) : Type 0 where
+  pub taken : Taken way room s input used t k f
+  pub same_journal : space k ≡ space j
+  pub same_answers : space f ≡ space e
+
+rest-all : (l : List ℕ) (start : ℕ) → take (length l - start) (drop start l) ≡ drop start l
+rest-all l start = take_all (length l - start) (drop start l) (omega (arith, length-drop start l))
+
+pub turn-again : (way : Way) (room room₁ : ℕ) (s : State) (input words m : List ℕ) (p q : Place) (j k e f : Sheet) (used n : ℕ) (r : Option ℕ)
+    → Taken way room s input used (state_of words p) j e → NextLine way p (take (length input - used) (drop used input)) j e r → r ≡ Some n
+    → LineTaken way room₁ words p (take (used + n - used) (drop used input)) j e m q k f → room₁ ≡ room
+    → Turn way room s input (used + (n + 1)) (state_of m q) j e k f
+turn-again way room room₁ s input words m p q j k e f used n r before next is one same =
+    let x : NextLine way p (drop used input) j e r = rw (rest-all input used) at next in
+    let y = x.line n is in
+    let z : used + n - used ≡ n = omega arith in
+    let o : LineTaken way room words p (take n (drop used input)) j e m q k f = rw (z, same) at one in
+    record {
+      taken = turn way room s input words m p q j k e f used n before y.1 y.2 o y.0;
+      same_journal = (journal-behind way room s input words m p q j k e f used n before y.1 y.2 o y.0).same;
+      same_answers = (answer-behind way room s input words m p q j k e f used n before y.1 y.2 o y.0).same;
+    }
+
 -- ---- the end: no line more is taken, or no complete line is left
 
-answered : (way : Way) (room : ℕ) (s t : State) (input k f : List ℕ) (used j r : ℕ) → Taken way room s input used t j k r f
-    → (goes_on way t.place j (length k) r (length f) ≡ true → lines_in (drop used input) ≡ []) → Answers way room s input used t j k r f
-answered way room s t input k f used j r x all =
+pub answered : (way : Way) (room : ℕ) (s : State) (p : Place) (words input : List ℕ) (k f : Sheet) (used : ℕ) (r : Option ℕ) → Taken way room s input used (state_of words p) k f
+    → NextLine way p (take (length input - used) (drop used input)) k f r → r ≡ None → Answers way room s input used (state_of words p) k f
+answered way room s p words input k f used r x next e =
     record {
       taken = x;
-      all = all;
+      all = let y : NextLine way p (drop used input) k f r = rw (rest-all input used) at next in y.none e;
       decided = λ seen b. x.bytes ∙ decided-bytes way room s (lines_in (take used input)) seen b;
     }
 
-pub stopped : (way : Way) (room : ℕ) (s t : State) (input k f : List ℕ) (used j r : ℕ) (go : Bool) → Taken way room s input used t j k r f
-    → go ≡ goes_on way t.place j (length k) r (length f) → go ≡ false → Answers way room s input used t j k r f
-stopped way room s t input k f used j r go x e h =
-    answered way room s t input k f used j r x (λ g. clash g (sym e ∙ h))
+-- The length of the next line, by the code's search for a newline.
+newline-first : (s : List ℕ) → until_newline s ≡ position_or_len (λ (b : ℕ). eqb b 10) s
+unfolding until_newline
+newline-first [] = refl
+newline-first (b ∷ s) = split (eqb b 10) (λ e. rw e refl) (λ e. rw e (omega (arith, newline-first s)))
 
-pub done : (way : Way) (room : ℕ) (s t : State) (input k f : List ℕ) (used end j r : ℕ) → Taken way room s input used t j k r f → EndIs input used end
-    → length input ≤ end → Answers way room s input used t j k r f
-done way room s t input k f used end j r x at-end h =
-    answered way room s t input k f used j r x
-    (λ g. no_line (drop used input) (omega (arith, at-end.end, length-drop used input)))
+pub next_found : (way : Way) (p : Place) (rest : List ℕ) (j e : Sheet) (r : Option ℕ) (go : Bool) → go ≡ goes_on way p j e → go ≡ true
+    → r ≡ position (λ (b : ℕ). eqb b 10) rest → NextLine way p rest j e r
+next_found way p rest j e r go h t x =
+    let n = position_or_len (λ (b : ℕ). eqb b 10) rest in
+    let m : until_newline rest ≡ n = newline-first rest in
+    split (ltb n (length rest))
+    (λ u.
+    let y : r ≡ Some n = rw u at x in
+    record {
+      line = λ k z.
+          let same : k ≡ n = cc in
+          (sym h ∙ t, same ∙ sym m, omega (arith, ltb-true n (length rest) u));
+      none = λ z g. absurd (let c : Some n ≡ None = sym y ∙ z in cc);
+    })
+    (λ u.
+    let y : r ≡ None = rw u at x in
+    record {
+      line = λ k z. absurd (let c : None ≡ Some k = sym y ∙ z in cc);
+      none = λ z g. no_line rest (omega (arith, ltb-false n (length rest) u));
+    })
 
--- Whether one more line is taken, as the code tests it.
-pub goes : (way : Way) (p : Place) (j a r b : ℕ) (t : Bool)
-    → t ≡ ((not (way.bails && ltb 0 p.refused) && (way.gathers || eqb j 0)) && (leb 20480 (a - j) && leb 16384 (b - r))) → t ≡ goes_on way p j a r b
-unfolding goes_on ended
-goes way p j a r b t e = e
-
--- A turn as the loop has it: the slice for the numbers keeps its length, and a test decided that one more line is taken.
-pub turn-again : (way : Way) (room room₁ : ℕ) (s : State) (input words m : List ℕ) (p q : Place) (j k f g : List ℕ)
-    (start end x y at r : ℕ) (go : Bool)
-    → Taken way room s input start (state_of words p) x j at f → EndIs input start end → end < length input
-    → LineTaken way room₁ words p (take (end - start) (drop start input)) j x f at m q y k r g → room₁ ≡ room
-    → go ≡ goes_on way p x (length j) at (length f) → go ≡ true → Taken way room s input (end + 1) (state_of m q) y k r g
-turn-again way room room₁ s input words m p q j k f g start end x y at r go before at-end more one same e h =
-    turn way room s input words m p q j k f g start end x y at r before at-end more
-    (subst (λ (n : ℕ). LineTaken way n words p (take (end - start) (drop start input)) j x f at m q y k r g) same one)
-    (sym e ∙ h)
+pub next_stopped : (way : Way) (p : Place) (rest : List ℕ) (j e : Sheet) (go : Bool) → go ≡ goes_on way p j e → go ≡ false
+    → NextLine way p rest j e None
+next_stopped way p rest j e go h t =
+    record { line = λ k z. absurd (let c : None ≡ Some k = z in cc); none = λ z g. clash g (sym h ∙ t) }

@@ -1,6 +1,6 @@
 -- What a line of an input asks, by the way that its lines are taken.
 -- Assumes nothing.
-use Rattle.std.specs.Prelude.{◌≡◌, ℕ, ◌≤◌, cond, ◌&&◌, List, length, drop, ℤ, ◌==◌, slice_index}
+use Rattle.std.specs.Prelude.{◌≡◌, ℕ, cond, ◌&&◌, List, length, drop, ℤ, ◌==◌, slice_index}
 use Rattle.book.specs.Rule.{Rule, old_rule, new_rule}
 use Rattle.journal.specs.Grammar.{parsed}
 use Rattle.journal.specs.declared.Reason.{Reason}
@@ -19,11 +19,6 @@ mark_length before l =
 
 unfoldable pub text_of : ℕ → List ℕ → List ℕ
 text_of before l = drop (mark_length before l) l
-
--- The text of a line begins at r.
-pub record Mark (before : ℕ) (l : List ℕ) (r : ℕ) : Type 0 where
-  pub start : r ≡ mark_length before l
-  pub within : r ≤ length l
 
 -- "In the kept way a line without its newline is an `error`"; where the journal is only read, so is every call but a question.
 unfoldable pub held_back : Way → Request → Request

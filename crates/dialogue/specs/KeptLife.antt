@@ -16,11 +16,7 @@ pub record Sitting : Type 0 where
 -- The state in which a session begins behind another: the book, the count of kept calls and whether the first stretch lasts stay, its lines are
 -- counted anew.
 abbrev pub reopened : State → State
-reopened s =
-    record {
-      book = s.book;
-      place = record { line = 0; refused = 0; kept = s.place.kept; long = false; early = s.place.early };
-    }
+reopened s = record s { place = record s.place { line = 0; refused = 0; long = false } }
 
 -- What the sessions add to the journal, and the state that they leave.
 unfoldable pub sittings_journal : (most room : ℕ) → State → List Sitting → List ℕ

@@ -7,26 +7,14 @@ use Rattle.layout.specs.Words.{book_of_words}
 use Rattle.journal.specs.declared.Request.{Request}
 use Rattle.printing.specs.declared.Answer.{Answer}
 use Rattle.printing.specs.Answers.{answer_line}
-use Rattle.printing.specs.Placed.{Put}
+use Rattle.printing.specs.Written.{Sheet, followed}
 use Rattle.report.specs.Table.{report_text}
 use Rattle.answering.specs.Kept.{kept_line, retired_line}
 
 -- Whether an answer says something: nothing is said to an empty line, nor to the line that ends a first stretch.
 abbrev pub speaks : Answer → Bool
 speaks Answer.Nothing = false
-speaks Answer.Done = true
-speaks (Answer.Refused n) = true
-speaks (Answer.Called e a d) = true
-speaks (Answer.Covered e) = true
-speaks (Answer.Recorded e) = true
-speaks (Answer.Annual a m) = true
-speaks (Answer.Opened d) = true
-speaks (Answer.Statement f c s d m) = true
-speaks (Answer.Calls n) = true
-speaks (Answer.Special c) = true
-speaks (Answer.Batch n) = true
-speaks (Answer.RefusedPair n i) = true
-speaks (Answer.Error l e) = true
+speaks a = true
 
 -- The numbers of an answer are of 64 bits.
 abbrev pub Small : ℕ → Type 0
@@ -60,40 +48,24 @@ said a = cond (speaks a) (answer_line a ++ (10 ∷ [])) []
 -- Whether the table for people is asked for.
 abbrev pub wants_table : Request → Bool
 wants_table Request.Report = true
-wants_table Request.Nothing = false
-wants_table (Request.Fresh d) = false
-wants_table (Request.Admit p r) = false
-wants_table (Request.LodgeCash p q a) = false
-wants_table (Request.LodgeLetter p q a f l) = false
-wants_table (Request.Release p q a) = false
-wants_table (Request.Settle p m n) = false
-wants_table (Request.Annual p) = false
-wants_table (Request.Advance t n) = false
-wants_table (Request.Statement p) = false
-wants_table Request.Calls = false
-wants_table (Request.Special n) = false
-wants_table (Request.Batch n) = false
-wants_table Request.RoleRetired = false
-wants_table (Request.Error e) = false
+wants_table r = false
 
 -- `report`: the table of the book.
 unfoldable pub tabled : Request → Book → List ℕ
 tabled r b = cond (wants_table r) (report_text b) []
 
 -- What is said and what is shown, written, and the most bytes of each.
-pub record Said (a : Answer) (e : List ℕ) (at r : ℕ) (f : List ℕ) : Type 0 where
-  pub put : Put (said a) e at r f
+pub record Said (a : Answer) (e f : Sheet) : Type 0 where
+  pub put : f ≡ followed e (said a)
   pub most : length (said a) ≤ 128
 
-pub record Tabled (request : Request) (b : Book) (e : List ℕ) (at r : ℕ) (f : List ℕ) : Type 0 where
-  pub put : Put (tabled request b) e at r f
+pub record Tabled (request : Request) (b : Book) (e f : Sheet) : Type 0 where
+  pub put : f ≡ followed e (tabled request b)
   pub most : length (tabled request b) ≤ 15000
 
 -- What a line with a request and an answer adds, on the words that it left: `role-retired` where it ends the first stretch of a journal, its line of the
 -- journal, where it is kept, and what is said and shown.
-pub record Added (request : Request) (answer : Answer) (kept ends : Bool) (numbers : List ℤ) (words j : List ℕ) (x : ℕ) (e : List ℕ)
-    (at y : ℕ) (k : List ℕ) (r : ℕ)
-    (f : List ℕ) : Type 0 where
-  pub journal : Put (cond ends retired_line [] ++ cond kept (kept_line request numbers) []) j x y k
-  pub bytes : Put (said answer ++ tabled request (book_of_words words)) e at r f
+pub record Added (request : Request) (answer : Answer) (kept ends : Bool) (numbers : List ℤ) (words : List ℕ) (j e k f : Sheet) : Type 0 where
+  pub journal : k ≡ followed j (cond ends retired_line [] ++ cond kept (kept_line request numbers) [])
+  pub bytes : f ≡ followed e (said answer ++ tabled request (book_of_words words))
   pub most : length (said answer ++ tabled request (book_of_words words)) ≤ 16384

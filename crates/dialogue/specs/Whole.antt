@@ -11,7 +11,7 @@ use Rattle.dialogue.specs.Decided.{decided_of, decided_place}
 
 -- The place at which a line is known to be too long, or not.
 abbrev pub known_place : Bool → Place → Place
-known_place long p = record { line = p.line; refused = p.refused; kept = p.kept; long = long; early = p.early }
+known_place long p = record p { long = long }
 
 -- "No line is too long to be answered: longer than the buffer is an `error`": before line l of an input, where the buffer has `most` bytes.
 abbrev pub place_before : ℕ → Place → List ℕ → Place
@@ -70,15 +70,7 @@ last_line [] = []
 last_line (b ∷ r) = (b ∷ r) ∷ []
 
 abbrev pub last_way : Way → Way
-last_way way =
-    record {
-      keeps = way.keeps;
-      reads = way.reads;
-      torn = way.keeps;
-      bails = way.bails;
-      gathers = way.gathers;
-      replays = way.replays;
-    }
+last_way way = record way { torn = way.keeps }
 
 -- The whole input: the bytes of its answers, and those by the reading of the history.
 unfoldable pub whole_bytes : ℕ → Way → ℕ → State → List ℕ → List ℕ

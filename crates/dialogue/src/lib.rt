@@ -3,6 +3,7 @@
 
 mod asks; // asks.rt: what a line asks
 mod said; // said.rt: what one line adds to the answers and to the journal
+mod turns; // turns.rt: how far lines are taken
 mod lines; // lines.rt: the lines of a slice, one after the other
 
 pub use lines::{answer_line, answer_lines};
@@ -11,6 +12,7 @@ pub use lines::{answer_line, answer_lines};
 // in the place of a line lacks its newline and is an error, whether the first refusal or error is the last line, whether lines behind one
 // that is kept are taken before the journal's bytes are written, and whether they are those of a journal that is replayed, whose first stretch is
 // taken by the old admission rule (paper 02, Ask 3).
+// Kept: each is a choice of its own, and none says whether another field holds a value.
 #[derive(Clone, Copy)]
 pub struct Way {
     pub keeps: bool,
@@ -23,6 +25,7 @@ pub struct Way {
 
 // How far an input is taken: its lines, those of them that were refused or an error, the calls kept in the journal, whether the line that has
 // begun is too long, and whether the first stretch of the journal lasts: it has no line yet that ends it.
+// Kept: the counts mean the same whatever the two flags say.
 #[derive(Clone, Copy)]
 pub struct Place {
     pub line: u64,
@@ -32,26 +35,9 @@ pub struct Place {
     pub early: bool,
 }
 
-// How far the slices for the journal's bytes and for the answers are filled.
-#[derive(Clone, Copy)]
-pub struct Ends {
-    pub journal: usize,
-    pub end: usize,
-}
-
-// How far an input is taken, and how far those slices are filled.
-#[derive(Clone, Copy)]
-pub struct Stepped {
-    pub place: Place,
-    pub journal: usize,
-    pub end: usize,
-}
-
-// The same, and how many bytes of a slice are taken.
+// How far an input is taken, and how many bytes of a slice are.
 #[derive(Clone, Copy)]
 pub struct Progress {
     pub place: Place,
     pub used: usize,
-    pub journal: usize,
-    pub end: usize,
 }

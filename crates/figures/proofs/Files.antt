@@ -1,7 +1,6 @@
 -- The bytes of a month's file at their bounds: each fact is computed from the definitions.
 -- Assumes nothing.
 use mathlib.Core.Path.{refl}
-use Rattle.laws.specs.Causes.{decide}
 use Rattle.laws.specs.Least.{least}
 use Rattle.batch.specs.Bytes.{number_at, signed_of}
 use Rattle.batch.specs.Batch.{month_in, count_in, offset_at, length_at, end_at, begins_at, participant_at, rows_at, figures_behind, figures_at, too_short}
@@ -10,7 +9,7 @@ use Rattle.book.specs.Call.{first_refused, batch_says}
 use Rattle.figures.specs.Files.{Files}
 
 pub files : Files
-unfolding decide least number_at signed_of month_in count_in offset_at length_at end_at begins_at participant_at rows_at figures_behind figures_at too_short misplaced
+unfolding least number_at signed_of month_in count_in offset_at length_at end_at begins_at participant_at rows_at figures_behind figures_at too_short misplaced
     first_misplaced not_following is_before wrong_length wrong_part first_wrong refused_if form_of first_refused batch_says
 files =
     record {

@@ -1,18 +1,17 @@
 -- The special guarantee's bounds and order of causes: each fact is computed from the definitions.
 -- Assumes nothing.
 use mathlib.Core.Path.{refl}
-use Rattle.laws.specs.Causes.{decide}
 use Rattle.laws.specs.Every.{every}
 use Rattle.laws.specs.Integers.{sum_of}
 use Rattle.laws.specs.Largest.{insert, falling, three_largest, mean_of_three}
 use Rattle.laws.specs.Signed.{floor_div, nearest}
-use Rattle.special.specs.Causes.{wrong_lengths, outside_ranges, too_few, causes}
+use Rattle.special.specs.Causes.{wrong_lengths, outside_ranges, too_few}
 use Rattle.special.specs.Guarantee.{at_least, amount, special_guarantee}
 use Rattle.special.specs.Ratio.{usable, ratio}
 use Rattle.figures.specs.Guarantees.{Guarantees}
 
 pub guarantees : Guarantees
-unfolding decide every sum_of insert falling three_largest mean_of_three floor_div nearest wrong_lengths outside_ranges too_few causes at_least
+unfolding every sum_of insert falling three_largest mean_of_three floor_div nearest wrong_lengths outside_ranges too_few at_least
     amount special_guarantee usable ratio
 guarantees =
     record {

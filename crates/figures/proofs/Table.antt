@@ -12,7 +12,7 @@ use Rattle.manual.specs.Charge.{day_charge}
 use Rattle.manual.specs.Check.{exceeds_tolerance, exceeds_each, call_is_made, checked}
 use Rattle.manual.specs.Figures.{wrong_count, all_within, out_of_range}
 use Rattle.manual.specs.Minimum.{minimum_of}
-use Rattle.special.specs.Causes.{wrong_lengths, outside_ranges, too_few, causes}
+use Rattle.special.specs.Causes.{wrong_lengths, outside_ranges, too_few}
 use Rattle.special.specs.Guarantee.{at_least, amount, special_guarantee}
 use Rattle.special.specs.Ratio.{usable, ratio}
 use Rattle.file.specs.Admit.{calls_of_admission, admitted_file}
@@ -40,7 +40,7 @@ use Rattle.figures.specs.Figures.{Figures}
 pub figures : Figures
 unfolding decide every larger sum_of insert falling three_largest mean_of_three floor_div nearest leap length_in length_of first_day holding month_of
     day_of_month is_september in_annual_days is_first_october largest_total annual_amount day_charge exceeds_tolerance exceeds_each call_is_made checked
-    wrong_count all_within out_of_range minimum_of wrong_lengths outside_ranges too_few causes at_least amount special_guarantee usable ratio
+    wrong_count all_within out_of_range minimum_of wrong_lengths outside_ranges too_few at_least amount special_guarantee usable ratio
     calls_of_admission admitted_file annual_totals annual_amount_of annual_answer annual_file largest in_places keep open_calls cover_of shortfall_of
     lodge_answer lodged_file slots_opened calls_opened firm_raised takes_effect firm_opened next_opened shortfall_opened opened_file counts_through cover_through cover_on
     emptied_on outside_amounts release_floor slots_left release_answer released_file outside_months check_due deposited settlement_calls

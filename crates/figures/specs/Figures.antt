@@ -1,15 +1,13 @@
 -- Paper 01, 'Figures to reproduce (those with * are proved)': the starred figures as one table of facts about the definitions, which
 -- proofs/Table.antt closes. Amounts are cents, charges are mills, rates are hundredths of a percent.
 -- Assumes nothing.
-use Rattle.std.specs.Prelude.{ℕ, ◌≡◌, List, [], ◌∷◌, ◌++◌, ℤ, pos, negsuc, ◌-ℤ◌}
+use Rattle.std.specs.Prelude.{ℕ, ◌≡◌, List, [], ◌∷◌, ◌++◌, Option, Some, None, Ok, ℤ, pos, negsuc, ◌-ℤ◌}
 use Rattle.manual.specs.Annual.{largest_total, annual_amount}
 use Rattle.manual.specs.Check.{checked}
 use Rattle.manual.specs.Charge.{day_charge}
-use Rattle.manual.specs.declared.Check.{Check}
-use Rattle.manual.specs.declared.Check.TheVariants.{Call, Covered}
+use Rattle.manual.specs.declared.Call.{Call}
 use Rattle.special.specs.Ratio.{usable, ratio}
 use Rattle.special.specs.Guarantee.{special_guarantee}
-use Rattle.special.specs.declared.Special.TheVariants.{Guarantee}
 use Rattle.book.specs.Call as Calls
 use Rattle.figures.specs.History.{admits, cash, settles, to_day, shortfalls, accrued_by, accrued_of}
 
@@ -56,7 +54,7 @@ low_excesses = pos 0 ∷ pos 0 ∷ (pos 10588754 -ℤ pos 7762366) ∷ pos 0 ∷
 -- ---- the readings that the facts use
 
 -- "In the checks the firm amount is D and no call is open": the check of the total E.
-abbrev pub check_at : ℕ → ℤ → Check
+abbrev pub check_at : ℕ → ℤ → Option Call
 check_at d e = checked e d d []
 
 -- 002, example 3, as calls of a Producer from day 60 on: €773,729 in cash, the total of €936,795, €100,000 paid when two days were charged, and
@@ -79,14 +77,14 @@ pub record Figures : Type 0 where
   pub example-1-largest : largest_total (pos 68780100) later_totals ≡ pos 77372900
   pub example-1-amount : annual_amount 0 totals ≡ 77372900
   -- "D = 77,372,900: E = 75,446,400 is covered; E = 93,679,500 calls, asked 16,306,600."
-  pub example-2-july : check_at 77372900 (pos 75446400) ≡ Covered
-  pub example-2-august : check_at 77372900 (pos 93679500) ≡ Call 93679500 16306600
+  pub example-2-july : check_at 77372900 (pos 75446400) ≡ None
+  pub example-2-august : check_at 77372900 (pos 93679500) ≡ Some (record { amount = 93679500; asked = 16306600 })
   -- "D = 1,000,000: E = 1,200,000 calls, 1,199,999 doesn't."
-  pub at-20-percent : check_at 1000000 (pos 1200000) ≡ Call 1200000 200000
-  pub below-20-percent : check_at 1000000 (pos 1199999) ≡ Covered
+  pub at-20-percent : check_at 1000000 (pos 1200000) ≡ Some (record { amount = 1200000; asked = 200000 })
+  pub below-20-percent : check_at 1000000 (pos 1199999) ≡ None
   -- "D = 0, E = 0 or −5: covered."
-  pub nothing-due : check_at 0 (pos 0) ≡ Covered
-  pub credit : check_at 0 (negsuc 4) ≡ Covered
+  pub nothing-due : check_at 0 (pos 0) ≡ None
+  pub credit : check_at 0 (negsuc 4) ≡ None
   -- "S = 0: 0; 1: 100,000,000; 100,000,000: the same; 100,000,001: 100,000,001."
   pub charge-of-0 : day_charge 0 ≡ 0
   pub charge-of-1 : day_charge 1 ≡ 100000000
@@ -111,4 +109,4 @@ pub record Figures : Type 0 where
   pub medium-ratio : ratio medium_rates ≡ pos 43
   pub low-ratio : ratio (usable low_rates marks) ≡ pos 4008
   -- "002, section 8: 7,933,114 cents." and not, "multiplying by an unrounded ratio", 7,940,680.
-  pub section-8 : special_guarantee medium_rates low_rates marks medium_zeros low_zeros medium_excesses low_excesses ≡ Guarantee 7933114
+  pub section-8 : special_guarantee medium_rates low_rates marks medium_zeros low_zeros medium_excesses low_excesses ≡ Ok 7933114

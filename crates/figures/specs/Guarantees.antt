@@ -1,14 +1,14 @@
 -- The special guarantee's bounds, roundings and order of causes (paper 01, 'Special guarantee' and 'Causes of refusal').
 -- Assumes nothing.
-use Rattle.std.specs.Prelude.{ℕ, ◌≡◌, true, false, List, [], ◌∷◌, replicate, ℤ, pos, negsuc}
+use Rattle.std.specs.Prelude.{ℕ, ◌≡◌, true, false, List, [], ◌∷◌, replicate, Result, Ok, Err, ℤ, pos, negsuc}
 use Rattle.laws.specs.Signed.{nearest}
 use Rattle.laws.specs.Largest.{three_largest}
 use Rattle.special.specs.Ranges.{rates_in_range, marks_in_range, zeros_in_range, excesses_in_range}
 use Rattle.special.specs.Ratio.{usable, ratio}
 use Rattle.special.specs.Causes.{wrong_lengths, too_few}
 use Rattle.special.specs.Guarantee.{at_least, amount, special_guarantee}
-use Rattle.special.specs.declared.Special.{Special}
-use Rattle.special.specs.declared.Special.TheVariants.{Guarantee, Refused}
+use Rattle.refusal.specs.declared.Refusal.{Refusal}
+use Rattle.refusal.specs.declared.Refusal.TheVariants.{OutOfRange, TooFewRates, ListLengths}
 
 -- Three rates of 1%, three marks, and one semester.
 abbrev pub rates : List ℤ
@@ -21,7 +21,7 @@ abbrev pub nothing : List ℤ
 nothing = pos 0 ∷ []
 
 -- The guarantee of one semester with these zero settlements and excesses, both ratios being 1%.
-abbrev pub of_semester : ℤ → ℤ → ℤ → ℤ → Special
+abbrev pub of_semester : ℤ → ℤ → ℤ → ℤ → Result ℕ Refusal
 of_semester medium low excess_medium excess_low =
     special_guarantee rates rates unmarked (medium ∷ []) (low ∷ []) (excess_medium ∷ []) (excess_low ∷ [])
 
@@ -92,35 +92,35 @@ pub record Guarantees : Type 0 where
   pub semesters-summed :
       special_guarantee rates rates unmarked (pos 20000000 ∷ pos 40000000 ∷ []) (pos 30000000 ∷ pos 0 ∷ [])
       (pos 40000 ∷ pos 0 ∷ []) (pos 0 ∷ pos 60000 ∷ [])
-      ≡ Guarantee 800000
+      ≡ Ok 800000
   -- a marked rate has no part in the ratio: 1% of 100,000,000
   pub marked-not-in-ratio :
-      special_guarantee rates (pos 40000 ∷ rates) (1 ∷ unmarked) nothing (pos 100000000 ∷ []) nothing nothing ≡ Guarantee 1000000
+      special_guarantee rates (pos 40000 ∷ rates) (1 ∷ unmarked) nothing (pos 100000000 ∷ []) nothing nothing ≡ Ok 1000000
   -- the least guarantee that is more than €5,000: 1% of 50,000,050 and 50,000,049 cents
-  pub half-a-cent : of_semester (pos 50000050) (pos 0) (pos 0) (pos 0) ≡ Guarantee 500001
-  pub below-half-a-cent : of_semester (pos 50000049) (pos 0) (pos 0) (pos 0) ≡ Guarantee 500000
+  pub half-a-cent : of_semester (pos 50000050) (pos 0) (pos 0) (pos 0) ≡ Ok 500001
+  pub below-half-a-cent : of_semester (pos 50000049) (pos 0) (pos 0) (pos 0) ≡ Ok 500000
   -- no semester: at least €5,000
-  pub no-semester : special_guarantee rates rates unmarked [] [] [] [] ≡ Guarantee 500000
+  pub no-semester : special_guarantee rates rates unmarked [] [] [] [] ≡ Ok 500000
   -- Each list is judged by its own range: "a .. rate, zero settlement or excess out of its range, a mark above 1" is 11
-  pub cause-medium-rate : special_guarantee (pos 100001 ∷ rates) rates unmarked nothing nothing nothing nothing ≡ Refused 11
-  pub cause-low-rate : special_guarantee rates (pos 100001 ∷ pos 1 ∷ pos 1 ∷ []) unmarked nothing nothing nothing nothing ≡ Refused 11
-  pub cause-mark : special_guarantee rates rates (2 ∷ 0 ∷ 0 ∷ []) nothing nothing nothing nothing ≡ Refused 11
-  pub cause-medium-zero : of_semester (pos 1000000000001) (pos 0) (pos 0) (pos 0) ≡ Refused 11
-  pub cause-low-zero : of_semester (pos 0) (negsuc 1000000000000) (pos 0) (pos 0) ≡ Refused 11
-  pub cause-medium-excess : of_semester (pos 0) (pos 0) (negsuc 0) (pos 0) ≡ Refused 11
-  pub cause-low-excess : of_semester (pos 0) (pos 0) (pos 0) (negsuc 0) ≡ Refused 11
+  pub cause-medium-rate : special_guarantee (pos 100001 ∷ rates) rates unmarked nothing nothing nothing nothing ≡ Err OutOfRange
+  pub cause-low-rate : special_guarantee rates (pos 100001 ∷ pos 1 ∷ pos 1 ∷ []) unmarked nothing nothing nothing nothing ≡ Err OutOfRange
+  pub cause-mark : special_guarantee rates rates (2 ∷ 0 ∷ 0 ∷ []) nothing nothing nothing nothing ≡ Err OutOfRange
+  pub cause-medium-zero : of_semester (pos 1000000000001) (pos 0) (pos 0) (pos 0) ≡ Err OutOfRange
+  pub cause-low-zero : of_semester (pos 0) (negsuc 1000000000000) (pos 0) (pos 0) ≡ Err OutOfRange
+  pub cause-medium-excess : of_semester (pos 0) (pos 0) (negsuc 0) (pos 0) ≡ Err OutOfRange
+  pub cause-low-excess : of_semester (pos 0) (pos 0) (pos 0) (negsuc 0) ≡ Err OutOfRange
   -- a marked rate that is out of its range is refused too
   pub cause-marked-rate :
-      special_guarantee rates (pos 100001 ∷ rates) (1 ∷ unmarked) nothing nothing nothing nothing ≡ Refused 11
+      special_guarantee rates (pos 100001 ∷ rates) (1 ∷ unmarked) nothing nothing nothing nothing ≡ Err OutOfRange
   -- "fewer than three usable rates" is 18: a marked rate is not usable
-  pub cause-too-few : special_guarantee rates rates (1 ∷ 0 ∷ 0 ∷ []) nothing nothing nothing nothing ≡ Refused 18
-  pub cause-enough : special_guarantee rates (pos 9 ∷ rates) (1 ∷ unmarked) nothing nothing nothing nothing ≡ Guarantee 500000
+  pub cause-too-few : special_guarantee rates rates (1 ∷ 0 ∷ 0 ∷ []) nothing nothing nothing nothing ≡ Err TooFewRates
+  pub cause-enough : special_guarantee rates (pos 9 ∷ rates) (1 ∷ unmarked) nothing nothing nothing nothing ≡ Ok 500000
   -- "special 19, 11, 18": two causes at a time
-  pub lengths-before-range : special_guarantee rates rates (2 ∷ 0 ∷ []) nothing nothing nothing nothing ≡ Refused 19
-  pub range-before-few : special_guarantee (pos 100001 ∷ []) rates unmarked nothing nothing nothing nothing ≡ Refused 11
-  pub lengths-before-few : special_guarantee [] rates unmarked nothing [] nothing nothing ≡ Refused 19
+  pub lengths-before-range : special_guarantee rates rates (2 ∷ 0 ∷ []) nothing nothing nothing nothing ≡ Err ListLengths
+  pub range-before-few : special_guarantee (pos 100001 ∷ []) rates unmarked nothing nothing nothing nothing ≡ Err OutOfRange
+  pub lengths-before-few : special_guarantee [] rates unmarked nothing [] nothing nothing ≡ Err ListLengths
   -- the lengths of the lists themselves: 65 rates, 17 semesters
-  pub cause-65-rates : special_guarantee (replicate 65 (pos 1)) rates unmarked nothing nothing nothing nothing ≡ Refused 19
+  pub cause-65-rates : special_guarantee (replicate 65 (pos 1)) rates unmarked nothing nothing nothing nothing ≡ Err ListLengths
   pub cause-17-semesters :
       special_guarantee rates rates unmarked (replicate 17 (pos 0)) (replicate 17 (pos 0)) (replicate 17 (pos 0)) (replicate 17 (pos 0))
-      ≡ Refused 19
+      ≡ Err ListLengths

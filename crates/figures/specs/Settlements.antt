@@ -1,9 +1,8 @@
 -- A settlement's months, figures and check, and the annual run, at their bounds (paper 01, 'Settle', 'Annual run', 'Day charge').
 -- Assumes nothing.
-use Rattle.std.specs.Prelude.{ℕ, ◌≡◌, true, false, cond, [], ◌∷◌, map, eqb, replicate, pos, negsuc}
+use Rattle.std.specs.Prelude.{ℕ, ◌≡◌, true, false, cond, [], ◌∷◌, map, eqb, replicate, Some, None, pos, negsuc}
 use Rattle.laws.specs.Causes.{decide}
 use Rattle.laws.specs.Integers.{sum_of, larger}
-use Rattle.manual.specs.declared.Check.TheVariants.{Call, Covered}
 use Rattle.manual.specs.Minimum.{minimum_of}
 use Rattle.manual.specs.Figures.{wrong_count, out_of_range}
 use Rattle.manual.specs.Check.{exceeds_tolerance, exceeds_each, call_is_made, checked}
@@ -71,11 +70,11 @@ pub record Settlements : Type 0 where
   -- ".. and 5 × E ≥ 6 × D" though E exceeds the firm amount and every open call
   pub within-tolerance : call_is_made (pos 119) 100 100 [] ≡ false
   -- "amount E, .. asked E − D": D is not the firm amount
-  pub asked : checked (pos 300) 100 200 (250 ∷ []) ≡ Call 300 200
-  pub not-called : checked (pos 250) 100 200 (250 ∷ []) ≡ Covered
+  pub asked : checked (pos 300) 100 200 (250 ∷ []) ≡ Some (record { amount = 300; asked = 200 })
+  pub not-called : checked (pos 250) 100 200 (250 ∷ []) ≡ None
   -- "The answer is called (E, asked, last free day), covered (E)"
-  pub says-called : check_says (pos 300) 70 (Call 300 200) ≡ called 300 200 70
-  pub says-covered : check_says (negsuc 4) 70 Covered ≡ covered (negsuc 4)
+  pub says-called : check_says (pos 300) 70 (Some (record { amount = 300; asked = 200 })) ≡ called 300 200 70
+  pub says-covered : check_says (negsuc 4) 70 None ≡ covered (negsuc 4)
   -- The amounts of calls, and the largest of an amount and a list
   pub amounts : amounts_of (call_of 5 10 ∷ call_of 6 11 ∷ []) ≡ 5 ∷ 6 ∷ []
   pub call-amount : (call_of 5 10).amount ≡ 5

@@ -1,43 +1,32 @@
 -- What the opening of a day does to one position and to one open call, by the tests that the code makes. Assumes nothing.
-use Prim.Native.Nat.{ℕ, suc, ◌+◌, ◌-◌, ◌≤◌, ◌<◌, max}
+use Prim.Native.Nat.{ℕ, zero, suc, ◌+◌, ◌-◌, ◌≤◌, ◌<◌, max}
 use mathlib.Core.Path.{◌≡◌, refl, sym, ◌∙◌, ap}
-use mathlib.Core.Bool.{Bool, true, false, cond, not, ◌&&◌, and-false}
+use mathlib.Core.Bool.{Bool, true, false, cond, not}
 use mathlib.Core.List.{List, [], ◌∷◌, ◌++◌, map}
 use native.Mathlib.Omega.{arith}
 use native.Mathlib.Numerals.{add-one}
-use borrow.Author.Tests.{eq-eqb, ne_eqb}
-use mir.Val.{Fits}
+use borrow.Author.Tests.{lt-ltb, ne_eqb}
+use mir.Val.{Fits, bool_byte}
 use mir.Syntax.{w64}
 use lib.Dec.{ltb, eqb}
 use lib.ListN.{length, take, set, get_or, replicate, length-append, length-take}
-use lib.Seq.{take-suc, set-get_or}
-use Rattle.calendar.specs.declared.Day.{Day}
-use Rattle.calendar.specs.Civil.{is_first_october}
+use lib.Seq.{take-suc, take_all}
 use Rattle.manual.specs.Charge.{day_charge}
 use Rattle.laws.specs.Lists.{All}
-use Rattle.laws.specs.Cases.{split, cond-true, cond-false, and_both, and-refused}
+use Rattle.laws.specs.Cases.{cond-true, cond-false}
 use Rattle.laws.specs.Places.{up_to, up_to-none, up_to-turn, up_to-all}
-use Rattle.file.specs.declared.Position.{Position}
-use Rattle.file.specs.declared.Position.TheVariants.{Empty, Letter}
+use Rattle.file.specs.declared.Position.TheVariants.{Empty}
 use Rattle.file.specs.declared.Slot.{Slot}
 use Rattle.file.specs.declared.OpenCall.{OpenCall}
-use Rattle.file.specs.declared.opening.CallsLeft.{CallsLeft}
-use Rattle.file.specs.declared.NextAmount.{NextAmount}
 use Rattle.file.specs.declared.File.{File}
 use Rattle.file.specs.Position.{slot_of, lapsed_by, emptied_on, cover_on}
-use Rattle.file.specs.Fields.{open_calls, unset}
+use Rattle.file.specs.Fields.{open_calls, with_slots}
 use Rattle.file.specs.Opening.{slots_opened, calls_opened, firm_raised, takes_effect, firm_opened, next_opened, shortfall_opened, opened_file}
 use Rattle.file.specs.Calls.{largest, amounts_of, call_of, in_places, keep, ends_at, stays_at}
 use Rattle.file.specs.CallLaws.{keep-more, keep_same, keep-length, largest-more, amounts-append, in_places-next}
-use Rattle.file.specs.Ending.{calls_left}
+use Rattle.file.specs.Ending.{calls_passed, calls_ended, next_taken}
 use Rattle.file.specs.Sound.{Sound, SoundPosition}
-use Rattle.file.specs.KeepsCalls.{slots-sound, charge-bound}
-
--- ---- a position
-
--- a letter has lapsed where its last day is before the day
-pub letter-lapsed : (p : Position) (a : ℕ) (first last : Day) (d : ℕ) → p ≡ Letter a first last → ltb last.0 d ≡ lapsed_by d p
-letter-lapsed p a first last d e = sym (ap (lapsed_by d) e)
+use Rattle.file.specs.KeepsCalls.{open-length, slots-sound, charge-bound}
 
 -- ---- the loop over the positions
 
@@ -58,11 +47,10 @@ module _ (slots slots₀ : List Slot) (z : Slot) (lapsed : Bool) (d i : ℕ) (n 
       up_to-turn (slot_at d) slots slots₀ i 8 (get_or slots i z) (slot_of Empty) z n h e refl
       (ap slot_of (sym (cond-true _ Empty (get_or slots i z).position (sym q ∙ t))))
 
-  pub slots-stay : lapsed ≡ false → slots ≡ up_to (slot_at d) (i + 1) slots₀
+  pub slots-stay : lapsed ≡ false → set slots i (get_or slots i z) ≡ up_to (slot_at d) (i + 1) slots₀
   unfolding emptied_on
   slots-stay t =
-      sym (set-get_or slots i z)
-      ∙ up_to-turn (slot_at d) slots slots₀ i 8 (get_or slots i z) (get_or slots i z) z n h e refl
+      up_to-turn (slot_at d) slots slots₀ i 8 (get_or slots i z) (get_or slots i z) z n h e refl
       (ap slot_of (sym (cond-false _ Empty (get_or slots i z).position (sym q ∙ t))))
 
 -- with all passed
@@ -71,189 +59,174 @@ slots-all slots slots₀ d i n h e = e ∙ up_to-all (slot_at d) i slots₀ (ome
 
 -- ---- an open call
 
--- equal fields make equal records
-left-path : {a a' : List OpenCall} {n n' f f' : ℕ} → a ≡ a' → n ≡ n' → f ≡ f'
-    → ◌≡◌ {A = CallsLeft} record { calls = a; count = n; firm = f } record { calls = a'; count = n'; firm = f' }
-left-path p q r = rw (p, q, r)
+-- the file with another firm amount, and with one more open call
+abbrev pub with_firm : File → ℕ → File
+with_firm f firm =
+    record {
+      admitted = f.admitted;
+      role = f.role;
+      firm = firm;
+      slots = f.slots;
+      calls = f.calls;
+      count = f.count;
+      next = f.next;
+      totals = f.totals;
+      charged = f.charged;
+      accrued = f.accrued;
+    }
 
-module _ (left : CallsLeft) (c : OpenCall) (d firm : ℕ) (passed : List OpenCall) (e : left ≡ calls_left firm d passed) where
-  -- the fields of what is left so far
-  calls-so-far : left.calls ≡ in_places (keep (stays_at d) passed)
-  unfolding calls_left
-  calls-so-far = ap (λ (l : CallsLeft). l.calls) e
+abbrev pub with_call : File → OpenCall → File
+with_call f c =
+    record {
+      admitted = f.admitted;
+      role = f.role;
+      firm = f.firm;
+      slots = f.slots;
+      calls = set f.calls f.count c;
+      count = f.count + 1;
+      next = f.next;
+      totals = f.totals;
+      charged = f.charged;
+      accrued = f.accrued;
+    }
 
-  count-so-far : left.count ≡ length (keep (stays_at d) passed)
-  unfolding calls_left
-  count-so-far = ap (λ (l : CallsLeft). l.count) e
-
-  firm-so-far : left.firm ≡ largest firm (amounts_of (keep (ends_at d) passed))
-  unfolding calls_left
-  firm-so-far = ap (λ (l : CallsLeft). l.firm) e
-
-  -- a call that ends: the calls stay, and the firm amount is the larger
-  call_ends : (m : ℕ) → ends_at d c ≡ true → m ≡ max c.amount left.firm
-      → record { calls = left.calls; count = left.count; firm = m } ≡ calls_left firm d (passed ++ c ∷ [])
-  unfolding calls_left
-  call_ends m t h =
+-- one more call is passed: it ends and raises the firm amount, or it takes the next place
+module _ (f r : File) (c : OpenCall) (d : ℕ) (passed : List OpenCall) (e : r ≡ calls_passed d f passed) where
+  pub call_ends : ends_at d c ≡ true → with_firm r (max r.firm c.amount) ≡ calls_passed d f (passed ++ c ∷ [])
+  unfolding calls_passed
+  call_ends t =
       let stay : keep (stays_at d) (passed ++ c ∷ []) ≡ keep (stays_at d) passed = keep_same (stays_at d) passed c (ap not t) in
       let stop : keep (ends_at d) (passed ++ c ∷ []) ≡ keep (ends_at d) passed ++ c ∷ [] = keep-more (ends_at d) passed c t in
-      left-path (calls-so-far ∙ ap in_places (sym stay)) (count-so-far ∙ ap length (sym stay))
-      (h
-      ∙ ap (max c.amount) firm-so-far
-      ∙ sym (ap (λ (l : List OpenCall). largest firm (amounts_of l)) stop
-      ∙ ap (largest firm) (amounts-append (keep (ends_at d) passed) (c ∷ []))
-      ∙ largest-more firm c.amount (amounts_of (keep (ends_at d) passed))))
+      let more = largest-more f.firm c.amount (amounts_of (keep (ends_at d) passed)) in
+      let top : max (largest f.firm (amounts_of (keep (ends_at d) passed))) c.amount
+      ≡ largest f.firm (amounts_of (keep (ends_at d) passed) ++ c.amount ∷ []) = omega (arith, more) in
+      rw (e, stay, stop, amounts-append, top) refl
 
-  -- a call that stays takes the next place
-  call_stays : ends_at d c ≡ false → left.count < 4
-      → record { calls = set left.calls left.count c; count = left.count + 1; firm = left.firm }
-      ≡ calls_left firm d (passed ++ c ∷ [])
-  unfolding calls_left
+  pub call_stays : ends_at d c ≡ false → length passed < 4 → with_call r c ≡ calls_passed d f (passed ++ c ∷ [])
+  unfolding calls_passed
   call_stays t h =
       let stay : keep (stays_at d) (passed ++ c ∷ []) ≡ keep (stays_at d) passed ++ c ∷ [] = keep-more (stays_at d) passed c (ap not t) in
       let stop : keep (ends_at d) (passed ++ c ∷ []) ≡ keep (ends_at d) passed = keep_same (ends_at d) passed c t in
-      let short : length (keep (stays_at d) passed) < 4 = omega (arith, count-so-far) in
-      left-path
-      (ap (λ (l : List OpenCall). set l left.count c) calls-so-far
-      ∙ ap (λ (n : ℕ). set (in_places (keep (stays_at d) passed)) n c) count-so-far
-      ∙ in_places-next (keep (stays_at d) passed) c short ∙ ap in_places (sym stay))
-      (ap (λ (n : ℕ). n + 1) count-so-far ∙ sym (ap length stay ∙ length-append (keep (stays_at d) passed) (c ∷ [])))
-      (firm-so-far ∙ ap (λ (l : List OpenCall). largest firm (amounts_of l)) (sym stop))
+      let short : length (keep (stays_at d) passed) < 4 = omega (arith, keep-length (stays_at d) passed) in
+      rw (e, stay, stop, in_places-next, length-append) refl
 
--- by the code's tests: a call with last free day d − 1 that is above the firm amount, one that is not, and any other
-module _ (left : CallsLeft) (c : OpenCall) (d : ℕ) (opens : 1 ≤ d) where
-  pub call-raises : c.last.0 ≡ d - 1 → left.firm < c.amount → (firm : ℕ) (passed : List OpenCall) → left ≡ calls_left firm d passed
-      → record { calls = left.calls; count = left.count; firm = c.amount } ≡ calls_left firm d (passed ++ c ∷ [])
-  call-raises t h firm passed e = call_ends left c d firm passed e c.amount (eq-eqb (suc c.last.0) d (omega arith)) (omega arith)
+  -- there is a place for it
+  pub place_left : length passed < 4 → r.count < 4
+  unfolding calls_passed
+  place_left h = omega (arith, ap (λ (g : File). g.count) e, keep-length (stays_at d) passed)
 
-  pub call-removed : c.last.0 ≡ d - 1 → c.amount ≤ left.firm → (firm : ℕ) (passed : List OpenCall) → left ≡ calls_left firm d passed
-      → left ≡ calls_left firm d (passed ++ c ∷ [])
-  call-removed t h firm passed e = call_ends left c d firm passed e left.firm (eq-eqb (suc c.last.0) d (omega arith)) (omega arith)
+-- the first of the places are the open calls
+pub open_are : (f : File) → take f.count f.calls ≡ open_calls f
+unfolding open_calls
+open_are f = refl
 
-  pub call_kept : (c.last.0 ≡ d - 1 → ⊥) → left.count < 4 → (firm : ℕ) (passed : List OpenCall) → left ≡ calls_left firm d passed
-      → record { calls = set left.calls left.count c; count = left.count + 1; firm = left.firm }
-      ≡ calls_left firm d (passed ++ c ∷ [])
-  call_kept t h firm passed e = call_stays left c d firm passed e (ne_eqb (suc c.last.0) d (λ (q : suc c.last.0 ≡ d). t (omega arith))) h
+-- one more of them is passed, in a loop
+module _ (f r : File) (d i : ℕ) (items : List OpenCall) (z : OpenCall) (short : i < length items) (items-are : items ≡ open_calls f) (few : f.count ≤ 4)
+    (e : r ≡ calls_passed d f (take i (open_calls f))) where
+  next : take (i + 1) (open_calls f) ≡ take i (open_calls f) ++ get_or items i z ∷ []
+  next = rw (← items-are) (rw (add-one, take-suc items i z short) refl)
 
--- ---- the loop over the calls
+  below : length (take i (open_calls f)) < 4
+  below = omega (arith, length-take i (open_calls f), ap length items-are, open-length f)
 
--- with none passed
-pub left-none : (firm d : ℕ) (calls : List OpenCall)
-    → record { calls = replicate 4 (call_of 0 0); count = 0; firm = firm } ≡ calls_left firm d (take 0 calls)
-unfolding calls_left keep largest in_places
-left-none firm d calls = refl
+  pub ends-next : (m : ℕ) → ends_at d (get_or items i z) ≡ true → m ≡ max r.firm (get_or items i z).amount
+      → with_firm r m ≡ calls_passed d f (take (i + 1) (open_calls f))
+  ends-next m t k = ap (with_firm r) k ∙ call_ends f r (get_or items i z) d (take i (open_calls f)) e t ∙ ap (calls_passed d f) (sym next)
 
--- with all passed
-pub left-all : (left : CallsLeft) (calls : List OpenCall) (firm d i count : ℕ) → left ≡ calls_left firm d (take i calls) → i ≤ count → count ≤ i
-    → left ≡ calls_left firm d (take count calls)
-left-all left calls firm d i count e h k = let q : i ≡ count = omega arith in e ∙ ap (λ (n : ℕ). calls_left firm d (take n calls)) q
+  pub stays-next : ends_at d (get_or items i z) ≡ false → with_call r (get_or items i z) ≡ calls_passed d f (take (i + 1) (open_calls f))
+  stays-next t = call_stays f r (get_or items i z) d (take i (open_calls f)) e t below ∙ ap (calls_passed d f) (sym next)
 
--- no more calls are left than were passed
-pub left-short : (left : CallsLeft) (calls : List OpenCall) (firm d i count : ℕ) → left ≡ calls_left firm d (take i calls) → i < count → count ≤ 4
-    → left.count < 4
-unfolding calls_left
-left-short left calls firm d i count e h k =
-    omega (arith, ap (λ (l : CallsLeft). l.count) e, keep-length (stays_at d) (take i calls), length-take i calls)
+  pub place_next : r.count < 4
+  place_next = place_left f r z d (take i (open_calls f)) e below
 
--- the next call
-pub left-next : (left r : CallsLeft) (calls : List OpenCall) (z : OpenCall) (firm d i count : ℕ) → left ≡ calls_left firm d (take i calls)
-    → length calls ≡ 4 → i < count → count ≤ 4
-    → ((firm : ℕ) (passed : List OpenCall) → left ≡ calls_left firm d passed → r ≡ calls_left firm d (passed ++ get_or calls i z ∷ []))
-    → r ≡ calls_left firm d (take (i + 1) calls)
-left-next left r calls z firm d i count e n h k f =
-    f firm (take i calls) e ∙ ap (calls_left firm d) (sym (rw (add-one, take-suc calls i z (omega arith))))
+-- with none passed, and with all
+pub calls_none : (d : ℕ) (f : File)
+    → record {
+      admitted = f.admitted;
+      role = f.role;
+      firm = f.firm;
+      slots = f.slots;
+      calls = replicate 4 (call_of 0 0);
+      count = 0;
+      next = f.next;
+      totals = f.totals;
+      charged = f.charged;
+      accrued = f.accrued;
+    }
+    ≡ calls_passed d f []
+unfolding calls_passed keep largest in_places
+calls_none d f = refl
 
--- ---- the next amount
-
-module _ (firm d : ℕ) (next : NextAmount) where
-  -- set on a 1 October, it takes effect
-  pub effect-taken : (october : Bool) → next.set ≡ true → october ≡ is_first_october d → october ≡ true
-      → (next.amount ≡ cond (is_first_october d && next.set) next.amount firm) × (unset ≡ cond (is_first_october d && next.set) unset next)
-  effect-taken october s e t = let q : (is_first_october d && next.set) ≡ true = and_both (is_first_october d) next.set (sym e ∙ t) s in
-      (sym (cond-true _ next.amount firm q), sym (cond-true _ unset next q))
-
-  no-effect : (is_first_october d && next.set) ≡ false
-      → (firm ≡ cond (is_first_october d && next.set) next.amount firm) × (next ≡ cond (is_first_october d && next.set) unset next)
-  no-effect q = (sym (cond-false _ next.amount firm q), sym (cond-false _ unset next q))
-
-  -- unset, or on another day, it doesn't
-  pub effect-unset : next.set ≡ false
-      → (firm ≡ cond (is_first_october d && next.set) next.amount firm) × (next ≡ cond (is_first_october d && next.set) unset next)
-  effect-unset s = no-effect (ap (λ (t : Bool). is_first_october d && t) s ∙ and-false (is_first_october d))
-
-  pub effect-other : (october : Bool) → october ≡ is_first_october d → october ≡ false
-      → (firm ≡ cond (is_first_october d && next.set) next.amount firm) × (next ≡ cond (is_first_october d && next.set) unset next)
-  effect-other october e t = no-effect (and-refused (is_first_october d) next.set (sym e ∙ t))
+pub calls_all : (f r : File) (d i : ℕ) (items : List OpenCall) → items ≡ open_calls f → length items ≤ i → r ≡ calls_passed d f (take i (open_calls f))
+    → r ≡ calls_ended d f
+unfolding calls_ended
+calls_all f r d i items e h p = p ∙ ap (calls_passed d f) (take_all i (open_calls f) (omega (arith, ap length e)))
 
 -- ---- the days charged
 
-pub charged-none : (s : ℕ) → s ≡ 0 → ◌≡◌ {A = ℕ} 0 (cond (eqb s 0) 0 1)
-charged-none s e = sym (cond-true _ 0 1 (eq-eqb s 0 e))
+-- one where there is a shortfall
+abbrev pub charged_days : ℕ → ℕ
+charged_days shortfall = bool_byte (ltb 0 shortfall)
 
-pub charged-one : (s : ℕ) → (s ≡ 0 → ⊥) → ◌≡◌ {A = ℕ} 1 (cond (eqb s 0) 0 1)
-charged-one s e = sym (cond-false _ 0 1 (ne_eqb s 0 e))
+charged-one : (shortfall : ℕ) → charged_days shortfall ≡ cond (eqb shortfall 0) 0 1
+charged-one zero = refl
+charged-one (suc n) = rw (ne_eqb (suc n) 0 (λ (e : suc n ≡ 0). omega arith), lt-ltb 0 (suc n) (omega arith)) refl
+
+charged-few : (shortfall : ℕ) → charged_days shortfall ≤ 1
+charged-few zero = omega arith
+charged-few (suc n) = rw (lt-ltb 0 (suc n) (omega arith)) (omega arith)
 
 -- ---- the file
 
-module _ (f : File) (d : ℕ) (left : CallsLeft) (left_is : left ≡ calls_left f.firm d (take f.count f.calls))
-    (slots : List Slot) (slots-is : slots ≡ map (slot_at d) f.slots)
-    (firm : ℕ) (firm-is : firm ≡ cond (is_first_october d && f.next.set) f.next.amount left.firm) where
-  -- the positions and the firm amount are those of the opening
-  pub file-slots : slots ≡ slots_opened f d
-  unfolding slots_opened
-  file-slots = slots-is
+module _ (f : File) (d : ℕ) (slots : List Slot) (slots-is : slots ≡ map (slot_at d) f.slots) (g h : File) (ended : g ≡ calls_ended d (with_slots f slots))
+    (taken : h ≡ next_taken d g) where
+  file-slots : h.slots ≡ slots_opened f d
+  unfolding slots_opened next_taken calls_ended calls_passed
+  file-slots = rw (taken, ended, slots-is) refl
 
-  pub file-firm : firm ≡ firm_opened f d
-  unfolding firm_opened takes_effect firm_raised open_calls calls_left
-  file-firm = firm-is ∙ ap (λ (l : CallsLeft). cond (is_first_october d && f.next.set) f.next.amount l.firm) left_is
+  file-firm : h.firm ≡ firm_opened f d
+  unfolding firm_opened takes_effect firm_raised open_calls next_taken calls_ended calls_passed
+  file-firm = rw (taken, ended) refl
 
-  file-count : left.count ≡ length (calls_opened f d)
-  unfolding calls_opened open_calls calls_left
-  file-count = ap (λ (l : CallsLeft). l.count) left_is
+  -- the emptied positions are within their bounds
+  pub opened-slots : All (λ (s : Slot). SoundPosition s.position) f.slots → All (λ (s : Slot). SoundPosition s.position) h.slots
+  opened-slots a = rw file-slots (slots-sound f d a)
 
-  file-calls : left.calls ≡ in_places (calls_opened f d)
-  unfolding calls_opened open_calls calls_left
-  file-calls = ap (λ (l : CallsLeft). l.calls) left_is
+  -- the shortfall
+  shortfall_is : (covered shortfall : ℕ) → covered ≡ cover_on d h.slots → shortfall ≡ h.firm - covered → shortfall ≡ shortfall_opened f d
+  unfolding shortfall_opened
+  shortfall_is covered shortfall c k = k ∙ rw (c, file-firm, file-slots) refl
 
-  module _ (covered shortfall : ℕ) (covered-is : covered ≡ cover_on d slots) (shortfall-is : shortfall ≡ firm - covered) where
-    pub file-shortfall : shortfall ≡ shortfall_opened f d
-    unfolding shortfall_opened
-    file-shortfall =
-        shortfall-is ∙ ap (λ (n : ℕ). firm - n) (covered-is ∙ ap (cover_on d) file-slots)
-        ∙ ap (λ (n : ℕ). n - cover_on d (slots_opened f d)) file-firm
+  -- what fits
+  module _ (s : Sound (d - 1) f × (1 ≤ d) × (d ≤ 29219)) where
+    pub days-fit : (shortfall : ℕ) → Fits w64 (h.charged + charged_days shortfall)
+    unfolding next_taken calls_ended calls_passed
+    days-fit shortfall =
+        let same : h.charged ≡ f.charged = rw (taken, ended) refl in
+        omega (arith, s.0.charged, charged-few shortfall)
 
-    -- the whole file
-    pub file-opened : (next : NextAmount) (days charge : ℕ) → next ≡ cond (is_first_october d && f.next.set) unset f.next
-        → days ≡ cond (eqb shortfall 0) 0 1 → charge ≡ day_charge shortfall →
-        record {
-          admitted = f.admitted;
-          role = f.role;
-          firm = firm;
-          slots = slots;
-          calls = left.calls;
-          count = left.count;
-          next = next;
-          totals = f.totals;
-          charged = f.charged + days;
-          accrued = f.accrued + charge;
-        }
-        ≡ opened_file f d
-    unfolding opened_file next_opened takes_effect
-    file-opened next days charge p q r = simp (file-firm, file-slots, file-calls, file-count, p, q, r, file-shortfall)
+    pub charge-fits : (covered shortfall : ℕ) → covered ≡ cover_on d h.slots → shortfall ≡ h.firm - covered → (charge : ℕ) → charge ≡ day_charge shortfall
+        → Fits w64 (h.accrued + charge)
+    unfolding next_taken calls_ended calls_passed
+    charge-fits covered shortfall c k charge e =
+        let same : h.accrued ≡ f.accrued = rw (taken, ended) refl in
+        omega (arith, s.0.charged, s.0.accrued, charge-bound f (d - 1) d s.0, e ∙ ap day_charge (shortfall_is covered shortfall c k))
 
--- ---- what fits
-
-module _ (f : File) (d : ℕ) (s : Sound (d - 1) f × (1 ≤ d) × (d ≤ 29219)) (shortfall : ℕ) where
-  pub days-fit : (days : ℕ) → days ≡ cond (eqb shortfall 0) 0 1 → Fits w64 (f.charged + days)
-  days-fit days e =
-      split (eqb shortfall 0) (λ t. omega (arith, s.0.charged, e ∙ cond-true _ 0 1 t))
-      (λ t. omega (arith, s.0.charged, e ∙ cond-false _ 0 1 t))
-
-  pub charge-fits : shortfall ≡ shortfall_opened f d → (charge : ℕ) → charge ≡ day_charge shortfall → Fits w64 (f.accrued + charge)
-  charge-fits e charge h = omega (arith, s.0.charged, s.0.accrued, charge-bound f (d - 1) d s.0, h ∙ ap day_charge e)
-
--- the emptied positions are within their bounds
-pub slots-all-sound : (f : File) (d : ℕ) → All (λ (s : Slot). SoundPosition s.position) f.slots
-    → All (λ (s : Slot). SoundPosition s.position) (map (slot_at d) f.slots)
-unfolding slots_opened
-slots-all-sound f d a = slots-sound f d a
+  -- the whole file
+  pub file-opened : (covered shortfall : ℕ) → covered ≡ cover_on d h.slots → shortfall ≡ h.firm - covered → (charge : ℕ) → charge ≡ day_charge shortfall →
+      record {
+        admitted = h.admitted;
+        role = h.role;
+        firm = h.firm;
+        slots = h.slots;
+        calls = h.calls;
+        count = h.count;
+        next = h.next;
+        totals = h.totals;
+        charged = h.charged + charged_days shortfall;
+        accrued = h.accrued + charge;
+      }
+      ≡ opened_file f d
+  unfolding opened_file calls_opened firm_opened firm_raised next_opened takes_effect open_calls slots_opened next_taken calls_ended calls_passed
+  file-opened covered shortfall c k charge e =
+      rw (e, charged-one shortfall, shortfall_is covered shortfall c k, taken, ended, slots-is) refl

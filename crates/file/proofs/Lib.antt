@@ -1,6 +1,4 @@
-pub mod Holdings
 pub mod Sums
-pub mod Files
 pub mod Lodgings
 pub mod Releases
 pub mod AtOpening

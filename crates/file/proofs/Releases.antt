@@ -1,14 +1,13 @@
 -- A release's answer by the tests of the code, in the order of its causes.
 -- Assumes nothing.
-use Prim.Native.Nat.{ℕ, zero, suc, ◌+◌, ◌≤◌, ◌<◌, max}
+use Prim.Native.Nat.{ℕ, ◌≤◌, ◌<◌, max}
 use mathlib.Core.Path.{◌≡◌, refl, ap, ◌∙◌}
 use mathlib.Core.Bool.{Bool, true, false, not}
 use mathlib.Core.List.{List, [], ◌∷◌}
 use native.Mathlib.Omega.{arith}
-use native.Mathlib.Numerals.{add-one}
 use borrow.Author.Tests.{lt-ltb, le-ltb}
 use lib.Dec.{ltb}
-use lib.ListN.{length, get_or, take}
+use Rattle.std.specs.List.{fold}
 use Rattle.file.specs.declared.File.{File}
 use Rattle.file.specs.declared.OpenCall.{OpenCall}
 use Rattle.file.specs.Answer.{refused, done, decide}
@@ -16,31 +15,24 @@ use Rattle.file.specs.Position.{cover_on, filled, not_releasable, outside_amount
 use Rattle.file.specs.Calls.{largest, amounts_of}
 use Rattle.file.specs.Release.{release_floor, slots_left, release_answer}
 
--- The largest of one call more.
-largest-take : (a i : ℕ) (l : List OpenCall) (z : OpenCall) → i < length l
-    → largest a (amounts_of (take (suc i) l)) ≡ max (get_or l i z).amount (largest a (amounts_of (take i l)))
+-- The largest of amounts, from the front: one that is put in front may as well be at the end.
+largest-swap : (a b : ℕ) (l : List ℕ) → largest (max a b) l ≡ max b (largest a l)
 unfolding largest
-largest-take a i [] z h = absurd (omega arith)
-largest-take a zero (c ∷ l) z h = refl
-largest-take a (suc i) (c ∷ l) z h = omega (arith, largest-take a i l z (omega arith))
+largest-swap a b [] = omega arith
+largest-swap a b (x ∷ l) = omega (arith, largest-swap a b l)
 
--- The largest of no call, of one more, and of all.
-pub largest-none : (a : ℕ) (l : List OpenCall) → a ≡ largest a (amounts_of (take 0 l))
+largest-from : (a : ℕ) (l : List OpenCall) → fold (λ top (k : OpenCall). max top k.amount) a l ≡ largest a (amounts_of l)
 unfolding largest
-largest-none a l = refl
+largest-from a [] = refl
+largest-from a (c ∷ l) = largest-from (max a c.amount) l ∙ largest-swap a c.amount (amounts_of l)
 
-pub largest_step : (a i n top x : ℕ) (l : List OpenCall) (z : OpenCall) → i < n → n ≤ 4 → length l ≡ 4
-    → top ≡ largest a (amounts_of (take i l)) → x ≡ max (get_or l i z).amount top → x ≡ largest a (amounts_of (take (i + 1) l))
-largest_step a i n top x l z h m long e g = rw (add-one i) (omega (arith, largest-take a i l z (omega arith)))
-
-pub largest-all : (a i n top : ℕ) (l : List OpenCall) → i ≤ n → n ≤ i → top ≡ largest a (amounts_of (take i l))
-    → top ≡ largest a (amounts_of (take n l))
-largest-all a i n top l h g e = let same : n ≡ i = omega arith in rw same e
-
--- One amount more.
-pub largest-more : (a b x r : ℕ) (l : List ℕ) → x ≡ largest a l → r ≡ max b x → r ≡ largest a (b ∷ l)
+-- .. of the firm amount, the next amount and the open calls.
+pub largest-fold : (firm next : ℕ) (l : List OpenCall)
+    → fold (λ top (k : OpenCall). max top k.amount) (max firm next) l ≡ largest next (firm ∷ amounts_of l)
 unfolding largest
-largest-more a b x r l e g = g ∙ ap (max b) e
+largest-fold firm next l =
+    let e : max firm next ≡ max next firm = omega arith in
+    largest-from (max firm next) l ∙ ap (λ (n : ℕ). largest n (amounts_of l)) e ∙ largest-swap next firm (amounts_of l)
 
 module _ (f : File) (t k a : ℕ) where
   pub release-no-place : 7 < k → refused 5 ≡ release_answer f t k a

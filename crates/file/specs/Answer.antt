@@ -1,16 +1,15 @@
--- What papers 01 and 02 have a call answer: the number of a cause of refusal, or the values named for that call. And which answer each case of the
--- code's enums stands for.
+-- What papers 01 and 02 have a call answer: the number of a cause of refusal, or the values named for that call. And which answer each result of the
+-- code stands for.
 -- Assumes nothing.
-use Rattle.std.specs.Prelude.{ℕ, Bool, true, false, ℤ}
+use Rattle.std.specs.Prelude.{ℕ, Bool, true, false, ℤ, Result, Ok, Err}
 -- a cause of refusal, and the answer that causes in an order leave
 pub use Rattle.laws.specs.Causes.{Cause}
 unfoldable pub use Rattle.laws.specs.Causes.{decide}
-use Rattle.file.specs.declared.Outcome.{Outcome}
-use Rattle.file.specs.declared.Outcome.TheVariants as Outcomes
+use Rattle.refusal.specs.declared.Refusal.{Refusal}
+use Rattle.refusal.specs.Numbers.{number_of}
 use Rattle.file.specs.declared.Settled.{Settled}
 use Rattle.file.specs.declared.Settled.TheVariants as Settlements
 use Rattle.file.specs.declared.AnnualRun.{AnnualRun}
-use Rattle.file.specs.declared.AnnualRun.TheVariants as Runs
 use Rattle.file.specs.declared.Statement.{Statement}
 
 -- The answers of paper 01, 'The calls' and 'Causes of refusal', and of paper 02.
@@ -52,22 +51,27 @@ accepted (counted n) = true
 accepted (batched n) = true
 accepted (refused_pair n i) = false
 
--- The answer that each case of an outcome stands for.
-abbrev pub outcome_says : Outcome → Answer
-outcome_says Outcomes.Done = done
-outcome_says (Outcomes.Refused n) = refused n
+-- The answer that a result stands for: that of its value, or the number of its refusal.
+abbrev pub says : {A : Type 0} → (A → Answer) → Result A Refusal → Answer
+says value (Ok x) = value x
+says value (Err r) = refused (number_of r)
 
--- The answer that each case of a settlement stands for.
-abbrev pub settled_says : Settled → Answer
-settled_says (Settlements.Called e asked last) = called e asked last.0
-settled_says (Settlements.Covered e) = covered e
-settled_says (Settlements.Recorded e) = recorded e
-settled_says (Settlements.Refused n) = refused n
+-- That of an outcome.
+abbrev pub outcome_says : Result Unit Refusal → Answer
+outcome_says = says (λ x. done)
 
--- The answer that each case of an annual run stands for.
-abbrev pub annual_says : AnnualRun → Answer
-annual_says (Runs.Amount a n) = annual a n
-annual_says (Runs.Refused n) = refused n
+-- That of a settlement: by its case, where it isn't refused.
+abbrev pub settlement_says : Settled → Answer
+settlement_says (Settlements.Called e asked last) = called e asked last.0
+settlement_says (Settlements.Covered e) = covered e
+settlement_says (Settlements.Recorded e) = recorded e
+
+abbrev pub settled_says : Result Settled Refusal → Answer
+settled_says = says settlement_says
+
+-- That of an annual run.
+abbrev pub annual_says : Result AnnualRun Refusal → Answer
+annual_says = says (λ run. annual run.amount run.months)
 
 -- The answer that a statement stands for.
 abbrev pub statement_says : Statement → Answer

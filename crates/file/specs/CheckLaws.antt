@@ -1,8 +1,7 @@
 -- The answer of a settlement, by whether a call is made.
 -- Assumes nothing.
-use Rattle.std.specs.Prelude.{ℕ, ◌+◌, ◌-◌, ◌≡◌, refl, Bool, true, false, cond, ◌&&◌, List, ℤ, nat_abs}
+use Rattle.std.specs.Prelude.{ℕ, ◌+◌, ◌-◌, ◌≡◌, refl, Bool, true, false, cond, ◌&&◌, List, Some, None, ℤ, nat_abs}
 use Rattle.calendar.specs.Civil.{month_of}
-use Rattle.manual.specs.declared.Check.TheVariants.{Call, Covered}
 use Rattle.manual.specs.Check.{call_is_made, checked}
 use Rattle.manual.specs.Figures.{sum_of}
 use Rattle.file.specs.declared.File.{File}
@@ -19,7 +18,7 @@ check-answers false e d firm opens last = refl
 check-answers true e d firm opens last = pick (call_is_made e d firm opens)
   where
     pick : (made : Bool)
-        → check_says e last (cond made (Call (nat_abs e) (nat_abs e - d)) Covered)
+        → check_says e last (cond made (Some (record { amount = nat_abs e; asked = nat_abs e - d })) None)
         ≡ cond made (called (nat_abs e) (nat_abs e - d) last) (covered e)
     pick true = refl
     pick false = refl

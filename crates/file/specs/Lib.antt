@@ -13,9 +13,8 @@ pub mod Settle
 pub mod DueCheck
 pub mod CheckLaws
 pub mod Annual
-pub mod Window
-pub mod Ending
 pub mod Opening
+pub mod Ending
 pub mod Statement
 pub mod Sound
 pub mod KeepsPositions

@@ -1,9 +1,8 @@
 -- Paper 01, 'Settle'. Causes in their order: 12, 10, 11, 13. P is the month that holds t.
 -- Assumes nothing.
-use Rattle.std.specs.Prelude.{ℕ, ◌+◌, Bool, cond, not, ◌&&◌, List, [], ◌∷◌, ◌++◌, leb, eqb, length, ℤ, nat_abs}
+use Rattle.std.specs.Prelude.{ℕ, ◌+◌, Bool, cond, not, ◌&&◌, List, [], ◌∷◌, ◌++◌, leb, eqb, length, Option, Some, None, ℤ, nat_abs}
 use Rattle.calendar.specs.Civil.{month_of, is_september}
-use Rattle.manual.specs.declared.Check.{Check}
-use Rattle.manual.specs.declared.Check.TheVariants.{Call, Covered}
+use Rattle.manual.specs.declared.Call.{Call}
 use Rattle.manual.specs.Check.{call_is_made, checked}
 use Rattle.manual.specs.Figures.{sum_of, wrong_count, out_of_range}
 use Rattle.file.specs.declared.File.{File}
@@ -33,9 +32,9 @@ settlement_calls f t m figures =
     check_due (month_of t) m && call_is_made (sum_of figures) (deposited f t) f.firm (open_amounts f)
 
 -- What a check of the total e answers: "called (E, asked, last free day), covered (E)".
-abbrev pub check_says : ℤ → ℕ → Check → Answer
-check_says e last (Call amount asked) = called amount asked last
-check_says e last Covered = covered e
+abbrev pub check_says : ℤ → ℕ → Option Call → Answer
+check_says e last (Some call) = called call.amount call.asked last
+check_says e last None = covered e
 
 -- The answer where no cause holds: the check's, ".. or recorded only (E) where no check was due".
 unfoldable pub settled_answer : File → ℕ → ℕ → List ℤ → Answer

@@ -1,13 +1,13 @@
 -- Month totals (paper 01, 'One participant's file'): a ring of sixteen, the month beside each total. Only the months P − 14 to P − 2 are ever
 -- read or written.
 -- Assumes nothing.
-use Rattle.std.specs.Prelude.{ℕ, zero, suc, ◌-◌, ◌%◌, true, false, cond, ◌&&◌, List, [], ◌∷◌, eqb, get_or, set, ℤ, pos}
+use Rattle.std.specs.Prelude.{ℕ, zero, suc, ◌-◌, ◌%◌, true, false, cond, ◌&&◌, List, [], ◌∷◌, eqb, get_or, set, ℤ, pos, Option}
+pub use Rattle.std.specs.Prelude.{Some as total, None as none}
 use Rattle.file.specs.declared.MonthTotal.{MonthTotal}
 
 -- A month's total, where it is recorded.
-pub data Total : Type 0 where
-  none : Total
-  total : ℤ → Total
+abbrev pub Total : Type 0
+Total = Option ℤ
 
 -- A place of the ring with nothing in it, and with month m's total.
 abbrev pub no_total : MonthTotal

@@ -1,84 +1,67 @@
 // The annual run (paper 01, 'Annual run').
-ghost use Rattle.std.specs.Prelude.{◌≡◌, List, [], ◌++◌, ◌-◌, ◌≤◌, ◌<◌, ℤ};
+ghost use Rattle.std.specs.Prelude.{◌≡◌, ◌-◌, ◌≤◌};
 ghost use Rattle.file.specs.Answer.{annual_says};
-ghost use Rattle.file.specs.Totals.{total_here, total_at, added, totals_from};
+ghost use Rattle.file.specs.Totals.{total_at, totals_from};
 ghost use Rattle.file.specs.Annual.{annual_answer, annual_file};
-ghost use Rattle.file.specs.Window.{recorded_in};
 
-use crate::{AnnualRun, File, FileAnnual, MonthTotal, NextAmount, ring_place};
-use calendar::{Day, Month, in_annual_days, month_of, months_before, months_between, same_month};
+use crate::{AnnualRun, File, NextAmount, ring_place};
+use calendar::{Day, Month, in_annual_days, month_of, months_before, months_between};
 use manual::annual::annual_amount;
-
-// The recorded totals of up to twelve months, in their order, with zeros behind them.
-#[derive(Clone, Copy)]
-struct Recorded {
-    totals: [i64; 12],
-    count: usize,
-}
-
-// With one more month: its total, where the month's place in the ring holds it.
-fn with_month(mut found: Recorded, place: MonthTotal, month: Month) -> Recorded
-    requires { found.count < 12 }
-    ensures { (passed : List ℤ) → found ≡ recorded_in passed
-        → result ≡ recorded_in (passed ++ added (total_here month.0 place) []) }
-{
-    if !place.recorded {
-        return found;
-    }
-    let at = place.month;
-    if !same_month(at, month) {
-        return found;
-    }
-    let n = found.count;
-    let total = place.total;
-    found.totals[n] = total;
-    found.count = n + 1;
-    found
-}
-
-// The recorded totals of the months from the first on, before the end. A month is told by how many are left before the end.
-fn window(totals: [MonthTotal; 16], first: Month, end: Month) -> Recorded
-    requires { end.0 - first.0 ≤ 12 }
-    ensures { result ≡ recorded_in (totals_from (total_at totals) first.0 (end.0 - first.0)) }
-{
-    let mut found = Recorded {
-        totals: [0; 12],
-        count: 0,
-    };
-    let mut left = months_between(first, end);
-    while 0 < left {
-        let month = months_before(end, left);
-        let place = totals[ring_place(month)];
-        found = with_month(found, place, month);
-        left -= 1;
-    }
-    found
-}
+use refusal::Refusal;
 
 impl File {
-    // The annual run: the next amount, of the recorded totals of months P − 14 to P − 3.
-    pub fn annual_run(mut self, today: Day) -> FileAnnual
-        ensures { (annual_says result.answer ≡ annual_answer self today.0) × (result.file ≡ annual_file self today.0) }
+    // A month's total, where it is recorded.
+    #[tactic(auto, unfolding(crate::specs::Totals::total_at, crate::specs::Totals::total_here))]
+    fn total_of(&self, month: Month) -> Option<i64>
+        ensures { result ≡ total_at self.now.totals month.0 }
+    {
+        let place = self.totals[ring_place(month)];
+        (place.recorded && place.month == month).then_some(place.total)
+    }
+
+    // The recorded totals of up to twelve months, from the first on and before the end, in the room that is lent for them.
+    fn recorded<'a>(&self, first: Month, end: Month, room: &'a mut [i64; 12]) -> &'a [i64]
+        requires { end.0 - first.0 ≤ 12 }
+        ensures { result.now ≡ totals_from (total_at self.now.totals) first.0 (end.0 - first.0) }
+    {
+        let mut count = 0;
+        let months = months_between(first, end);
+        for passed in 0..months {
+            if let Some(total) = self.total_of(months_before(end, months - passed)) {
+                room[count] = total;
+                count += 1;
+            }
+        }
+        &room[..count]
+    }
+
+    // The next amount set, of the recorded totals of months P − 14 to P − 3.
+    fn set_next(&mut self, today: Day) -> Result<AnnualRun, Refusal>
+        ensures { (annual_says result ≡ annual_answer self.old today.0) × (self.new ≡ annual_file self.old today.0) }
     {
         if !in_annual_days(today) {
-            return FileAnnual {
-                answer: AnnualRun::Refused(14),
-                file: self,
-            };
+            return Err(Refusal::NotAnnualDays);
         }
         let current = month_of(today);
-        let first = months_before(current, 14);
-        let end = months_before(current, 2);
-        let totals = self.totals;
-        let found = window(totals, first, end);
-        let recorded = found.totals;
-        let n = found.count;
-        let amount = annual_amount(self.role, &recorded[..n]);
-        let next = NextAmount { set: true, amount };
-        self.next = next;
-        FileAnnual {
-            answer: AnnualRun::Amount(amount, n as u64),
-            file: self,
-        }
+        let mut room = [0; 12];
+        let totals = self.recorded(
+            months_before(current, 14),
+            months_before(current, 2),
+            &mut room,
+        );
+        let amount = annual_amount(self.role, totals);
+        self.next = NextAmount { set: true, amount };
+        Ok(AnnualRun {
+            amount,
+            months: totals.len() as u64,
+        })
+    }
+
+    // The annual run: what it answers, and the file after it.
+    pub fn annual_run(mut self, today: Day) -> (Result<AnnualRun, Refusal>, File)
+        ensures { (annual_says result.0 ≡ annual_answer self today.0) × (result.1 ≡ annual_file self today.0) }
+    {
+        let answer = self.set_next(today);
+        (answer, self)
     }
 }

@@ -4,6 +4,7 @@
 ghost use Rattle.std.specs.Prelude.{◌≡◌, ◌%◌};
 
 use calendar::{Day, Month};
+use refusal::Refusal;
 
 mod admit;
 mod annual;
@@ -35,6 +36,7 @@ pub struct OpenCall {
 }
 
 // The next amount, set or unset; an unset one has the amount 0.
+// Kept: a book's words may hold an amount beside an unset flag, which an Option would lose.
 #[derive(Clone, Copy)]
 pub struct NextAmount {
     pub set: bool,
@@ -42,6 +44,7 @@ pub struct NextAmount {
 }
 
 // A month's total, where one is recorded.
+// Kept: a book's words may hold a month and a total beside an unset flag, which an Option would lose.
 #[derive(Clone, Copy)]
 pub struct MonthTotal {
     pub recorded: bool,
@@ -58,6 +61,7 @@ pub fn ring_place(month: Month) -> usize
 
 // A participant's file. The open calls are the first `count` of `calls`, oldest first, with zeros behind them; a month's total, where
 // recorded, is at its `ring_place` of `totals`.
+// Kept: `admitted` and `count`, since well-formed words hold zeros behind the open calls, and nothing at all where nobody is admitted.
 #[derive(Clone, Copy)]
 pub struct File {
     pub admitted: bool,
@@ -72,27 +76,22 @@ pub struct File {
     pub accrued: u64,
 }
 
-// What an admission, a lodging or a release answers: done, or the number of the first cause that refuses it.
-#[derive(Clone, Copy)]
-pub enum Outcome {
-    Done,
-    Refused(u32),
-}
+// What an admission, a lodging or a release answers: done, or the first cause that refuses it.
+pub type Outcome = Result<(), Refusal>;
 
-// What a settlement answers: called (E, asked, last free day), covered (E), recorded only (E), or the number of its refusal.
+// What a settlement answers that isn't refused: called (E, asked, last free day), covered (E), or recorded only (E).
 #[derive(Clone, Copy)]
 pub enum Settled {
     Called(u64, u64, Day),
     Covered(i64),
     Recorded(i64),
-    Refused(u32),
 }
 
-// What an annual run answers: the amount and how many months were recorded, or the number of its refusal.
+// What an annual run answers that isn't refused: the amount, and how many months were recorded.
 #[derive(Clone, Copy)]
-pub enum AnnualRun {
-    Amount(u64, u64),
-    Refused(u32),
+pub struct AnnualRun {
+    pub amount: u64,
+    pub months: u64,
 }
 
 // A statement: firm amount, cover, shortfall, days charged, accrued charge.
@@ -103,11 +102,4 @@ pub struct Statement {
     pub shortfall: u64,
     pub charged: u64,
     pub accrued: u64,
-}
-
-// A file beside the answer of an annual run.
-#[derive(Clone, Copy)]
-pub struct FileAnnual {
-    pub answer: AnnualRun,
-    pub file: File,
 }

@@ -18,7 +18,7 @@ use Rattle.file.specs.Sound.{Sound}
 use Rattle.layout.specs.Files.{file_of_words, words_at, flat, file_words}
 use Rattle.layout.specs.Words.{file_in_words, today_in, book_of_words, book_words}
 use Rattle.layout.specs.WellFormed.{WellFormed, SoundBook, BlankUnlessAdmitted, open_count}
-use Rattle.layout.proofs.Rows.{flat-length, flat-at}
+use Rattle.layout.proofs.Flat.{flat-length, flat-at}
 use Rattle.layout.proofs.BookLaws.{read-long}
 use Rattle.formed.specs.Decides.{Decides, Below}
 use Rattle.formed.specs.Checks.{Canonical, SoundAt, FormedFile, FileAt, CountAt, open_below}
@@ -242,8 +242,8 @@ module _ (l : List ℕ) where
   day-fails h = says-no (λ s. omega (arith, wf-today s, wf-day s))
 
   -- Words with a file that is not well formed are none.
-  pub files-fail : (r : Bool) → Decides r (Below 64 (FileAt (get_or l 1 0) l)) → r ≡ false → Decides false (WellFormed l)
-  files-fail r d e = says-no (λ s. d.no e (wf-files s))
+  pub files-fail : (r : Bool) → Decides r (Below 64 (FileAt (get_or l 1 0) l)) → r ≡ false → Decides r (WellFormed l)
+  files-fail r d e = rw e (says-no (λ s. d.no e (wf-files s)))
 
   -- Where they pass, the count of calls made decides it.
   pub made-decides : (r : Bool) (o : ℕ) → length l ≡ 6147 → get_or l 0 0 ≡ 1 → get_or l 1 0 ≤ 29219

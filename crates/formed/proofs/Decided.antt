@@ -1,12 +1,24 @@
 -- Laws of tests that decide, and of what holds at every place below a number.
 -- Assumes nothing.
-use Prim.Native.Nat.{ℕ, ◌+◌, ◌≤◌, ◌<◌}
-use mathlib.Core.Path.{◌≡◌}
+use Prim.Native.Nat.{ℕ, ◌≤◌, ◌<◌}
+use mathlib.Core.Path.{◌≡◌, refl, sym, subst, ◌∙◌}
+use mathlib.Core.List.{List}
+use lib.ListN.{length, get_or}
+use denote.Param.Members.{Mut}
+use Rattle.std.specs.declared.ops.Range.{Range}
+use Rattle.std.specs.Prelude.{Option}
+use Rattle.std.specs.Bool.{MatchBool}
+use Rattle.std.specs.Option.{MatchOption}
+use Rattle.std.specs.Fn.{Called}
+use Rattle.std.specs.Iterator.{YieldsThen}
+use Rattle.std.specs.List.{range_with_len, FoldsTo, AllWithin, HoldsAt}
+use Rattle.std.proofs.iter.Yields.{nat_range_steps}
+use Rattle.std.proofs.lemmas.Iterator.{cases_from_all, YieldsList-from_range}
+use Rattle.std.proofs.lemmas.List.FromFn.{length-range_with_len, get_or-range_with_len}
 use mathlib.Core.Bool.{Bool, true, false, true≢false, false≢true}
 use native.Mathlib.Omega.{arith}
-use borrow.Author.Count.{below_none, below_more}
-use borrow.Author.Tests.{leb-true, leb-false, eqb-true, eqb-false}
-use lib.Dec.{leb, eqb}
+use borrow.Author.Tests.{leb-true, leb-false}
+use lib.Dec.{leb}
 use Rattle.formed.specs.Decides.{Decides, Below}
 
 -- What holds is decided by true.
@@ -28,36 +40,37 @@ by_order a b f g = record { yes = λ e. f (leb-true a b e); no = λ e p. never (
     never : b < a → a ≤ b → ⊥
     never h k = omega arith
 
--- So does a test whether they are equal.
-pub by_equal : {P : Type 0} (a b : ℕ) → (a ≡ b → P) → (P → a ≡ b) → Decides (eqb a b) P
-by_equal a b f g = record { yes = λ e. f (eqb-true a b e); no = λ e p. eqb-false a b e (g p) }
+-- ---- tests one after another
 
--- ---- a loop over the places
+-- Where the first holds, the second decides whether both do.
+pub and-then : {P Q : Type 0} (v t r : Bool) → Decides t P → t ≡ true → v ≡ r → Decides r Q → Decides v (P × Q)
+and-then v t r p e s q = record { yes = λ h. (p.yes e, q.yes (sym s ∙ h)); no = λ h k. q.no (sym s ∙ h) k.1 }
 
--- None is passed.
-pub below-start : (P : ℕ → Type 0) → Below 0 P
+-- Where the first doesn't, both don't.
+pub and-else : {P Q : Type 0} (v t : Bool) → Decides t P → t ≡ false → v ≡ t → Decides v (P × Q)
+and-else v t p e s = record { yes = λ h. absurd (false≢true (sym (s ∙ e) ∙ h)); no = λ h k. p.no e k.0 }
+
+-- ---- a test of all places
+
+-- `all` over the places below n, by a test that decides each.
+pub all-decides : {F : Type 0} {g : Mut F (ℕ × Unit {0}) Bool} {s : Range ℕ} (P : ℕ → Type 0) (n : ℕ) (u : Range ℕ) (f : F) (r : Bool)
+    → (xs : List ℕ) × (o : Option ℕ) × (j : F) × YieldsThen nat_range_steps s xs o u × FoldsTo (λ p x q. Called g p (x, tt) true q) f xs j
+    × MatchOption o (r ≡ true) (λ x. (r ≡ false) × ((h : F) × Called g j (x, tt) false h))
+    → s ≡ record { start = 0; end = n }
+    → ((x : ℕ) (b : Bool) (q : F) → Called g f (x, tt) b q → (q ≡ f) × Decides b (P x))
+    → Decides r (Below n P)
 unfolding Below
-below-start P = below_none P
-
--- One more is passed.
-pub below_next : (P : ℕ → Type 0) (i : ℕ) → Below i P → P i → Below (i + 1) P
-unfolding Below
-below_next P i all here = below_more P i all here
-
--- One more is passed, by a test that decides it.
-pub below-turn : (P : ℕ → Type 0) (i : ℕ) (r : Bool) → Below i P → Decides r (P i) → r ≡ true → Below (i + 1) P
-below-turn P i r all d e = below_next P i all (d.yes e)
-
--- All are passed.
-pub below_all : (P : ℕ → Type 0) (n i : ℕ) → n ≤ i → Below i P → Decides true (Below n P)
-unfolding Below
-below_all P n i h all = says-yes (λ k b. all k (omega arith))
-
--- It fails at one of them.
-pub below-not : (P : ℕ → Type 0) (n i : ℕ) → i < n → (P i → ⊥) → Decides false (Below n P)
-unfolding Below
-below-not P n i h never = says-no (λ all. never (all i h))
-
--- It fails at one of them, by a test that decides it.
-pub below_fails : (P : ℕ → Type 0) (n i : ℕ) (r : Bool) → i < n → Decides r (P i) → r ≡ false → Decides false (Below n P)
-below_fails P n i r h d e = below-not P n i h (d.no e)
+all-decides P n u f r ran is each =
+    answer r
+    (cases_from_all u f r P (λ x. P x → ⊥) ran (YieldsList-from_range 0 n n is (omega arith))
+    (λ x q e. ((each x true q e).0, (each x true q e).1.yes refl)) (λ x q e. (each x false q e).1.no refl))
+  where
+    answer : (r : Bool) → MatchBool r (AllWithin P (range_with_len 0 n) 0 (length (range_with_len 0 n)))
+        ((k : ℕ) × (k < length (range_with_len 0 n)) × HoldsAt (λ x. P x → ⊥) (range_with_len 0 n) k)
+        → Decides r ((k : ℕ) → k < n → P k)
+    answer true all =
+        says-yes (λ k h. subst P (get_or-range_with_len 0 n k 0 h ∙ omega arith) (all k 0 (omega arith) (omega (arith, length-range_with_len 0 n))))
+    answer false one =
+        let h : one.0 < n = omega (arith, length-range_with_len 0 n, one.1) in
+        let at : get_or (range_with_len 0 n) one.0 0 ≡ one.0 = get_or-range_with_len 0 n one.0 0 h ∙ omega arith in
+        says-no (λ all. one.2 0 (subst P (sym at) (all one.0 h)))

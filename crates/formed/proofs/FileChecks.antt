@@ -1,34 +1,57 @@
 -- The tests of a file's words decide whether they are a well-formed file.
 -- Assumes nothing.
-use Prim.Native.Nat.{ℕ, zero, suc, ◌+◌, ◌≤◌, ◌<◌}
+use Prim.Native.Nat.{ℕ, zero, suc, ◌+◌, ◌-◌, ◌≤◌, ◌<◌}
 use mathlib.Core.Path.{◌≡◌, sym, ap, subst, ◌∙◌}
-use mathlib.Core.Bool.{Bool, true, false, not}
+use mathlib.Core.Bool.{Bool, true, false, not, true≢false}
 use mathlib.Core.List.{List}
 use native.Mathlib.Omega.{arith}
 use native.Mathlib.Numerals.{add-one}
 use borrow.Author.Tests.{eq-eqb, ne_eqb}
-use lib.ListN.{length, get_or, replicate}
+use lib.Dec.{eqb}
+use lib.ListN.{length, get_or, take, drop, replicate, length-take, length-drop}
+use lib.Seq.{ext_get_or, get_or-take, get_or-drop}
+use Rattle.std.specs.Cmp.Lexicographic.{pointwise}
+use Rattle.std.proofs.lemmas.Slice.Eq.{slice_eq-Decides}
+use Rattle.std.proofs.lemmas.Bool.Decides.{Decides-eqb}
 use Rattle.laws.specs.Cases.{clash}
 use Rattle.file.specs.declared.File.{File}
 use Rattle.file.specs.Admit.{no_file}
 use Rattle.file.specs.Sound.{Sound}
 use Rattle.file.specs.KeepsPositions.{none-sound}
 use Rattle.layout.specs.Files.{file_of_words, words_at, file_words, Put}
-use Rattle.layout.proofs.Written.{written_in}
+use Rattle.layout.proofs.Written.{length-written, written_in}
 use Rattle.layout.proofs.FileLaws.{file-ext}
 use Rattle.formed.specs.Decides.{Decides, Below}
-use Rattle.formed.specs.Checks.{SameAt, Canonical, Blank, SoundAt, FormedFile}
-use Rattle.formed.proofs.Decided.{says-no, as-well}
+use Rattle.formed.specs.Checks.{Canonical, Blank, SoundAt, FormedFile}
+use Rattle.formed.proofs.Decided.{as-well}
 use Rattle.laws.specs.Places.{get_d-same}
 use Rattle.layout.proofs.BookLaws.{zero-file, zero-words}
 
 -- ---- the same words
 
--- Words that agree with others where those agree with a third are the third's.
-pub below-same : (l : List ℕ) (at : ℕ) (m : List ℕ) (v : ℕ → ℕ) (r : Bool) → ((k : ℕ) → k < 96 → get_or m (k + 1) 0 ≡ v k)
-    → Decides r (Below 96 (SameAt l at m)) → Decides r (Below 96 (λ k. get_or l (at + (k + 1)) 0 ≡ v k))
+-- The words behind a place, compared with others.
+part-decides : (l : List ℕ) (at : ℕ) (ys : List ℕ) (r : Bool) → at + 97 ≤ length l → length ys ≡ 96
+    → r ≡ pointwise eqb (take (at + 97 - (at + 1)) (drop (at + 1) l)) ys → Decides r (Below 96 (λ k. get_or l (at + (k + 1)) 0 ≡ get_or ys k 0))
 unfolding Below
-below-same l at m v r e d = as-well d (λ s k h. s k h ∙ e k h) (λ s k h. s k h ∙ sym (e k h))
+part-decides l at ys r room long e =
+    record {
+      yes = λ h k b. sym (there k b) ∙ ap (λ (z : List ℕ). get_or z k 0) (same.0 h);
+      no = λ h all. true≢false (sym (same.1 (ext_get_or 0 part ys (part-long ∙ sym long) (λ k b. there k (omega (arith, part-long)) ∙ all k (omega (arith, part-long))))) ∙ h);
+    }
+  where
+    part : List ℕ
+    part = take (at + 97 - (at + 1)) (drop (at + 1) l)
+
+    same : (r ≡ true → part ≡ ys) × (part ≡ ys → r ≡ true)
+    same = slice_eq-Decides Decides-eqb part ys r e
+
+    part-long : length part ≡ 96
+    part-long = omega (arith, length-take (at + 97 - (at + 1)) (drop (at + 1) l), length-drop (at + 1) l)
+
+    there : (k : ℕ) → k < 96 → get_or part k 0 ≡ get_or l (at + (k + 1)) 0
+    there k b =
+        let e : at + 1 + k ≡ at + (k + 1) = omega arith in
+        get_or-take (at + 97 - (at + 1)) (drop (at + 1) l) k 0 (omega arith) ∙ get_or-drop (at + 1) l k 0 ∙ ap (λ (j : ℕ). get_or l j 0) e
 
 -- What stands in the words that a file is put into.
 put-words : (z m : List ℕ) (f : File) → length z ≡ 97 → Put z 0 f m → (k : ℕ) → k < 96 → get_or m (k + 1) 0 ≡ get_or (file_words f) k 0
@@ -36,18 +59,31 @@ put-words z m f n p k h =
     ap (λ (x : List ℕ). get_or x (k + 1) 0) p.stored
     ∙ written_in z 1 (file_words f) (k + 1) k (omega arith) (omega (arith, p.long)) (omega (arith, p.long))
 
--- The words that the file is written in, compared with those it was read from.
-pub canonical-decides : (l z m : List ℕ) (at : ℕ) (f : File) (r : Bool) → length z ≡ 97 → f ≡ file_of_words (words_at l at) → Put z 0 f m
-    → Decides r (Below 96 (SameAt l at m)) → Decides r (Canonical l at)
-unfolding Canonical
-canonical-decides l z m at f r n e p d =
-    below-same l at m (λ k. get_or (file_words (file_of_words (words_at l at))) k 0) r
-    (λ k h. put-words z m f n p k h ∙ ap (λ (g : File). get_or (file_words g) k 0) e) d
+-- The words compared with those that the file read there is written in.
+pub canonical-decides : (l z m : List ℕ) (at : ℕ) (f : File) (r : Bool) → at + 97 ≤ length l → length z ≡ 97 → f ≡ file_of_words (words_at l at)
+    → Put z 0 f m → r ≡ pointwise eqb (take (at + 97 - (at + 1)) (drop (at + 1) l)) (take 96 (drop 1 m)) → Decides r (Canonical l at)
+unfolding Canonical Below
+canonical-decides l z m at f r room n e p c =
+    let long : length m ≡ 97 = ap length p.stored ∙ length-written z 1 (file_words f) ∙ n in
+    let again = file_words (file_of_words (words_at l at)) in
+    let words : (k : ℕ) → k < 96 → get_or (take 96 (drop 1 m)) k 0 ≡ get_or again k 0 =
+    λ (k : ℕ) (b : k < 96).
+    let q : 1 + k ≡ k + 1 = omega arith in
+    get_or-take 96 (drop 1 m) k 0 b
+    ∙ get_or-drop 1 m k 0
+    ∙ ap (λ (j : ℕ). get_or m j 0) q
+    ∙ put-words z m f n p k b
+    ∙ ap (λ (g : File). get_or (file_words g) k 0) e in
+    as-well
+    (part-decides l at (take 96 (drop 1 m)) r room (omega (arith, length-take 96 (drop 1 m), length-drop 1 m)) c)
+    (λ s k h. s k h ∙ words k h) (λ s k h. s k h ∙ sym (words k h))
 
 -- The words compared with zeros.
-pub blank-decides : (l : List ℕ) (at : ℕ) (r : Bool) → Decides r (Below 96 (SameAt l at (replicate 97 0))) → Decides r (Blank l at)
-unfolding Blank
-blank-decides l at r d = below-same l at (replicate 97 0) (λ k. 0) r (λ k h. get_d-same 0 97 (k + 1)) d
+pub blank-decides : (l : List ℕ) (at : ℕ) (r : Bool) → at + 97 ≤ length l
+    → r ≡ pointwise eqb (take (at + 97 - (at + 1)) (drop (at + 1) l)) (replicate 96 0) → Decides r (Blank l at)
+unfolding Blank Below
+blank-decides l at r room c =
+    as-well (part-decides l at (replicate 96 0) r room (omega arith) c) (λ s k h. s k h ∙ get_d-same 0 96 k) (λ s k h. s k h ∙ sym (get_d-same 0 96 k))
 
 -- ---- a file that isn't admitted
 
@@ -86,10 +122,6 @@ module _ (t : ℕ) (l : List ℕ) (at : ℕ) where
   is-admitted : (get_or l (at + 1) 0 ≡ 0 → ⊥) → f.admitted ≡ true
   unfolding file_of_words
   is-admitted e = ap not (ne_eqb (get_or l (at + 1) 0) 0 e)
-
-  -- Words that are not those of the file decide it.
-  pub canonical-fails : (r : Bool) → Decides r (Canonical l at) → r ≡ false → Decides false (FormedFile t l at)
-  canonical-fails r d e = says-no (λ s. d.no e s.canonical)
 
   -- Where nobody is admitted, whether they are zeros decides it.
   pub blank-formed : (q r : Bool) → t ≤ 29219 → Decides q (Canonical l at) → q ≡ true → get_or l (at + 1) 0 ≡ 0 → Decides r (Blank l at)

@@ -2,7 +2,7 @@
 -- Assumes nothing.
 use Prim.Native.Nat.{ℕ, zero, suc, ◌+◌, ◌*◌, ◌-◌, ◌%◌, ◌/◌, ◌≤◌, ◌<◌}
 use mathlib.Core.Path.{◌≡◌, refl, sym, ap, ◌∙◌}
-use mathlib.Core.Bool.{Bool, true, false}
+use mathlib.Core.Bool.{Bool}
 use mathlib.Core.List.{List, [], ◌∷◌, ◌++◌}
 use native.Mathlib.Omega.{arith}
 use borrow.Author.Tests.{eqb-true, eqb-false}
@@ -23,7 +23,7 @@ use Rattle.layout.specs.Parts.{number_of, signed_of_word, slot_of_words, open_ca
 use Rattle.layout.specs.Files.{slots_of_words, calls_of_words, totals_of_words, file_of_words, words_at}
 use Rattle.formed.specs.Decides.{Decides, Below}
 use Rattle.formed.specs.Checks.{SoundSlot, SoundAmounts, SlotAt, CallAt, TotalAt, SoundAt}
-use Rattle.formed.proofs.Decided.{says-no, as-well}
+use Rattle.formed.proofs.Decided.{as-well}
 
 -- ---- zeros behind the open calls
 
@@ -199,20 +199,8 @@ module _ (l : List ℕ) (at : ℕ) where
   unfolding SoundAt file_of_words
   part-own t s = record { count = s.count; firm = s.firm; next = s.next; charged = s.charged; accrued = s.accrued }
 
-  -- A test that fails decides the whole.
-  pub slots-fail : (t : ℕ) (r : Bool) → Decides r (Below 8 (SlotAt l at)) → r ≡ false → Decides false (SoundAt t l at)
-  slots-fail t r d e = says-no (λ s. d.no e (part-slots t s))
-
-  -- The calls.
-  pub calls-fail : (t : ℕ) (r : Bool) → Decides r (Below 4 (CallAt l at)) → r ≡ false → Decides false (SoundAt t l at)
-  calls-fail t r d e = says-no (λ s. d.no e (part-calls t s))
-
-  -- The totals.
-  pub totals-fail : (t : ℕ) (r : Bool) → Decides r (Below 16 (TotalAt l at)) → r ≡ false → Decides false (SoundAt t l at)
-  totals-fail t r d e = says-no (λ s. d.no e (part-totals t s))
-
-  -- Where the others pass, the last test decides the whole.
-  pub own-decides : (t : ℕ) (a b c r : Bool) → t ≤ 29219 → Decides a (Below 8 (SlotAt l at)) → a ≡ true
-      → Decides b (Below 4 (CallAt l at)) → b ≡ true
-      → Decides c (Below 16 (TotalAt l at)) → c ≡ true → Decides r (Own t) → Decides r (SoundAt t l at)
-  own-decides t a b c r day p e q f s g d = as-well d (whole t day (p.yes e) (q.yes f) (s.yes g)) (part-own t)
+  -- A test of the parts, one after another, decides the whole.
+  pub whole-decides : (t : ℕ) (r : Bool) → t ≤ 29219
+      → Decides r (((Below 8 (SlotAt l at) × Below 4 (CallAt l at)) × Below 16 (TotalAt l at)) × Own t) → Decides r (SoundAt t l at)
+  whole-decides t r day d =
+      as-well d (λ p. whole t day p.0.0.0 p.0.0.1 p.0.1 p.1) (λ s. (((part-slots t s, part-calls t s), part-totals t s), part-own t s))

@@ -1,7 +1,8 @@
 -- What is asked of the words of a book, one after another: of each part of a file, of a file, and of all the files.
 -- Assumes nothing.
-use Rattle.std.specs.Prelude.{ℕ, ◌+◌, ◌*◌, ◌≤◌, ◌≡◌, List, get_or}
+use Rattle.std.specs.Prelude.{ℕ, ◌+◌, ◌*◌, ◌≤◌, ◌≡◌, Bool, false, List, get_or}
 use Rattle.laws.specs.Lists.{table}
+use Rattle.file.specs.declared.OpenCall.{OpenCall}
 use Rattle.file.specs.Sound.{Sound, SoundPosition, total_bound}
 use Rattle.layout.specs.Parts.{number_of, position_of}
 use Rattle.layout.specs.Files.{file_of_words, words_at, file_words}
@@ -18,6 +19,12 @@ pub record SoundPlace (n k a d : ℕ) : Type 0 where
   pub amount : a ≤ total_bound
   pub last : number_of d ≤ 29229
   pub behind : n ≤ k → (a ≡ 0) × (number_of d ≡ 0)
+
+-- The same of a call itself, which is open or not.
+pub record SoundPlaced (c : OpenCall) (is_open : Bool) : Type 0 where
+  pub amount : c.amount ≤ total_bound
+  pub last : c.last.0 ≤ 29229
+  pub behind : is_open ≡ false → (c.amount ≡ 0) × (c.last.0 ≡ 0)
 
 -- A file's own words on day t: the count of open calls, firm amount, next amount, days charged and accrued charge.
 pub record SoundAmounts (t n a b c d : ℕ) : Type 0 where
@@ -43,10 +50,6 @@ TotalAt l at k = get_or l (at + (51 + 3 * k)) 0 ≤ 32000000000000
 -- The file behind a place is sound on day t.
 unfoldable pub SoundAt : ℕ → List ℕ → ℕ → Type 0
 SoundAt t l at = Sound t (file_of_words (words_at l at))
-
--- Word k + 1 behind a place is word k + 1 of other words.
-abbrev pub SameAt : List ℕ → ℕ → List ℕ → ℕ → Type 0
-SameAt l at m k = get_or l (at + (k + 1)) 0 ≡ get_or m (k + 1) 0
 
 -- The words behind a place are those of the file that is read there.
 unfoldable pub Canonical : List ℕ → ℕ → Type 0

@@ -1,137 +1,138 @@
 // Whether the words of a file are those of a file within its bounds.
-ghost use Rattle.std.specs.Prelude.{◌+◌, ◌≤◌, length};
+ghost use Rattle.std.specs.Prelude.{◌≡◌, ◌+◌, ◌*◌, ◌≤◌, ◌<◌, length};
+ghost use Rattle.layout.specs.Files.{words_at, slot_in, call_in};
 ghost use Rattle.formed.specs.Decides.{Decides, Below};
-ghost use Rattle.formed.specs.Checks.{SlotAt, CallAt, TotalAt, SoundAt, SameAt, Canonical, Blank, FormedFile};
+ghost use Rattle.formed.specs.Checks.{SlotAt, CallAt, TotalAt, SoundAmounts, SoundAt, Canonical, Blank, FormedFile};
 
-use crate::parts::{are_sound_amounts, is_sound_call, is_sound_slot};
+use crate::parts::{BOUND, is_sound_call, is_sound_position};
+use file::{OpenCall, Slot};
 use layout::files::{file_at, put_file};
+use layout::rows::Row;
 
-// Whether the eight slots are sound.
-fn sound_slots(words: &[u64], at: usize) -> bool
-    requires { at + 97 ≤ length words.now }
-    ensures { Decides result (Below 8 (SlotAt words.now at)) }
-{
-    let mut i = 0;
-    while i < 8 {
-        let kind = words[at + (9 + 4 * i)];
-        if !is_sound_slot(
-            kind,
-            words[at + (10 + 4 * i)],
-            words[at + (11 + 4 * i)],
-            words[at + (12 + 4 * i)],
-        ) {
-            return false;
-        }
-        i += 1;
-    }
-    true
+// The words of a file behind a place, and the day on which they are judged.
+#[derive(Clone, Copy)]
+pub struct FileWords<'a> {
+    words: &'a [u64],
+    at: usize,
+    today: u64,
+    ghost room: { at + 97 ≤ length words.now },
+    ghost day: { today ≤ 29219 },
 }
 
-// Whether the four places of the calls are sound.
-fn sound_calls(words: &[u64], at: usize) -> bool
-    requires { at + 97 ≤ length words.now }
-    ensures { Decides result (Below 4 (CallAt words.now at)) }
-{
-    let count = words[at + 4];
-    let mut i = 0;
-    while i < 4 {
-        if !is_sound_call(
-            count,
-            i as u64,
-            words[at + (41 + 2 * i)],
-            words[at + (42 + 2 * i)],
-        ) {
-            return false;
-        }
-        i += 1;
+impl<'a> FileWords<'a> {
+    // The words behind a place, on a day.
+    pub fn new(words: &'a [u64], at: usize, today: u64) -> FileWords<'a>
+        requires { (at + 97 ≤ length words.now) × (today ≤ 29219) }
+        ensures { (result.words.now ≡ words.now) × (result.at ≡ at) × (result.today ≡ today) }
+    {
+        FileWords { words, at, today }
     }
-    true
-}
 
-// Whether the sixteen month totals are within plus or minus 16 * 10^12 cents: such a number's word is at most twice that.
-fn sound_totals(words: &[u64], at: usize) -> bool
-    requires { at + 97 ≤ length words.now }
-    ensures { Decides result (Below 16 (TotalAt words.now at)) }
-{
-    let mut i = 0;
-    while i < 16 {
-        if 32000000000000 < words[at + (51 + 3 * i)] {
-            return false;
-        }
-        i += 1;
+    // The file's word k.
+    fn word(self, k: usize) -> u64
+        requires { k ≤ 96 }
+        ensures { result ≡ words_at self.entry.words.now self.entry.at k }
+    {
+        self.words[self.at + k]
     }
-    true
-}
 
-// Whether the file behind a place is within its bounds today.
-fn is_sound(words: &[u64], at: usize, today: u64) -> bool
-    requires { (at + 97 ≤ length words.now) × (today ≤ 29219) }
-    ensures { Decides result (SoundAt today words.now at) }
-{
-    if !sound_slots(words, at) {
-        return false;
+    // Slot k of the file.
+    fn slot(self, k: usize) -> Slot
+        requires { k < 8 }
+        ensures { result ≡ slot_in self.entry.words.now (self.entry.at + (9 + 4 * k)) }
+    {
+        Slot::read(self.words, self.at + (9 + 4 * k))
     }
-    if !sound_calls(words, at) {
-        return false;
-    }
-    if !sound_totals(words, at) {
-        return false;
-    }
-    are_sound_amounts(
-        today,
-        words[at + 4],
-        words[at + 3],
-        words[at + 6],
-        words[at + 7],
-        words[at + 8],
-    )
-}
 
-// Whether the 96 words behind a place are those behind the first of others.
-fn is_same(words: &[u64], at: usize, others: &[u64; 97]) -> bool
-    requires { at + 97 ≤ length words.now }
-    ensures { Decides result (Below 96 (SameAt words.now at others.now)) }
-{
-    let mut i = 0;
-    while i < 96 {
-        if words[at + (i + 1)] != others[i + 1] {
-            return false;
-        }
-        i += 1;
+    // The file's call k.
+    fn call(self, k: usize) -> OpenCall
+        requires { k < 4 }
+        ensures { result ≡ call_in self.entry.words.now (self.entry.at + (41 + 2 * k)) }
+    {
+        OpenCall::read(self.words, self.at + (41 + 2 * k))
     }
-    true
-}
 
-// Whether the words behind a place are those that the file read there is written in.
-fn is_canonical(words: &[u64], at: usize) -> bool
-    requires { at + 97 ≤ length words.now }
-    ensures { Decides result (Canonical words.now at) }
-{
-    let file = file_at(words, at);
-    let mut again = [0; 97];
-    put_file(&mut again, 0, file);
-    is_same(words, at, &again)
-}
-
-// Whether the words behind a place are zeros.
-fn is_blank(words: &[u64], at: usize) -> bool
-    requires { at + 97 ≤ length words.now }
-    ensures { Decides result (Blank words.now at) }
-{
-    let zeros = [0; 97];
-    is_same(words, at, &zeros)
-}
-
-// Whether the words behind a place are a file that is well formed today.
-pub fn is_formed(words: &[u64], at: usize, today: u64) -> bool
-    requires { (at + 97 ≤ length words.now) × (today ≤ 29219) }
-    ensures { Decides result (FormedFile today words.now at) }
-{
-    if !is_canonical(words, at) {
-        return false;
+    // Whether the eight slots are sound.
+    fn has_sound_slots(self) -> bool
+        ensures { Decides result (Below 8 (SlotAt self.entry.words.now self.entry.at)) }
+    {
+        (0..8).all(
+            |k|
+                requires { k < 8 }
+            { is_sound_position(self.slot(k).position) },
+        )
     }
-    if words[at + 1] == 0 {
-        return is_blank(words, at);
+
+    // Whether the four places of the calls are sound.
+    fn has_sound_calls(self) -> bool
+        ensures { Decides result (Below 4 (CallAt self.entry.words.now self.entry.at)) }
+    {
+        (0..4).all(
+            |k|
+                requires { k < 4 }
+            { is_sound_call(self.call(k), (k as u64) < self.word(4)) },
+        )
     }
-    is_sound(words, at, today)
+
+    // Whether the sixteen month totals are within plus or minus 16 * 10^12 cents: such a number's word is at most twice that.
+    fn has_sound_totals(self) -> bool
+        ensures { Decides result (Below 16 (TotalAt self.entry.words.now self.entry.at)) }
+    {
+        (0..16).all(
+            |k|
+                requires { k < 16 }
+            { self.word(51 + 3 * k) <= 32000000000000 },
+        )
+    }
+
+    // Whether the words of the file's own are within their bounds today.
+    fn has_sound_amounts(self) -> bool
+        ensures { Decides result (SoundAmounts self.entry.today (words_at self.entry.words.now self.entry.at 4)
+            (words_at self.entry.words.now self.entry.at 3) (words_at self.entry.words.now self.entry.at 6)
+            (words_at self.entry.words.now self.entry.at 7) (words_at self.entry.words.now self.entry.at 8)) }
+    {
+        self.word(4) <= 4
+            && self.word(3) <= BOUND
+            && self.word(6) <= BOUND
+            && self.word(7) <= self.today
+            && self.word(8) <= self.word(7) * BOUND
+    }
+
+    // Whether the file is within its bounds today.
+    fn is_sound(self) -> bool
+        ensures { Decides result (SoundAt self.entry.today self.entry.words.now self.entry.at) }
+    {
+        self.has_sound_slots()
+            && self.has_sound_calls()
+            && self.has_sound_totals()
+            && self.has_sound_amounts()
+    }
+
+    // Whether the words are those that the file read there is written in.
+    fn is_canonical(self) -> bool
+        ensures { Decides result (Canonical self.entry.words.now self.entry.at) }
+    {
+        let mut again = [0; 97];
+        put_file(&mut again, 0, file_at(self.words, self.at));
+        self.words[self.at + 1..self.at + 97] == again[1..]
+    }
+
+    // Whether the words are zeros.
+    fn is_blank(self) -> bool
+        ensures { Decides result (Blank self.entry.words.now self.entry.at) }
+    {
+        self.words[self.at + 1..self.at + 97] == [0; 96]
+    }
+
+    // Whether the words are a file that is well formed today.
+    pub fn is_formed(self) -> bool
+        ensures { Decides result (FormedFile self.entry.today self.entry.words.now self.entry.at) }
+    {
+        self.is_canonical()
+            && if self.word(1) == 0 {
+                self.is_blank()
+            } else {
+                self.is_sound()
+            }
+    }
 }

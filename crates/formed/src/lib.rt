@@ -1,12 +1,12 @@
 // Whether words are a book: what a saved book is asked before it is used.
 #![tactic(auto)]
 
-ghost use Rattle.std.specs.Prelude.{◌≡◌, ◌≤◌, length};
+ghost use Rattle.std.specs.Prelude.{◌≡◌, ◌≤◌, ◌<◌, length, get_or};
 ghost use Rattle.layout.specs.WellFormed.{WellFormed};
 ghost use Rattle.formed.specs.Decides.{Decides, Below};
 ghost use Rattle.formed.specs.Checks.{FileAt, CountAt, open_below};
 
-use crate::files::is_formed;
+use crate::files::FileWords;
 
 mod files;
 mod parts;
@@ -16,14 +16,11 @@ fn files_formed(words: &[u64], today: u64) -> bool
     requires { (length words.now ≡ 6147) × (today ≤ 29219) }
     ensures { Decides result (Below 64 (FileAt today words.now)) }
 {
-    let mut i = 0;
-    while i < 64 {
-        if !is_formed(words, 2 + 96 * i, today) {
-            return false;
-        }
-        i += 1;
-    }
-    true
+    (0..64).all(
+        |p|
+            requires { (length words.now ≡ 6147) × (today ≤ 29219) × (p < 64) }
+        { FileWords::new(words, 2 + 96 * p, today).is_formed() },
+    )
 }
 
 // How many calls are open in the 64 files, at most four in each.
@@ -32,10 +29,8 @@ fn open_calls(words: &[u64]) -> u64
     ensures { (result ≡ open_below words.now 64) × (result ≤ 256) }
 {
     let mut count = 0;
-    let mut i = 0;
-    while i < 64 {
-        count += words[2 + 96 * i + 4];
-        i += 1;
+    for p in 0..64 {
+        count += words[2 + 96 * p + 4];
     }
     count
 }
@@ -44,18 +39,10 @@ fn open_calls(words: &[u64]) -> u64
 pub fn is_well_formed(words: &[u64]) -> bool
     ensures { Decides result (WellFormed words.now) }
 {
-    if words.len() != 6147 {
-        return false;
+    match *words {
+        [layout, today, made, ..] if words.len() == 6147 && layout == 1 && today <= 29219 => {
+            files_formed(words, today) && made <= 256 * today + open_calls(words)
+        }
+        _ => false,
     }
-    if words[0] != 1 {
-        return false;
-    }
-    let today = words[1];
-    if 29219 < today {
-        return false;
-    }
-    if !files_formed(words, today) {
-        return false;
-    }
-    words[2] <= 256 * today + open_calls(words)
 }

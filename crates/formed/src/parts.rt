@@ -1,73 +1,38 @@
-// Whether the words of a part of a file are within their bounds.
-ghost use Rattle.std.specs.Prelude.{◌≤◌};
+// Whether a part of a file is within its bounds.
+ghost use Rattle.std.specs.Prelude.{◌≡◌};
+ghost use Rattle.file.specs.Sound.{SoundPosition};
 ghost use Rattle.formed.specs.Decides.{Decides};
-ghost use Rattle.formed.specs.Checks.{SoundSlot, SoundPlace, SoundAmounts};
+ghost use Rattle.formed.specs.Checks.{SoundPlaced};
 
-use layout::parts::number;
+use calendar::{Day, LAST_DAY};
+use file::{OpenCall, Position};
 
-// Whether the words of a slot are a position within its bounds.
-pub fn is_sound_slot(kind: u64, amount: u64, first: u64, last: u64) -> bool
-    ensures { Decides result (SoundSlot kind amount first last) }
+// The largest amount of a position, 10^12 cents.
+const LARGEST: u64 = 1000000000000;
+
+// The largest month total, called amount and firm amount: 16 figures of 10^12 cents.
+pub const BOUND: u64 = 16000000000000;
+
+// Whether a position is within its bounds.
+pub fn is_sound_position(position: Position) -> bool
+    ensures { Decides result (SoundPosition position) }
 {
-    if kind == 0 {
-        return true;
-    }
-    if amount < 1 {
-        return false;
-    }
-    if 1000000000000 < amount {
-        return false;
-    }
-    if kind == 1 {
-        return true;
-    }
-    let latest = number(last);
-    if latest < number(first) {
-        return false;
-    }
-    latest <= 29219
-}
-
-// Whether the words at a place of the calls are a call within its bounds, or zeros where it isn't open.
-pub fn is_sound_call(count: u64, place: u64, amount: u64, last: u64) -> bool
-    ensures { Decides result (SoundPlace count place amount last) }
-{
-    let latest = number(last);
-    if place < count {
-        if 16000000000000 < amount {
-            return false;
+    match position {
+        Position::Empty => true,
+        Position::Cash(amount) => 1 <= amount && amount <= LARGEST,
+        Position::Letter(amount, first, last) => {
+            1 <= amount && amount <= LARGEST && first <= last && last.0 <= LAST_DAY
         }
-        return latest <= 29229;
     }
-    if amount != 0 {
-        return false;
-    }
-    latest == 0
 }
 
-// Whether the words of a file's own are within their bounds today.
-pub fn are_sound_amounts(
-    today: u64,
-    count: u64,
-    firm: u64,
-    next: u64,
-    charged: u64,
-    accrued: u64,
-) -> bool
-    requires { today ≤ 29219 }
-    ensures { Decides result (SoundAmounts today count firm next charged accrued) }
+// Whether a call is within its bounds where it is open, and zeros where it isn't.
+pub fn is_sound_call(call: OpenCall, is_open: bool) -> bool
+    ensures { Decides result (SoundPlaced call is_open) }
 {
-    if 4 < count {
-        return false;
+    if is_open {
+        call.amount <= BOUND && call.last.0 <= LAST_DAY + 10
+    } else {
+        call.amount == 0 && call.last == Day(0)
     }
-    if 16000000000000 < firm {
-        return false;
-    }
-    if 16000000000000 < next {
-        return false;
-    }
-    if today < charged {
-        return false;
-    }
-    accrued <= charged * 16000000000000
 }

@@ -1,63 +1,61 @@
 // The numbers of a history's text: decimal, some with a minus, with blanks or line ends between them.
 
-// A number: whether a minus stands before it, its size, and where the text goes on.
+use std::str::SplitWhitespace;
+
+// A number: whether a minus stands before it, and its size; the largest where that does not fit.
 #[derive(Clone, Copy)]
 pub struct Number {
-    pub negative: bool,
+    negative: bool,
     pub size: u64,
-    pub next: usize,
 }
 
-// The value of a decimal digit; 10 and above for any other byte.
-fn digit(byte: u8) -> u64 {
-    if byte < b'0' {
-        10
-    } else {
-        (byte - b'0') as u64
+impl Number {
+    // A word as a number, if it is one.
+    fn of(word: &str) -> Option<Number> {
+        let digits = word.strip_prefix('-').unwrap_or(word);
+        if digits.is_empty() || !digits.bytes().all(|byte| byte.is_ascii_digit()) {
+            return None;
+        }
+        Some(Number {
+            negative: digits.len() < word.len(),
+            size: digits.parse().unwrap_or(u64::MAX),
+        })
     }
-}
 
-// A size with one more digit at its end; the largest size where that would not fit.
-fn with_digit(size: u64, digit: u64) -> u64 {
-    if size <= (18446744073709551615 - digit) / 10 {
-        size * 10 + digit
-    } else {
-        18446744073709551615
-    }
-}
-
-// The next number of a text from a place on; 0 at its end.
-pub fn number_at(text: &[u8], from: usize) -> Number {
-    let mut negative = false;
-    let mut begun = false;
-    let mut size = 0;
-    let mut next = from;
-    while next < text.len() {
-        let byte = text[next];
-        next += 1;
-        let value = digit(byte);
-        if value < 10 {
-            begun = true;
-            size = with_digit(size, value);
-        } else if begun {
-            break;
-        } else {
-            negative = byte == b'-';
+    // The number with its sign; the largest where its size does not fit.
+    pub fn signed(self) -> i64 {
+        match i64::try_from(self.size) {
+            Ok(size) if self.negative => 0 - size,
+            Ok(size) => size,
+            Err(_) => i64::MAX,
         }
     }
-    Number {
-        negative,
-        size,
-        next,
-    }
 }
 
-// A number as a signed one; the largest where its size does not fit.
-pub fn signed(number: Number) -> i64 {
-    if number.size <= 9223372036854775807 {
-        let size = number.size as i64;
-        if number.negative { 0 - size } else { size }
-    } else {
-        9223372036854775807
+// The numbers that are left.
+#[derive(Drop)]
+pub struct Numbers<'a> {
+    words: SplitWhitespace<'a>,
+}
+
+impl<'a> Numbers<'a> {
+    // All numbers of a text.
+    pub fn of(text: &'a str) -> Numbers<'a> {
+        Numbers {
+            words: text.split_whitespace(),
+        }
+    }
+
+    // The next number, words that are none left out; 0 at the text's end.
+    pub fn next(&mut self) -> Number {
+        self.words.find_map(Number::of).unwrap_or(Number {
+            negative: false,
+            size: 0,
+        })
+    }
+
+    // The next number without its sign.
+    pub fn natural(&mut self) -> u64 {
+        self.next().size
     }
 }

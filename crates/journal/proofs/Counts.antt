@@ -15,7 +15,7 @@ use Rattle.words.specs.Bytes.{control, some, uncommented}
 use Rattle.words.specs.Words.{words, place_in}
 use Rattle.words.specs.Hex.{bytes_of_hex}
 use Rattle.journal.specs.Names.{call_names}
-use Rattle.journal.specs.Fields.{Left, more, fault, field_of, closed, figures_of, list_of, on_lists, lists_of, file_of, checked_file, ended}
+use Rattle.journal.specs.Fields.{Left, more, fault, field_of, lodged_field, closed, figures_of, list_of, on_lists, lists_of, file_of, checked_file, ended}
 use Rattle.journal.specs.Grammar.{Parsed, plain, are_marks, lengths_of, length_list, total, day_numbered, month_numbered}
 use Rattle.journal.specs.Grammar.{fresh_of, admit_of, cash_of, letter_of, lodge_of, release_of, settle_of}
 use Rattle.journal.specs.Grammar.{annual_of, advance_of, statement_of, special_of, filed, batch_of, calls_of, named_call, words_of, parsed}
@@ -105,7 +105,7 @@ unfolding lodge_of
 lodge-counted l =
     let p = field_of Kind.Natural l in
     let q = field_of Kind.Natural p.left in
-    let k = field_of Kind.Lodged q.left in
+    let k = lodged_field q.left in
     split (eqb k.value 0) (λ t. rw t (cash-counted p.value q.value k.left))
     (λ t. rw t (letter-counted p.value q.value k.left))
 

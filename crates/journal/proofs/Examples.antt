@@ -12,7 +12,7 @@ use Rattle.words.specs.Numerals.{natural, value_from, natural_of, unsigned_of, n
 use Rattle.words.specs.Hex.{lower_hex, upper_hex, hex_digit, hex_value, hexadecimal, bytes_of_hex}
 use Rattle.words.specs.Dates.{is_dated, is_monthed, numbered, dated_day, numbered_month, dated_month, day_in, month_in}
 use Rattle.journal.specs.Names.{call_names, role_names, lodged_names, role_of_word, lodged_in, read_number}
-use Rattle.journal.specs.Fields.{next_of, faulted, taken, field_of, closed, with_number, next_numbers, words_left}
+use Rattle.journal.specs.Fields.{next_of, faulted, taken, field_of, lodged_field, closed, with_number, next_numbers, words_left}
 use Rattle.journal.specs.Fields.{figures_of, list_of, on_lists, lists_of, file_of, checked_file, ended}
 use Rattle.journal.specs.Grammar.{plain, fresh_of, admit_of, cash_of, letter_of, lodge_of, release_of}
 use Rattle.journal.specs.Grammar.{annual_of, advance_of, statement_of, settle_of, special_of, filed, batch_of, calls_of, named_call, words_of, parsed}
@@ -56,7 +56,7 @@ pub examples :
     × (parsed 0 (text "settlement 1") ≡ plain (Request.Error Reason.NoCall))
 unfolding parsed words_of named_call calls_of uncommented some control blank words apart onto place_in same call_names role_names lodged_names
     role_of_word lodged_in natural each digit value_from natural_of unsigned_of negative_of signed_of read_number is_dated is_monthed numbered dated_day
-    numbered_month dated_month day_in month_in is_date month_number day_of_date first_day length_of length_in leap next_of faulted taken field_of closed
+    numbered_month dated_month day_in month_in is_date month_number day_of_date first_day length_of length_in leap next_of faulted taken field_of lodged_field closed
     with_number next_numbers words_left figures_of list_of on_lists lists_of fresh_of admit_of cash_of letter_of lodge_of release_of annual_of advance_of
     statement_of settle_of special_of
 examples =

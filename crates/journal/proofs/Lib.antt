@@ -1,5 +1,4 @@
 pub mod FieldLaws
-pub mod CallLaws
 pub mod ListLaws
 pub mod BatchLaws
 pub mod LineLaws

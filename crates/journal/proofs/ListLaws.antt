@@ -1,225 +1,199 @@
 -- The lists of a line, written number by number.
 -- Assumes nothing.
-use Prim.Native.Nat.{ℕ, suc, ◌+◌, ◌-◌, ◌≤◌, ◌<◌}
-use mathlib.Core.Path.{◌≡◌, refl, sym, ap, ◌∙◌}
-use mathlib.Core.Bool.{Bool, true, false, beq}
-use mathlib.Core.List.{List, [], ◌∷◌, ◌++◌, append-nil}
-use native.Mathlib.Numerals.{add-one}
-use native.Mathlib.Omega.{arith}
-use mir.Syntax.{w64}
-use mir.Val.{Fits}
+use Rattle.std.proofs.Common.{ℕ, zero, suc, ◌+◌, ◌-◌, ◌≤◌, ◌<◌, ◌≡◌, refl, sym, ap, ◌∙◌, Bool, true, false, List, [], ◌∷◌, ◌++◌, length, take, drop, get_or, set, Option, Some, None, Result, Ok, Err, IsErrAnd, ok_or, MatchResult, ℤ, arith, add-one}
+use mathlib.Core.Bool.{beq}
+use mathlib.Core.List.{append-nil, append_assoc}
 use borrow.Author.Tests.{eq-eqb, ne_eqb}
 use lib.Dec.{eqb}
-use lib.ListN.{length, take, drop, get_or, set, length-set, length-drop, drop_of_length-le}
-use lib.Seq.{sets, sets-eq, length-sets, drop-cons}
-use lib.IntN.{ℤ}
-use Rattle.laws.specs.Cases.{split}
+use lib.ListN.{length-set, length-drop, drop_of_length-le}
+use lib.Seq.{sets, sets-eq, length-sets, drop-cons, drop-drop, drop-length, take_all, length-take-le}
+use borrow.Rule.Slice.PartMut.{put_mid}
 use Rattle.laws.specs.Tables.{beq-eq, every, every-at}
-use Rattle.calendar.specs.declared.Month.{Month}
-use Rattle.words.specs.Bytes.{blank}
-use Rattle.words.specs.Words.{apart, onto, words}
-use Rattle.words.specs.Found.{NextWord}
-use Rattle.words.specs.Numerals.{unsigned_of, signed_of}
+use Rattle.words.specs.Words.{left}
+use Rattle.words.specs.declared.line.Words.{Words}
+use Rattle.words.specs.Numerals.{natural, unsigned_of, signed_of}
 use Rattle.journal.specs.Names.{read_number}
-use Rattle.journal.specs.Fields.{Left, fault, faulted, faulted_place, rest_of_line, words_left}
+use Rattle.journal.specs.Fields.{Left, more, fault, next_of, faulted, field_of, words_left}
 use Rattle.journal.specs.Fields.{Numbers, with_number, next_numbers, Lists, on_lists, list_of, lists_of, figures_of, closed}
-use Rattle.journal.specs.Grammar.{are_marks, lengths_of, month_numbered, settle_of, special_of}
-use Rattle.journal.specs.Steps.{NextIs, FieldIs, ItemIs, FilledIs, ListedIs, ParsedIs}
+use Rattle.journal.specs.Grammar.{Parsed, are_marks, lengths_of, month_numbered, settle_of, special_of}
+use Rattle.journal.specs.Steps.{IsNumber, IsFilled, ParsedIs, said}
 use Rattle.journal.specs.declared.Request.{Request}
-use Rattle.journal.specs.declared.fields.Kind.{Kind}
-use Rattle.journal.specs.declared.fields.Field.{Field}
-use Rattle.journal.specs.declared.lists.Listed.{Listed}
-use Rattle.words.specs.declared.numbers.Signed.{Signed}
 use Rattle.journal.specs.declared.Reason.{Reason}
-use Rattle.journal.specs.declared.fields.Place.{Place}
-use Rattle.journal.specs.declared.fields.Next.{Next}
-use Rattle.journal.specs.declared.lists.Item.{Item}
-use Rattle.journal.specs.declared.lists.Filled.{Filled}
-use Rattle.words.proofs.WordLaws.{a_word, no_words}
-use Rattle.journal.proofs.FieldLaws.{left-faulted}
+use Rattle.journal.specs.declared.fields.Kind.{Kind}
+use Rattle.journal.proofs.FieldLaws.{field_fault, closed_fault}
+use Rattle.journal.proofs.Room.{list-fits}
 
 -- A number of a list.
 
-pub read-mark : (marks : Bool) (w : List ℕ) (r : Signed) → marks ≡ true → r ≡ unsigned_of w → r ≡ read_number marks w
-unfolding read_number
-read-mark marks w r e f = rw e f
+number-cases : (v : Option ℤ) (s : Words)
+    → MatchResult (ok_or v Reason.NotNumber) (λ z. (v ≡ Some z) × (more (left s) ≡ more (left s)))
+    (λ e. (v ≡ None) × (fault Reason.NotNumber ≡ fault e))
+number-cases (Some z) s = (refl, refl)
+number-cases None s = (refl, refl)
 
-pub read-signed : (marks : Bool) (w : List ℕ) (r : Signed) → marks ≡ false → r ≡ signed_of w → r ≡ read_number marks w
-unfolding read_number
-read-signed marks w r e f = rw e f
+pub number_is : (marks : Bool) (ws rest : List (List ℕ)) (w : List ℕ) (v : Option ℤ) (s : Words) → ws ≡ w ∷ rest → left s ≡ rest
+    → v ≡ read_number marks w → IsNumber marks (more ws) (ok_or v Reason.NotNumber) s
+unfolding next_of faulted
+number_is marks ws rest w v s e f g = rw (e, ← f, ← g) (number-cases v s)
 
-pub item-is : (s : List ℕ) (place : Place) (marks : Bool) (x : Next) (v : Signed) → NextIs s place x
-    → v ≡ read_number marks (take (x.end - x.start) (drop x.start s)) → ItemIs s place marks (record { value = v; place = x.place })
-item-is s place marks x v is e = record { value = e ∙ ap (read_number marks) is.word; left = is.left }
+no-mark : (marks : Bool) → read_number marks [] ≡ None
+unfolding read_number unsigned_of signed_of natural
+no-mark true = refl
+no-mark false = refl
 
--- How many words there are.
+-- no word is left
+pub number_none : (marks : Bool) (ws : List (List ℕ)) (e : Reason) → ws ≡ [] → e ≡ Reason.TooFewWords
+    → (read_number marks (next_of (more ws)).word ≡ None) × (faulted (next_of (more ws)).left Reason.NotNumber ≡ fault e)
+unfolding next_of faulted
+number_none marks ws e q r = rw (q, r) (no-mark marks, refl)
 
-onto-few : (b : ℕ) (ws : List (List ℕ)) → length (onto b ws) ≤ suc (length ws)
-unfolding onto
-onto-few b [] = omega arith
-onto-few b (w ∷ ws) = omega arith
+pub number_err : (marks : Bool) (l : Left) (r : Result ℤ Reason) (why : Reason) (s : Words) → IsErrAnd r (λ y. y ≡ why)
+    → (read_number marks (next_of l).word ≡ None) × (faulted (next_of l).left Reason.NotNumber ≡ fault why) → IsNumber marks l r s
+number_err marks l (Ok z) why s e f = absurd e
+number_err marks l (Err y) why s e f = (f.0, f.1 ∙ sym (ap fault e))
 
-words-few : (l : List ℕ) → length (words l) ≤ length l
-unfolding words
-words-few [] = omega arith
-words-few (b ∷ l) =
-    split (blank b) (λ t. rw t (omega (arith, words-few l)))
-    (λ t. split (apart l) (λ u. rw (t, u) (omega (arith, words-few l))) (λ u. rw (t, u) (omega (arith, words-few l, onto-few b (words l)))))
+-- numbers are written up to a fault that is passed on
+pub filled_err : {A : Type 0} (x : Numbers) (e : List ℤ) (r : Result A Reason) (why : Reason) (s t : Words) (f : List ℤ) → IsErrAnd r (λ y. y ≡ why)
+    → IsFilled {A = Unit {0}} x e (Err why) t f → IsFilled {A = A} x e r s f
+filled_err x e (Ok a) why s t f q w = absurd q
+filled_err x e (Err y) why s t f q w = record { rest = ap fault q ∙ w.rest; numbers = w.numbers }
 
-module _ (s : List ℕ) (from at k start end : ℕ) (known : k + length (words (drop at s)) ≡ length (words (drop from s)))
-    (x : NextWord s at start end) where
-  pub words-end : start ≡ end → k ≡ length (words (drop from s))
-  words-end e = omega (arith, ap length (no_words s at start end x e))
+pub filled_count : (x : Numbers) (e : List ℤ) (n : ℕ) (s : Words) (f : List ℤ) → IsFilled {A = Unit {0}} x e (Ok (tt {0})) s f → IsFilled x e (Ok n) s f
+filled_count x e n s f w = record { rest = w.rest; numbers = w.numbers }
 
-  pub words_more : (start ≡ end → ⊥) → k + 1 + length (words (drop end s)) ≡ length (words (drop from s))
-  words_more n = omega (arith, ap length (a_word s at start end x n))
+pub parsed_err : (x : Parsed) (e : List ℤ) (r : Result Request Reason) (why : Reason) (f : List ℤ) → IsErrAnd r (λ y. y ≡ why)
+    → ParsedIs x e (Request.Error why) f → ParsedIs x e (said r) f
+parsed_err x e (Ok a) why f q w = absurd q
+parsed_err x e (Err y) why f q w = record { request = ap Request.Error q ∙ w.request; numbers = w.numbers }
 
-  pub words-add : (start ≡ end → ⊥) → length s < 18446744073709551616 → Fits w64 (k + 1)
-  words-add n h =
-      record { fits = omega (arith, words_more n, words-few (drop from s), length-drop from s) }
+-- The loop over the numbers of a list: what is left, y, written into f from place i on, gives what x gives, written into e.
 
-pub words-fewer : (s : List ℕ) (at start end : ℕ) → NextWord s at start end → (start ≡ end → ⊥)
-    → length (words (drop end s)) < length (words (drop at s))
-words-fewer s at start end x n = omega (arith, ap length (a_word s at start end x n))
-
-pub words_left_lem : (s : List ℕ) (place : Place) (p k : ℕ) → place ≡ Place.At p → k ≡ length (words (drop p s)) → k ≡ words_left (rest_of_line s place)
-unfolding rest_of_line words_left
-words_left_lem s place p k e f = rw e f
-
-pub none_left : (s : List ℕ) (place : Place) (e : Reason) → place ≡ Place.Failed e → 0 ≡ words_left (rest_of_line s place)
-unfolding rest_of_line words_left
-none_left s place e f = rw f
-
--- The loop over the numbers of a list: what is left, y, written into f from place i on, gives what x gives, written into e from `from` on.
-
-pub record Filling (x y : Numbers) (e : List ℤ) (from : ℕ) (f : List ℤ) (i : ℕ) : Type 0 where
-  pub same : sets f i y.numbers ≡ sets e from x.numbers
-  pub end : i + length y.numbers ≡ from + length x.numbers
-  pub left : y.left ≡ x.left
+pub record Filling (x y : Numbers) (e f : List ℤ) (i : ℕ) : Type 0 where
+  pub same : sets f i y.numbers ≡ sets e 0 x.numbers
+  pub end : i + length y.numbers ≡ length x.numbers
+  pub rest : y.left ≡ x.left
   pub long : length f ≡ length e
 
-pub filling-starts : (marks : Bool) (room count : ℕ) (l : Left) (e : List ℤ) (from : ℕ)
-    → Filling (next_numbers marks room count l) (next_numbers marks room (count - 0) l) e from e from
-filling-starts marks room count l e from =
-    let z : count - 0 ≡ count = omega arith in rw z (record { same = refl; end = refl; left = refl; long = refl })
+pub filling_starts : (marks : Bool) (count : ℕ) (l : Left) (e : List ℤ)
+    → Filling (next_numbers marks (length e) count l) (next_numbers marks (length e - 0) (count - 0) l) e e 0
+filling_starts marks count l e =
+    let z : count - 0 ≡ count = omega arith in
+    let h : length e - 0 ≡ length e = omega arith in
+    rw (z, h) (record { same = refl; end = omega arith; rest = refl; long = refl })
+
+set_next : (f : List ℤ) (i : ℕ) (z : ℤ) (zs : List ℤ) → sets (set f i z) (i + 1) zs ≡ sets f i (z ∷ zs)
+set_next f i z zs = rw (add-one i)
 
 -- the next number and the rest
-unrolled : (s : List ℕ) (at : Place) (marks : Bool) (x : Item) (room count k : ℕ) → ItemIs s at marks x → k < count
-    → next_numbers marks room (count - k) (rest_of_line s at)
-    ≡ with_number room x.value (rest_of_line s x.place) (next_numbers marks (room - 1) (count - (k + 1)) (rest_of_line s x.place))
+unrolled : (marks : Bool) (room count k : ℕ) (l : Left) → k < count
+    → next_numbers marks room (count - k) l
+    ≡ with_number room (read_number marks (next_of l).word) (next_of l).left (next_numbers marks (room - 1) (count - (k + 1)) (next_of l).left)
 unfolding next_numbers
-unrolled s at marks x room count k is h =
-    let e : count - k ≡ suc (count - (k + 1)) = omega arith in
-    rw (e, ← is.value, ← is.left)
+unrolled marks room count k l h = let e : count - k ≡ suc (count - (k + 1)) = omega arith in rw e
 
 -- a number that there is room for
 with-room : (room : ℕ) (z : ℤ) (l : Left) (rest : Numbers) → 0 < room
-    → with_number room (Signed.Value z) l rest ≡ record { numbers = z ∷ rest.numbers; left = rest.left }
+    → with_number room (Some z) l rest ≡ record { numbers = z ∷ rest.numbers; left = rest.left }
 unfolding with_number
 with-room room z l rest h = rw (ne_eqb room 0 (λ e. omega arith))
 
-no_room : (room : ℕ) (z : ℤ) (l : Left) (rest : Numbers) → room ≡ 0
-    → with_number room (Signed.Value z) l rest ≡ record { numbers = []; left = fault Reason.TooLong }
+no_room : (room : ℕ) (z : ℤ) (l : Left) (rest : Numbers) → room ≡ 0 → with_number room (Some z) l rest ≡ record { numbers = []; left = fault Reason.TooLong }
 unfolding with_number
 no_room room z l rest e = rw (eq-eqb room 0 e)
 
-no_number : (room : ℕ) (l : Left) (rest : Numbers)
-    → with_number room Signed.NoNumber l rest ≡ record { numbers = []; left = faulted l Reason.NotNumber }
+no_number : (room : ℕ) (l : Left) (rest : Numbers) → with_number room None l rest ≡ record { numbers = []; left = faulted l Reason.NotNumber }
 unfolding with_number
 no_number room l rest = refl
 
-abbrev nothing : Left → Numbers
-nothing l = record { numbers = []; left = l }
+module _ (marks : Bool) (count i : ℕ) (e f : List ℤ) (l m : Left)
+    (w : Filling (next_numbers marks (length e) count l) (next_numbers marks (length e - i) (count - i) m) e f i) where
+  -- the end of the loop
+  module _ (h : count ≤ i) (s : Words) (q : m ≡ more (left s)) where
+    done : next_numbers marks (length e - i) (count - i) m ≡ record { numbers = []; left = m }
+    unfolding next_numbers
+    done = let z : count - i ≡ 0 = omega arith in rw z
 
--- the end of the loop: nothing is left
-ended : (x y : Numbers) (s : List ℕ) (e f : List ℤ) (from i : ℕ) (l : Left) (p : Place) → Filling x y e from f i → y ≡ nothing l
-    → rest_of_line s p ≡ l → FilledIs x s e from (record { end = i; place = p }) f
-ended x y s e f from i l p w q r =
-    let g : Filling x (nothing l) e from f i = rw q at w in
-    record { end = omega (arith, g.end); left = r ∙ g.left; numbers = g.same }
+    pub filling_ends : IsFilled (next_numbers marks (length e) count l) e (Ok (tt {0})) s f
+    filling_ends =
+        let g : Filling (next_numbers marks (length e) count l) (record { numbers = []; left = m }) e f i = rw done at w in
+        record { rest = sym q ∙ g.rest; numbers = g.same }
 
-module _ (s : List ℕ) (marks : Bool) (count from k i : ℕ) (e f : List ℤ) (first at : Place)
-    (w : Filling (next_numbers marks (length e - from) count (rest_of_line s first))
-    (next_numbers marks (length e - i) (count - k) (rest_of_line s at)) e from f i) where
-  pub filling-ends : count ≤ k
-      → FilledIs (next_numbers marks (length e - from) count (rest_of_line s first)) s e from (record { end = i; place = at }) f
-  unfolding next_numbers
-  filling-ends h =
-      let z : count - k ≡ 0 = omega arith in
-      let q : next_numbers marks (length e - i) (count - k) (rest_of_line s at) ≡ nothing (rest_of_line s at) = rw z in
-      ended (next_numbers marks (length e - from) count (rest_of_line s first))
-      (next_numbers marks (length e - i) (count - k) (rest_of_line s at)) s e f from i (rest_of_line s at) at w q refl
+    pub filling_whole : i ≤ count → length (next_numbers marks (length e) count l).numbers ≡ count
+    filling_whole b =
+        let g : Filling (next_numbers marks (length e) count l) (record { numbers = []; left = m }) e f i = rw done at w in
+        omega (arith, g.end)
 
-  module _ (x : Item) (is : ItemIs s at marks x) (h : k < count) where
+  module _ (h : i < count) where
     abbrev rest : Numbers
-    rest = next_numbers marks (length e - i - 1) (count - (k + 1)) (rest_of_line s x.place)
+    rest = next_numbers marks (length e - i - 1) (count - (i + 1)) (next_of m).left
 
-    value-is : (v : Signed) → x.value ≡ v
-        → next_numbers marks (length e - i) (count - k) (rest_of_line s at) ≡ with_number (length e - i) v (rest_of_line s x.place) rest
-    value-is v q =
-        unrolled s at marks x (length e - i) count k is h
-        ∙ ap (λ (u : Signed). with_number (length e - i) u (rest_of_line s x.place) rest) q
+    value-is : (v : Option ℤ) → read_number marks (next_of m).word ≡ v
+        → next_numbers marks (length e - i) (count - i) m ≡ with_number (length e - i) v (next_of m).left rest
+    value-is v q = unrolled marks (length e - i) count i m h ∙ ap (λ (u : Option ℤ). with_number (length e - i) u (next_of m).left rest) q
 
-    pub filling-faults : x.value ≡ Signed.NoNumber → (p : Place) → p ≡ faulted_place x.place Reason.NotNumber
-        → FilledIs (next_numbers marks (length e - from) count (rest_of_line s first)) s e from (record { end = i; place = p }) f
-    filling-faults q p g =
-        ended (next_numbers marks (length e - from) count (rest_of_line s first))
-        (next_numbers marks (length e - i) (count - k) (rest_of_line s at)) s e f from i
-        (faulted (rest_of_line s x.place) Reason.NotNumber) p w
-        (value-is Signed.NoNumber q ∙ no_number (length e - i) (rest_of_line s x.place) rest)
-        (ap (rest_of_line s) g ∙ left-faulted s x.place Reason.NotNumber)
+    pub filling_faults : (why : Reason) → (read_number marks (next_of m).word ≡ None) × (faulted (next_of m).left Reason.NotNumber ≡ fault why)
+        → (s : Words) → IsFilled {A = Unit {0}} (next_numbers marks (length e) count l) e (Err why) s f
+    filling_faults why q s =
+        let g : Filling (next_numbers marks (length e) count l) (record { numbers = []; left = faulted (next_of m).left Reason.NotNumber }) e f i =
+        rw (value-is None q.0 ∙ no_number (length e - i) (next_of m).left rest) at w in
+        record { rest = sym q.1 ∙ g.rest; numbers = g.same }
 
-    pub filling-full : (z : ℤ) → x.value ≡ Signed.Value z → length f ≤ i
-        → FilledIs (next_numbers marks (length e - from) count (rest_of_line s first)) s e from
-        (record { end = i; place = Place.Failed Reason.TooLong }) f
-    unfolding rest_of_line
-    filling-full z q g =
-        ended (next_numbers marks (length e - from) count (rest_of_line s first))
-        (next_numbers marks (length e - i) (count - k) (rest_of_line s at)) s e f from i
-        (fault Reason.TooLong) (Place.Failed Reason.TooLong) w
-        (value-is (Signed.Value z) q ∙ no_room (length e - i) z (rest_of_line s x.place) rest (omega (arith, w.long)))
-        refl
+    module _ (z : ℤ) (q : read_number marks (next_of m).word ≡ Some z) where
+      pub filling_full : length f ≤ i → (s : Words) → IsFilled {A = Unit {0}} (next_numbers marks (length e) count l) e (Err Reason.TooLong) s f
+      filling_full b s =
+          let g : Filling (next_numbers marks (length e) count l) (record { numbers = []; left = fault Reason.TooLong }) e f i =
+          rw (value-is (Some z) q ∙ no_room (length e - i) z (next_of m).left rest (omega (arith, w.long))) at w in
+          record { rest = g.rest; numbers = g.same }
 
-    pub filling-goes : (z : ℤ) → x.value ≡ Signed.Value z → i < length f
-        → Filling (next_numbers marks (length e - from) count (rest_of_line s first))
-        (next_numbers marks (length e - (i + 1)) (count - (k + 1)) (rest_of_line s x.place)) e from (set f i z) (i + 1)
-    filling-goes z q g =
-        let a : length e - (i + 1) ≡ length e - i - 1 = omega arith in
-        let b = value-is (Signed.Value z) q ∙ with-room (length e - i) z (rest_of_line s x.place) rest (omega (arith, w.long)) in
-        let v :
-        Filling (next_numbers marks (length e - from) count (rest_of_line s first))
-        (record { numbers = z ∷ rest.numbers; left = rest.left }) e from f i =
-        rw b at w in
-        rw a
-        (record {
-          same = rw (add-one i) v.same;
-          end = omega (arith, v.end);
-          left = v.left;
-          long = length-set f i z ∙ v.long;
-        })
+      pub filling_goes : i < length f → (n : Left) → (next_of m).left ≡ n
+          → Filling (next_numbers marks (length e) count l) (next_numbers marks (length e - (i + 1)) (count - (i + 1)) n) e (set f i z) (i + 1)
+      filling_goes b n r =
+          let a : length e - (i + 1) ≡ length e - i - 1 = omega arith in
+          let v : Filling (next_numbers marks (length e) count l) (record { numbers = z ∷ rest.numbers; left = rest.left }) e f i =
+          rw (value-is (Some z) q ∙ with-room (length e - i) z (next_of m).left rest (omega (arith, w.long))) at w in
+          rw (a, ← r)
+          (record {
+            same = set_next f i z rest.numbers ∙ v.same;
+            end = omega (arith, v.end);
+            rest = v.rest;
+            long = length-set f i z ∙ v.long;
+          })
 
 -- A list is its length and then its numbers.
 
-pub list-is : (s : List ℕ) (place : Place) (marks : Bool) (e g : List ℤ) (from : ℕ) (n : Field) (r : Filled) → FieldIs s place Kind.Natural n
-    → FilledIs (next_numbers marks (length e - from) n.value (rest_of_line s n.place)) s e from r g
-    → FilledIs (list_of marks (length e - from) (rest_of_line s place)) s e from r g
+numbers-fault : (marks : Bool) (room n : ℕ) (e : Reason) → next_numbers marks room n (fault e) ≡ record { numbers = []; left = fault e }
+unfolding next_numbers next_of with_number faulted
+numbers-fault marks room zero e = refl
+numbers-fault marks room (suc n) e = rw (no-mark marks)
+
+list-fault-is : (marks : Bool) (room : ℕ) (e : Reason) → list_of marks room (fault e) ≡ record { numbers = []; left = fault e }
 unfolding list_of
-list-is s place marks e g from n r x y = rw (← x.value, ← x.left) y
+list-fault-is marks room e =
+    let h : (field_of Kind.Natural (fault e)).left ≡ fault e = field_fault Kind.Natural (fault e) e refl in
+    rw h (numbers-fault marks room (field_of Kind.Natural (fault e)).value e)
+
+pub list_fault : (marks : Bool) (l : Left) (e : List ℤ) (why : Reason) (s : Words) → (field_of Kind.Natural l).left ≡ fault why
+    → IsFilled {A = Unit {0}} (list_of marks (length e) l) e (Err why) s e
+unfolding list_of
+list_fault marks l e why s q =
+    let g : next_numbers marks (length e) (field_of Kind.Natural l).value (field_of Kind.Natural l).left ≡ record { numbers = []; left = fault why } =
+    rw q (numbers-fault marks (length e) (field_of Kind.Natural l).value why) in
+    rw g (record { rest = refl; numbers = refl })
+
+pub list_is : (marks : Bool) (room n : ℕ) (l m : Left) → n ≡ (field_of Kind.Natural l).value → m ≡ (field_of Kind.Natural l).left
+    → next_numbers marks room n m ≡ list_of marks room l
+unfolding list_of
+list_is marks room n l m e f = rw (e, f)
 
 -- The loop over the seven lists: what is left, y, gives what x gives.
 
 pub record Listing (x y : Lists) (e f : List ℤ) (end : ℕ) (d n : List ℕ) (i : ℕ) : Type 0 where
   pub same : sets f end y.numbers ≡ sets e 0 x.numbers
   pub lengths : sets n i y.lengths ≡ sets d 0 x.lengths
-  pub left : y.left ≡ x.left
+  pub rest : y.left ≡ x.left
   pub long : length f ≡ length e
   pub places : length n ≡ length d
-
-pub listing-starts : (l : Left) (ms : List Bool) (e : List ℤ) (d : List ℕ)
-    → Listing (lists_of ms (length e) l) (lists_of (drop 0 ms) (length e - 0) l) e e 0 d d 0
-listing-starts l ms e d =
-    let z : length e - 0 ≡ length e = omega arith in
-    rw z (record { same = refl; lengths = refl; left = refl; long = refl; places = refl })
+  pub within : end ≤ length e
 
 -- numbers after numbers
 sets-append : (l : List ℤ) (i : ℕ) (a b : List ℤ) → sets l i (a ++ b) ≡ sets (sets l i a) (i + length a) b
@@ -228,8 +202,8 @@ sets-append l i (x ∷ a) b =
     let e : i + suc (length a) ≡ suc i + length a = omega arith in
     rw e (sets-append (set l i x) (suc i) a b)
 
-set_next : (n : List ℕ) (i v : ℕ) (vs : List ℕ) → sets (set n i v) (i + 1) vs ≡ sets n i (v ∷ vs)
-set_next n i v vs = rw (add-one i)
+put_next : (n : List ℕ) (i v : ℕ) (vs : List ℕ) → sets (set n i v) (i + 1) vs ≡ sets n i (v ∷ vs)
+put_next n i v vs = rw (add-one i)
 
 -- which list has the marks
 marks-at : (i : ℕ) → i < 7 → eqb i 2 ≡ get_or are_marks i false
@@ -250,31 +224,6 @@ lists-next : (room i : ℕ) (l : Left) → i < 7
     (lists_of (drop (i + 1) are_marks) (room - length (list_of (eqb i 2) room l).numbers) (list_of (eqb i 2) room l).left)
 lists-next room i l h = ap (λ (ms : List Bool). lists_of ms room l) (marks-from i h) ∙ lists-cons (eqb i 2) (drop (i + 1) are_marks) room l
 
-module _ (s : List ℕ) (i end : ℕ) (e f g : List ℤ) (d n : List ℕ) (at : Place) (x : Lists) (r : Filled) (h : i < 7)
-    (w : Listing x (lists_of (drop i are_marks) (length e - end) (rest_of_line s at)) e f end d n i)
-    (z : FilledIs (list_of (eqb i 2) (length f - end) (rest_of_line s at)) s f end r g) where
-  pub listing-goes :
-      Listing x (lists_of (drop (i + 1) are_marks) (length e - r.end) (rest_of_line s r.place)) e g r.end d (set n i (r.end - end)) (i + 1)
-  unfolding on_lists
-  listing-goes =
-      let a = list_of (eqb i 2) (length e - end) (rest_of_line s at) in
-      let y : FilledIs a s f end r g = rw w.long at z in
-      let q : length e - r.end ≡ length e - end - length a.numbers = omega (arith, y.end) in
-      let p : r.end - end ≡ length a.numbers = omega (arith, y.end) in
-      let b = lists_of (drop (i + 1) are_marks) (length e - end - length a.numbers) a.left in
-      let v : Listing x (on_lists a b) e f end d n i = rw (lists-next (length e - end) i (rest_of_line s at) h) at w in
-      rw (q, p, y.left)
-      (record {
-        same = rw (y.end, y.numbers) (sym (sets-append f end a.numbers b.numbers) ∙ v.same);
-        lengths = set_next n i (length a.numbers) b.lengths ∙ v.lengths;
-        left = v.left;
-        long = rw y.numbers (length-sets f end a.numbers ∙ v.long);
-        places = length-set n i (length a.numbers) ∙ v.places;
-      })
-
-  pub list-grows : end ≤ r.end
-  list-grows = omega (arith, z.end)
-
 pub lists-many : (ms : List Bool) (room : ℕ) (l : Left) → length (lists_of ms room l).lengths ≡ length ms
 unfolding lists_of on_lists
 lists-many [] room l = refl
@@ -286,40 +235,122 @@ sets-all d vs e =
     let h : length d ≤ length vs = omega arith in
     sets-eq vs d 0 (omega arith) ∙ ap (λ (t : List ℕ). vs ++ t) (rw z (drop_of_length-le d h)) ∙ append-nil vs
 
-pub listing-ends : (s : List ℕ) (i end room : ℕ) (e f : List ℤ) (d n : List ℕ) (first at : Place) → 7 ≤ i → i ≤ 7 → length d ≡ 7
-    → Listing (lists_of are_marks (length e) (rest_of_line s first)) (lists_of (drop i are_marks) room (rest_of_line s at)) e f end d n i
-    → ListedIs (lists_of are_marks (length e) (rest_of_line s first)) s e (record { lengths = n; place = at }) f
+-- a fault ends the lists
+lists-fault : (ms : List Bool) (room : ℕ) (e : Reason) → ((lists_of ms room (fault e)).numbers ≡ []) × ((lists_of ms room (fault e)).left ≡ fault e)
+unfolding lists_of on_lists
+lists-fault [] room e = (refl, refl)
+lists-fault (m ∷ ms) room e = rw (list-fault-is m room e) (lists-fault ms (room - 0) e)
+
+-- what is written to the end of a slice
+put_end : (f g zs : List ℤ) (end : ℕ) → end ≤ length f → length zs ≤ length f - end → g ≡ sets (take (length f - end) (drop end f)) 0 zs
+    → put_mid end (length f - end) f g ≡ sets f end zs
+put_end f g zs end h k q =
+    let m : take (length f - end) (drop end f) ≡ drop end f = take_all (length f - end) (drop end f) (omega (arith, length-drop end f)) in
+    let n : end + (length f - end) ≡ length f = omega arith in
+    let z : 0 + length zs ≡ length zs = omega arith in
+    let a : g ≡ zs ++ drop (end + length zs) f =
+    q ∙ ap (λ (l : List ℤ). sets l 0 zs) m ∙ sets-eq zs (drop end f) 0 (omega (arith, length-drop end f))
+    ∙ ap (λ (j : ℕ). zs ++ drop j (drop end f)) z ∙ ap (λ (l : List ℤ). zs ++ l) (drop-drop (length zs) end f) in
+    let b : drop (length f - end) (drop end f) ≡ [] = drop-drop (length f - end) end f ∙ rw n (drop-length f) in
+    ap (λ (l : List ℤ). take end f ++ (g ++ l)) b ∙ ap (λ (l : List ℤ). take end f ++ l) (append-nil g ∙ a)
+    ∙ sym (sets-eq zs f end (omega arith) ∙ append_assoc (take end f) zs (drop (end + length zs) f))
+
+module _ (i end : ℕ) (e f g : List ℤ) (d n : List ℕ) (at : Left) (x : Lists) (h : i < 7)
+    (w : Listing x (lists_of (drop i are_marks) (length e - end) at) e f end d n i) where
+  abbrev part : List ℤ
+  part = take (length f - end) (drop end f)
+
+  room : length part ≡ length e - end
+  room = length-take-le (length f - end) (drop end f) (omega (arith, length-drop end f)) ∙ ap (λ (k : ℕ). k - end) w.long
+
+  opened : Listing x
+      (on_lists (list_of (eqb i 2) (length part) at)
+      (lists_of (drop (i + 1) are_marks) (length part - length (list_of (eqb i 2) (length part) at).numbers) (list_of (eqb i 2) (length part) at).left))
+      e f end d n i
+  opened = rw room (rw (lists-next (length e - end) i at h) at w)
+
+  put : g ≡ sets part 0 (list_of (eqb i 2) (length part) at).numbers
+      → put_mid end (length f - end) f g ≡ sets f end (list_of (eqb i 2) (length part) at).numbers
+  put q =
+      put_end f g (list_of (eqb i 2) (length part) at).numbers end (omega (arith, w.within, w.long))
+      (omega (arith, list-fits (eqb i 2) (length part) at, room, w.long)) q
+
+  pub list_within : (m : ℕ) → length (list_of (eqb i 2) (length part) at).numbers ≡ m → end + m ≤ length e
+  list_within m q = omega (arith, list-fits (eqb i 2) (length part) at, room, w.within)
+
+  pub listing_goes : (m : ℕ) (s : Words) → IsFilled {A = ℕ} (list_of (eqb i 2) (length part) at) part (Ok m) s g
+      → length (list_of (eqb i 2) (length part) at).numbers ≡ m
+      → Listing x (lists_of (drop (i + 1) are_marks) (length e - (end + m)) (more (left s))) e (put_mid end (length f - end) f g) (end + m) d (set n i m) (i + 1)
+  unfolding on_lists
+  listing_goes m s z q =
+      let a = list_of (eqb i 2) (length part) at in
+      let b = lists_of (drop (i + 1) are_marks) (length part - length a.numbers) a.left in
+      let v = opened in
+      let c : length e - (end + m) ≡ length part - length a.numbers = omega (arith, room) in
+      rw (c, z.rest, ← q)
+      (record {
+        same = rw (put z.numbers) (sym (sets-append f end a.numbers b.numbers) ∙ v.same);
+        lengths = put_next n i (length a.numbers) b.lengths ∙ v.lengths;
+        rest = v.rest;
+        long = rw (put z.numbers) (length-sets f end a.numbers ∙ v.long);
+        places = length-set n i (length a.numbers) ∙ v.places;
+        within = list_within (length a.numbers) refl;
+      })
+
+  pub listing_fault : (why : Reason) (s : Words) → IsFilled {A = ℕ} (list_of (eqb i 2) (length part) at) part (Err why) s g
+      → (x.left ≡ fault why) × (put_mid end (length f - end) f g ≡ sets e 0 x.numbers)
+  unfolding on_lists
+  listing_fault why s z =
+      let a = list_of (eqb i 2) (length part) at in
+      let b = lists-fault (drop (i + 1) are_marks) (length part - length a.numbers) why in
+      let v : Listing x (on_lists a (lists_of (drop (i + 1) are_marks) (length part - length a.numbers) (fault why))) e f end d n i = rw (← z.rest) at opened in
+      let k : a.numbers ++ (lists_of (drop (i + 1) are_marks) (length part - length a.numbers) (fault why)).numbers ≡ a.numbers =
+      ap (λ (l : List ℤ). a.numbers ++ l) b.0 ∙ append-nil a.numbers in
+      (sym v.rest ∙ b.1, put z.numbers ∙ sym (ap (sets f end) k) ∙ v.same)
+
+pub listing_ends : (i end room : ℕ) (e f : List ℤ) (d n : List ℕ) (l at : Left) → 7 ≤ i → i ≤ 7 → length d ≡ 7
+    → Listing (lists_of are_marks (length e) l) (lists_of (drop i are_marks) room at) e f end d n i
+    → (n ≡ (lists_of are_marks (length e) l).lengths) × (at ≡ (lists_of are_marks (length e) l).left)
+    × (f ≡ sets e 0 (lists_of are_marks (length e) l).numbers)
 unfolding lists_of
-listing-ends s i end room e f d n first at h k b w =
+listing_ends i end room e f d n l at h k b w =
     let q : i ≡ 7 = omega arith in
-    let v :
-    Listing (lists_of are_marks (length e) (rest_of_line s first))
-    (record { lengths = []; numbers = []; left = rest_of_line s at }) e f end d n 7 =
-    rw q at w in
-    record {
-      lengths =
-          v.lengths
-          ∙ sets-all d (lists_of are_marks (length e) (rest_of_line s first)).lengths (b ∙ sym (lists-many are_marks (length e) (rest_of_line s first)));
-      left = v.left;
-      numbers = v.same;
-    }
+    let v : Listing (lists_of are_marks (length e) l) (record { lengths = []; numbers = []; left = at }) e f end d n 7 = rw q at w in
+    (v.lengths ∙ sets-all d (lists_of are_marks (length e) l).lengths (b ∙ sym (lists-many are_marks (length e) l)), v.rest, v.same)
 
 -- The calls that have lists.
 
-module _ (s : List ℕ) (place : Place) (e g : List ℤ) (r : Request) where
-  pub settle_is : (p m : Field) (n : ℕ) (f : Filled) (month : Month) → FieldIs s place Kind.Natural p → FieldIs s p.place Kind.Month m
-      → n ≡ words_left (rest_of_line s m.place) → FilledIs (next_numbers false (length e - 0) n (rest_of_line s m.place)) s e 0 f g
-      → month ≡ month_numbered m.value → r ≡ closed (rest_of_line s f.place) (Request.Settle p.value month f.end)
-      → ParsedIs (settle_of (length e) (rest_of_line s place)) e r g
-  unfolding settle_of figures_of
-  settle_is p m n f month x y k z q h =
-      let a : length e - 0 ≡ length e = omega arith in
-      let w : FilledIs (next_numbers false (length e) n (rest_of_line s m.place)) s e 0 f g = rw a at z in
-      let b : f.end ≡ length (next_numbers false (length e) n (rest_of_line s m.place)).numbers = omega (arith, w.end) in
-      rw (← x.value, ← x.left, ← y.value, ← y.left, ← k, ← q)
-      (record { request = rw (← w.left, ← b) h; numbers = w.numbers })
+pub special_is : (l at : Left) (e f : List ℤ) (n : List ℕ) (r : Request)
+    → (n ≡ (lists_of are_marks (length e) l).lengths) × (at ≡ (lists_of are_marks (length e) l).left)
+    × (f ≡ sets e 0 (lists_of are_marks (length e) l).numbers)
+    → r ≡ closed at (Request.Special (lengths_of n)) → ParsedIs (special_of (length e) l) e r f
+unfolding special_of
+special_is l at e f n r x h = record { request = h ∙ rw (x.0, x.1); numbers = x.2 }
 
-  pub special-is : (t : Listed) → ListedIs (lists_of are_marks (length e) (rest_of_line s place)) s e t g
-      → r ≡ closed (rest_of_line s t.place) (Request.Special (lengths_of t.lengths)) → ParsedIs (special_of (length e) (rest_of_line s place)) e r g
-  unfolding special_of
-  special-is t w h = record { request = rw (← w.left, ← w.lengths) h; numbers = w.numbers }
+pub special_fault : (l : Left) (e f : List ℤ) (why : Reason)
+    → ((lists_of are_marks (length e) l).left ≡ fault why) × (f ≡ sets e 0 (lists_of are_marks (length e) l).numbers)
+    → ParsedIs (special_of (length e) l) e (Request.Error why) f
+unfolding special_of
+special_fault l e f why x = record { request = sym (closed_fault _ _ why x.0); numbers = x.1 }
+
+pub settle_fault : (room : ℕ) (l : Left) (e : List ℤ) (why : Reason) → (field_of Kind.Month (field_of Kind.Natural l).left).left ≡ fault why
+    → ParsedIs (settle_of room l) e (Request.Error why) e
+unfolding settle_of figures_of words_left next_numbers closed
+settle_fault room l e why h = rw h (record { request = refl; numbers = refl })
+
+module _ (l : Left) (p v n : ℕ) (ws : List (List ℕ)) (first : p ≡ (field_of Kind.Natural l).value)
+    (second : v ≡ (field_of Kind.Month (field_of Kind.Natural l).left).value)
+    (rest : more ws ≡ (field_of Kind.Month (field_of Kind.Natural l).left).left) (e g : List ℤ) (all : n ≡ length ws) (s : Words) where
+  pub settle_err : (why : Reason) → IsFilled {A = Unit {0}} (next_numbers false (length e) n (more ws)) e (Err why) s g
+      → ParsedIs (settle_of (length e) l) e (Request.Error why) g
+  unfolding settle_of figures_of words_left
+  settle_err why z =
+      let y : IsFilled {A = Unit {0}} (next_numbers false (length e) (length ws) (more ws)) e (Err why) s g = rw all at z in
+      rw (← rest) (record { request = sym (closed_fault _ _ why (sym y.rest)); numbers = y.numbers })
+
+  pub settle_is : (r : Request) → IsFilled {A = Unit {0}} (next_numbers false (length e) n (more ws)) e (Ok (tt {0})) s g
+      → length (next_numbers false (length e) n (more ws)).numbers ≡ n → r ≡ closed (more (left s)) (Request.Settle p (month_numbered v) n)
+      → ParsedIs (settle_of (length e) l) e r g
+  unfolding settle_of figures_of words_left
+  settle_is r z k h =
+      rw (← first, ← second, ← rest, ← all) (record { request = rw (← z.rest, k) h; numbers = z.numbers })

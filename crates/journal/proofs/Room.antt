@@ -11,12 +11,12 @@ use lib.Dec.{eqb, leb}
 use lib.ListN.{length, take, drop, length-append}
 use lib.Seq.{sets-eq, take-append_seam, drop-append_seam}
 use lib.IntN.{ℤ}
+use Rattle.std.specs.Prelude.{Option, Some, None}
 use Rattle.laws.specs.Cases.{split}
 use Rattle.laws.specs.Lists.{all-default}
 use Rattle.words.specs.Bytes.{control, some, uncommented}
 use Rattle.words.specs.Words.{words, place_in}
 use Rattle.words.specs.Hex.{hexadecimal, bytes_of_hex}
-use Rattle.words.specs.declared.numbers.Signed.{Signed}
 use Rattle.journal.specs.Names.{read_number, call_names}
 use Rattle.journal.specs.Fields.{Left, more, fault, next_of, faulted, field_of, closed, file_of, checked_file, ended}
 use Rattle.journal.specs.Fields.{Numbers, with_number, next_numbers, figures_of, words_left, list_of, Lists, on_lists, lists_of}
@@ -29,11 +29,11 @@ use Rattle.journal.specs.declared.fields.Kind.{Kind}
 
 -- There is room.
 
-with-fits : (room : ℕ) (v : Signed) (l : Left) (rest : Numbers) → length rest.numbers ≤ room - 1
+with-fits : (room : ℕ) (v : Option ℤ) (l : Left) (rest : Numbers) → length rest.numbers ≤ room - 1
     → length (with_number room v l rest).numbers ≤ room
 unfolding with_number
-with-fits room Signed.NoNumber l rest h = omega arith
-with-fits room (Signed.Value z) l rest h =
+with-fits room None l rest h = omega arith
+with-fits room (Some z) l rest h =
     split (eqb room 0) (λ t. rw t (omega arith)) (λ t. let n = eqb-false room 0 t in rw t (omega arith))
 
 numbers_fit : (marks : Bool) (room n : ℕ) (l : Left) → length (next_numbers marks room n l).numbers ≤ room
@@ -43,7 +43,7 @@ numbers_fit marks room (suc n) l =
     with-fits room (read_number marks (next_of l).word) (next_of l).left (next_numbers marks (room - 1) n (next_of l).left)
     (numbers_fit marks (room - 1) n (next_of l).left)
 
-list-fits : (marks : Bool) (room : ℕ) (l : Left) → length (list_of marks room l).numbers ≤ room
+pub list-fits : (marks : Bool) (room : ℕ) (l : Left) → length (list_of marks room l).numbers ≤ room
 unfolding list_of
 list-fits marks room l = numbers_fit marks room (field_of Kind.Natural l).value (field_of Kind.Natural l).left
 

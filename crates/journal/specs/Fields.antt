@@ -1,15 +1,11 @@
 -- The words of a line taken one by one, from the left to the right: the first fault is the line's.
 -- Assumes nothing.
-use Rattle.std.specs.Prelude.{ℕ, zero, suc, ◌-◌, Bool, false, cond, List, [], ◌∷◌, ◌++◌, eqb, leb, length, drop, ℤ}
-use Rattle.words.specs.Words.{words}
+use Rattle.std.specs.Prelude.{ℕ, zero, suc, ◌-◌, Bool, false, cond, List, [], ◌∷◌, ◌++◌, eqb, leb, length, ℤ, Option, Some, None}
 use Rattle.words.specs.Hex.{hexadecimal, bytes_of_hex}
-use Rattle.journal.specs.Names.{read_as, why_not, read_number}
-use Rattle.words.specs.declared.numbers.Number.{Number}
-use Rattle.words.specs.declared.numbers.Signed.{Signed}
+use Rattle.journal.specs.Names.{read_as, why_not, lodged_in, read_number}
 use Rattle.journal.specs.declared.Reason.{Reason}
 use Rattle.journal.specs.declared.Request.{Request}
 use Rattle.journal.specs.declared.fields.Kind.{Kind}
-use Rattle.journal.specs.declared.fields.Place.{Place}
 
 -- What is left of a line: words, or the fault that was met.
 pub data Left : Type 0 where
@@ -36,12 +32,16 @@ pub record Taken : Type 0 where
   pub value : ℕ
   pub left : Left
 
-unfoldable pub taken : Number → Reason → Left → Taken
-taken (Number.Value n) e l = record { value = n; left = l }
-taken Number.NoNumber e l = record { value = 0; left = faulted l e }
+unfoldable pub taken : Option ℕ → Reason → Left → Taken
+taken (Some n) e l = record { value = n; left = l }
+taken None e l = record { value = 0; left = faulted l e }
 
 unfoldable pub field_of : Kind → Left → Taken
 field_of k l = taken (read_as k (next_of l).word) (why_not k) (next_of l).left
+
+-- The next word as what is lodged, and what is left after it.
+unfoldable pub lodged_field : Left → Taken
+lodged_field l = taken (lodged_in (next_of l).word) Reason.NotCashOrLetter (next_of l).left
 
 -- A call whose words are all read: a word more is a fault.
 unfoldable pub closed : Left → Request → Request
@@ -55,9 +55,9 @@ pub record Numbers : Type 0 where
   pub left : Left
 
 -- A number before others. There is room for so many: "No line is too long to be answered".
-unfoldable pub with_number : ℕ → Signed → Left → Numbers → Numbers
-with_number room Signed.NoNumber l rest = record { numbers = []; left = faulted l Reason.NotNumber }
-with_number room (Signed.Value z) l rest =
+unfoldable pub with_number : ℕ → Option ℤ → Left → Numbers → Numbers
+with_number room None l rest = record { numbers = []; left = faulted l Reason.NotNumber }
+with_number room (Some z) l rest =
     cond (eqb room 0) (record { numbers = []; left = fault Reason.TooLong }) (record { numbers = z ∷ rest.numbers; left = rest.left })
 
 -- The next n numbers; those before a fault, if there is one.
@@ -109,18 +109,3 @@ unfoldable pub ended : Left → Left
 ended (more []) = more []
 ended (more (w ∷ ws)) = fault Reason.TooManyWords
 ended (fault e) = fault e
-
--- What is left of a line s at a place in it.
-unfoldable pub rest_of_line : List ℕ → Place → Left
-rest_of_line s (Place.At p) = more (words (drop p s))
-rest_of_line s (Place.Failed e) = fault e
-
--- The same of a place: a fault, unless there was one before.
-abbrev pub faulted_place : Place → Reason → Place
-faulted_place (Place.At p) e = Place.Failed e
-faulted_place (Place.Failed d) e = Place.Failed d
-
--- The same of a place: what is wrong with a file.
-unfoldable pub checked_place : ℕ → List ℕ → Place → Place
-checked_place room w p =
-    cond (hexadecimal w) (cond (leb (length (bytes_of_hex w)) room) p (faulted_place p Reason.TooLong)) (faulted_place p Reason.NotHex)

@@ -7,7 +7,7 @@ use Rattle.words.specs.Bytes.{control, some, uncommented}
 use Rattle.words.specs.Words.{words, place_in}
 use Rattle.words.specs.Hex.{bytes_of_hex}
 use Rattle.journal.specs.Names.{call_names}
-use Rattle.journal.specs.Fields.{Left, more, fault, field_of, closed, figures_of, lists_of, file_of, checked_file, ended}
+use Rattle.journal.specs.Fields.{Left, more, fault, field_of, lodged_field, closed, figures_of, lists_of, file_of, checked_file, ended}
 use Rattle.journal.specs.declared.Reason.{Reason}
 use Rattle.journal.specs.declared.Request.{Request}
 use Rattle.journal.specs.declared.Lengths.{Lengths}
@@ -47,7 +47,7 @@ unfoldable pub lodge_of : Left → Request
 lodge_of l =
     let p = field_of Kind.Natural l in
     let q = field_of Kind.Natural p.left in
-    let k = field_of Kind.Lodged q.left in
+    let k = lodged_field q.left in
     cond (eqb k.value 0) (cash_of p.value q.value k.left) (letter_of p.value q.value k.left)
 
 -- `release P POSITION AMOUNT`

@@ -1,12 +1,10 @@
 -- The names that a line may have: of calls, of roles, and of what is lodged.
 -- Assumes nothing.
-use Rattle.std.specs.Prelude.{ℕ, Bool, true, false, cond, List, [], ◌∷◌, ltb}
+use Rattle.std.specs.Prelude.{ℕ, Bool, true, false, cond, List, [], ◌∷◌, ltb, ℤ, Option, Some, None}
 use Rattle.words.specs.Text.{text}
 use Rattle.words.specs.Words.{place_in}
 use Rattle.words.specs.Numerals.{natural_of, unsigned_of, signed_of}
 use Rattle.words.specs.Dates.{day_in, month_in}
-use Rattle.words.specs.declared.numbers.Number.{Number}
-use Rattle.words.specs.declared.numbers.Signed.{Signed}
 use Rattle.journal.specs.declared.Reason.{Reason}
 use Rattle.journal.specs.declared.fields.Kind.{Kind}
 
@@ -45,20 +43,19 @@ unfoldable pub lodged_names : List (List ℕ)
 lodged_names = text "cash" ∷ text "letter" ∷ []
 
 -- "ROLE is a number or the role's name in lower case".
-unfoldable pub role_of_word : List ℕ → Number
-role_of_word w = cond (ltb (place_in w role_names) 6) (Number.Value (place_in w role_names)) (natural_of w)
+unfoldable pub role_of_word : List ℕ → Option ℕ
+role_of_word w = cond (ltb (place_in w role_names) 6) (Some (place_in w role_names)) (natural_of w)
 
 -- `cash` or `letter`.
-unfoldable pub lodged_in : List ℕ → Number
-lodged_in w = cond (ltb (place_in w lodged_names) 2) (Number.Value (place_in w lodged_names)) Number.NoNumber
+unfoldable pub lodged_in : List ℕ → Option ℕ
+lodged_in w = cond (ltb (place_in w lodged_names) 2) (Some (place_in w lodged_names)) None
 
 -- A word as what is due at its place.
-abbrev pub read_as : Kind → List ℕ → Number
+abbrev pub read_as : Kind → List ℕ → Option ℕ
 read_as Kind.Natural w = natural_of w
 read_as Kind.Role w = role_of_word w
 read_as Kind.Day w = day_in w
 read_as Kind.Month w = month_in w
-read_as Kind.Lodged w = lodged_in w
 
 -- What is wrong with a word that is not what is due.
 abbrev pub why_not : Kind → Reason
@@ -66,9 +63,8 @@ why_not Kind.Natural = Reason.NotNumber
 why_not Kind.Role = Reason.NotRole
 why_not Kind.Day = Reason.NotDay
 why_not Kind.Month = Reason.NotMonth
-why_not Kind.Lodged = Reason.NotCashOrLetter
 
 -- A number of a list: marks are natural numbers (true), and "figures, rates, zero settlements and excesses may have a minus" (false).
-unfoldable pub read_number : Bool → List ℕ → Signed
+unfoldable pub read_number : Bool → List ℕ → Option ℤ
 read_number true w = unsigned_of w
 read_number false w = signed_of w

@@ -1,53 +1,46 @@
 -- What the functions that take words ensure.
 -- Assumes nothing.
-use Rattle.std.specs.Prelude.{ℕ, ◌+◌, ◌-◌, ◌≤◌, ◌≡◌, Bool, List, length, take, drop, ℤ}
+use Rattle.std.specs.Prelude.{ℕ, ◌≡◌, Bool, true, false, List, ℤ, Some, None, Result, Ok, Err, MatchResult, IfOk}
 use Rattle.std.proofs.lemmas.List.Edits.{sets}
+use Rattle.words.specs.Words.{left}
+use Rattle.words.specs.declared.line.Words.{Words}
 use Rattle.journal.specs.Names.{read_number}
-use Rattle.journal.specs.Fields.{next_of, file_of, field_of, rest_of_line, Numbers, Lists}
+use Rattle.journal.specs.Fields.{Left, more, fault, next_of, faulted, Taken, Numbers}
 use Rattle.journal.specs.Grammar.{Parsed}
+use Rattle.journal.specs.declared.Reason.{Reason}
 use Rattle.journal.specs.declared.Request.{Request}
-use Rattle.journal.specs.declared.fields.Kind.{Kind}
-use Rattle.journal.specs.declared.fields.Place.{Place}
-use Rattle.journal.specs.declared.fields.Next.{Next}
-use Rattle.journal.specs.declared.fields.Field.{Field}
-use Rattle.journal.specs.declared.lists.Item.{Item}
-use Rattle.journal.specs.declared.lists.Filled.{Filled}
-use Rattle.journal.specs.declared.lists.Listed.{Listed}
 
--- The next word of s after a place.
-pub record NextIs (s : List ℕ) (place : Place) (r : Next) : Type 0 where
-  pub ordered : r.start ≤ r.end
-  pub within : r.end ≤ length s
-  pub word : take (r.end - r.start) (drop r.start s) ≡ (next_of (rest_of_line s place)).word
-  pub left : rest_of_line s r.place ≡ (next_of (rest_of_line s place)).left
+-- The call that a line is, or its fault, as one of the calls.
+abbrev pub said : Result Request Reason → Request
+said (Ok r) = r
+said (Err e) = Request.Error e
 
--- The word of a file in s after a place, which may be empty.
-pub record FileIs (s : List ℕ) (place : Place) (r : Next) : Type 0 where
-  pub ordered : r.start ≤ r.end
-  pub within : r.end ≤ length s
-  pub word : take (r.end - r.start) (drop r.start s) ≡ (file_of (rest_of_line s place)).word
-  pub left : rest_of_line s r.place ≡ (file_of (rest_of_line s place)).left
+-- Whether a call is none but a fault, and that a fault is never given as a call.
+abbrev pub is_error : Request → Bool
+is_error (Request.Error e) = true
+is_error r = false
 
--- The next word of s after a place, as what is due.
-pub record FieldIs (s : List ℕ) (place : Place) (kind : Kind) (r : Field) : Type 0 where
-  pub value : r.value ≡ (field_of kind (rest_of_line s place)).value
-  pub left : rest_of_line s r.place ≡ (field_of kind (rest_of_line s place)).left
+abbrev pub Plain : Result Request Reason → Type 0
+Plain r = IfOk r (λ q. is_error q ≡ false)
 
--- A number of a list: the next word of s after a place, as a number.
-pub record ItemIs (s : List ℕ) (place : Place) (marks : Bool) (r : Item) : Type 0 where
-  pub value : r.value ≡ read_number marks (next_of (rest_of_line s place)).word
-  pub left : rest_of_line s r.place ≡ (next_of (rest_of_line s place)).left
+-- What is left after words were taken, if they were.
+abbrev pub after : {A : Type 0} → Result A Reason → Words → Left
+after (Ok x) s = more (left s)
+after (Err e) s = fault e
 
--- Numbers x written into a list e from a place on, which leaves the list f; the place behind them, and what is left of s.
-pub record FilledIs (x : Numbers) (s : List ℕ) (e : List ℤ) (from : ℕ) (r : Filled) (f : List ℤ) : Type 0 where
-  pub end : r.end ≡ from + length x.numbers
-  pub left : rest_of_line s r.place ≡ x.left
-  pub numbers : f ≡ sets e from x.numbers
+-- The next word, as what is due: its number, and the words that are left; or a fault.
+abbrev pub IsField : Taken → Result ℕ Reason → Words → Type 0
+IsField x r s = MatchResult r (λ n. (n ≡ x.value) × (more (left s) ≡ x.left)) (λ e. x.left ≡ fault e)
 
--- Lists x written into a list e one after the other, which leaves the list f.
-pub record ListedIs (x : Lists) (s : List ℕ) (e : List ℤ) (r : Listed) (f : List ℤ) : Type 0 where
-  pub lengths : r.lengths ≡ x.lengths
-  pub left : rest_of_line s r.place ≡ x.left
+-- The next word of what is left, as a number of a list; or a fault.
+abbrev pub IsNumber : Bool → Left → Result ℤ Reason → Words → Type 0
+IsNumber marks l r s =
+    MatchResult r (λ z. (read_number marks (next_of l).word ≡ Some z) × ((next_of l).left ≡ more (left s)))
+    (λ e. (read_number marks (next_of l).word ≡ None) × (faulted (next_of l).left Reason.NotNumber ≡ fault e))
+
+-- Numbers x written to the front of a list e, which leaves the list f; and what is left after them.
+pub record IsFilled {A : Type 0} (x : Numbers) (e : List ℤ) (r : Result A Reason) (s : Words) (f : List ℤ) : Type 0 where
+  pub rest : after r s ≡ x.left
   pub numbers : f ≡ sets e 0 x.numbers
 
 -- The call that a line is, and its numbers written to the front of a list e, which leaves the list f.

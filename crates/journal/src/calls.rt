@@ -1,13 +1,15 @@
-// The calls that have no lists, each from the place after its first word.
+// The calls that have no lists, each from the words after its first.
 ghost use Rattle.std.specs.Prelude.{◌≡◌};
-ghost use Rattle.journal.specs.Fields.{rest_of_line};
+ghost use Rattle.words.specs.Words.{left};
+ghost use Rattle.journal.specs.Fields.{more};
 ghost use Rattle.journal.specs.Grammar.{fresh_of, admit_of, cash_of, letter_of, lodge_of, release_of, annual_of, advance_of, statement_of};
 ghost use Rattle.journal.specs.Grammar.{day_numbered, month_numbered};
+ghost use Rattle.journal.specs.Steps.{said, Plain};
 
-use crate::Request;
-use crate::fields::{Kind, Place, closed, take_field};
+use crate::fields::{Kind, closed, take, take_word};
+use crate::{Reason, Request};
 use calendar::{Day, Month};
-use words::small;
+use words::{Words, small};
 
 // A day of a number.
 pub fn day_of(n: u64) -> Day
@@ -24,108 +26,109 @@ pub fn month_numbered(n: u64) -> Month
 }
 
 // fresh D
-pub fn fresh(s: &[u8], place: Place) -> Request
-    ensures { result ≡ fresh_of (rest_of_line s.now place) }
+#[tactic(auto, using(crate::proofs::FieldLaws::closed_late, crate::proofs::FieldLaws::field_fault, crate::proofs::FieldLaws::plain_err), unfolding(crate::specs::Grammar::fresh_of, crate::specs::Fields::closed))]
+pub fn fresh(words: &mut Words) -> Result<Request, Reason>
+    ensures whole { said result ≡ fresh_of (more (left words.old)) }
+    ensures plain { Plain result }
 {
-    let d = take_field(s, place, Kind::Day);
-    let after = d.place;
-    closed(s, after, Request::Fresh(day_of(d.value)))
+    let day = take(words, Kind::Day)?;
+    closed(words, Request::Fresh(day_of(day)))
 }
 
 // admit P ROLE
-pub fn admit(s: &[u8], place: Place) -> Request
-    ensures { result ≡ admit_of (rest_of_line s.now place) }
+#[tactic(auto, using(crate::proofs::FieldLaws::closed_late, crate::proofs::FieldLaws::field_fault, crate::proofs::FieldLaws::plain_err), unfolding(crate::specs::Grammar::admit_of, crate::specs::Fields::closed))]
+pub fn admit(words: &mut Words) -> Result<Request, Reason>
+    ensures whole { said result ≡ admit_of (more (left words.old)) }
+    ensures plain { Plain result }
 {
-    let p = take_field(s, place, Kind::Natural);
-    let after_p = p.place;
-    let r = take_field(s, after_p, Kind::Role);
-    let after = r.place;
-    closed(s, after, Request::Admit(p.value, r.value))
+    let participant = take(words, Kind::Natural)?;
+    let role = take(words, Kind::Role)?;
+    closed(words, Request::Admit(participant, role))
 }
 
 // lodge P POSITION cash AMOUNT, from the amount on
-fn cash(s: &[u8], place: Place, participant: u64, position: u64) -> Request
-    ensures { result ≡ cash_of participant position (rest_of_line s.now place) }
+#[tactic(auto, using(crate::proofs::FieldLaws::closed_late, crate::proofs::FieldLaws::field_fault, crate::proofs::FieldLaws::plain_err), unfolding(crate::specs::Grammar::cash_of, crate::specs::Fields::closed))]
+fn cash(words: &mut Words, participant: u64, position: u64) -> Result<Request, Reason>
+    ensures whole { said result ≡ cash_of participant position (more (left words.old)) }
+    ensures plain { Plain result }
 {
-    let a = take_field(s, place, Kind::Natural);
-    let after = a.place;
-    closed(s, after, Request::LodgeCash(participant, position, a.value))
+    let amount = take(words, Kind::Natural)?;
+    closed(words, Request::LodgeCash(participant, position, amount))
 }
 
 // lodge P POSITION letter AMOUNT FIRST LAST, from the amount on
-fn letter(s: &[u8], place: Place, participant: u64, position: u64) -> Request
-    ensures { result ≡ letter_of participant position (rest_of_line s.now place) }
+#[tactic(auto, using(crate::proofs::FieldLaws::closed_late, crate::proofs::FieldLaws::field_fault, crate::proofs::FieldLaws::plain_err), unfolding(crate::specs::Grammar::letter_of, crate::specs::Fields::closed))]
+fn letter(words: &mut Words, participant: u64, position: u64) -> Result<Request, Reason>
+    ensures whole { said result ≡ letter_of participant position (more (left words.old)) }
+    ensures plain { Plain result }
 {
-    let a = take_field(s, place, Kind::Natural);
-    let after_a = a.place;
-    let f = take_field(s, after_a, Kind::Day);
-    let after_f = f.place;
-    let t = take_field(s, after_f, Kind::Day);
-    let after = t.place;
-    let first = day_of(f.value);
-    let last = day_of(t.value);
+    let amount = take(words, Kind::Natural)?;
+    let first = take(words, Kind::Day)?;
+    let last = take(words, Kind::Day)?;
     closed(
-        s,
-        after,
-        Request::LodgeLetter(participant, position, a.value, first, last),
+        words,
+        Request::LodgeLetter(participant, position, amount, day_of(first), day_of(last)),
     )
 }
 
 // lodge P POSITION cash .. and lodge P POSITION letter ..
-pub fn lodge(s: &[u8], place: Place) -> Request
-    ensures { result ≡ lodge_of (rest_of_line s.now place) }
+#[tactic(auto, using(crate::proofs::FieldLaws::plain_err))]
+pub fn lodge(words: &mut Words) -> Result<Request, Reason>
+    ensures whole { said result ≡ lodge_of (more (left words.old)) }
+    ensures plain { Plain result }
 {
-    let p = take_field(s, place, Kind::Natural);
-    let after_p = p.place;
-    let q = take_field(s, after_p, Kind::Natural);
-    let after_q = q.place;
-    let k = take_field(s, after_q, Kind::Lodged);
-    let after = k.place;
-    if k.value == 0 {
-        return cash(s, after, p.value, q.value);
+    let participant = take(words, Kind::Natural)?;
+    let position = take(words, Kind::Natural)?;
+    let lodged = take_word(words)?;
+    if lodged == b"cash".as_slice() {
+        cash(words, participant, position)
+    } else if lodged == b"letter".as_slice() {
+        letter(words, participant, position)
+    } else {
+        Err(Reason::NotCashOrLetter)
     }
-    letter(s, after, p.value, q.value)
 }
 
 // release P POSITION AMOUNT
-pub fn release(s: &[u8], place: Place) -> Request
-    ensures { result ≡ release_of (rest_of_line s.now place) }
+#[tactic(auto, using(crate::proofs::FieldLaws::closed_late, crate::proofs::FieldLaws::field_fault, crate::proofs::FieldLaws::plain_err), unfolding(crate::specs::Grammar::release_of, crate::specs::Fields::closed))]
+pub fn release(words: &mut Words) -> Result<Request, Reason>
+    ensures whole { said result ≡ release_of (more (left words.old)) }
+    ensures plain { Plain result }
 {
-    let p = take_field(s, place, Kind::Natural);
-    let after_p = p.place;
-    let q = take_field(s, after_p, Kind::Natural);
-    let after_q = q.place;
-    let a = take_field(s, after_q, Kind::Natural);
-    let after = a.place;
-    closed(s, after, Request::Release(p.value, q.value, a.value))
+    let participant = take(words, Kind::Natural)?;
+    let position = take(words, Kind::Natural)?;
+    let amount = take(words, Kind::Natural)?;
+    closed(words, Request::Release(participant, position, amount))
 }
 
 // annual P
-pub fn annual(s: &[u8], place: Place) -> Request
-    ensures { result ≡ annual_of (rest_of_line s.now place) }
+#[tactic(auto, using(crate::proofs::FieldLaws::closed_late, crate::proofs::FieldLaws::field_fault, crate::proofs::FieldLaws::plain_err), unfolding(crate::specs::Grammar::annual_of, crate::specs::Fields::closed))]
+pub fn annual(words: &mut Words) -> Result<Request, Reason>
+    ensures whole { said result ≡ annual_of (more (left words.old)) }
+    ensures plain { Plain result }
 {
-    let p = take_field(s, place, Kind::Natural);
-    let after = p.place;
-    closed(s, after, Request::Annual(p.value))
+    let participant = take(words, Kind::Natural)?;
+    closed(words, Request::Annual(participant))
 }
 
 // advance T B
-pub fn advance(s: &[u8], place: Place) -> Request
-    ensures { result ≡ advance_of (rest_of_line s.now place) }
+#[tactic(auto, using(crate::proofs::FieldLaws::closed_late, crate::proofs::FieldLaws::field_fault, crate::proofs::FieldLaws::plain_err), unfolding(crate::specs::Grammar::advance_of, crate::specs::Fields::closed))]
+pub fn advance(words: &mut Words) -> Result<Request, Reason>
+    ensures whole { said result ≡ advance_of (more (left words.old)) }
+    ensures plain { Plain result }
 {
-    let t = take_field(s, place, Kind::Day);
-    let after_t = t.place;
-    let b = take_field(s, after_t, Kind::Natural);
-    let after = b.place;
-    let day = day_of(t.value);
-    closed(s, after, Request::Advance(day, b.value))
+    let day = take(words, Kind::Day)?;
+    let most = take(words, Kind::Natural)?;
+    closed(words, Request::Advance(day_of(day), most))
 }
 
 // statement P
-pub fn statement(s: &[u8], place: Place) -> Request
-    ensures { result ≡ statement_of (rest_of_line s.now place) }
+// Kept: the twin of `annual`; one function for both would take the call as a closure, whose contract is longer than these two lines.
+#[tactic(auto, using(crate::proofs::FieldLaws::closed_late, crate::proofs::FieldLaws::field_fault, crate::proofs::FieldLaws::plain_err), unfolding(crate::specs::Grammar::statement_of, crate::specs::Fields::closed))]
+pub fn statement(words: &mut Words) -> Result<Request, Reason>
+    ensures whole { said result ≡ statement_of (more (left words.old)) }
+    ensures plain { Plain result }
 {
-    let p = take_field(s, place, Kind::Natural);
-    let after = p.place;
-    closed(s, after, Request::Statement(p.value))
+    let participant = take(words, Kind::Natural)?;
+    closed(words, Request::Statement(participant))
 }

@@ -1,11 +1,13 @@
-// The words of a line taken one by one, from the left to the right. The first fault is kept.
-ghost use Rattle.std.specs.Prelude.{◌≡◌};
-ghost use Rattle.journal.specs.Names.{role_of_word, lodged_in, read_as, why_not};
-ghost use Rattle.journal.specs.Fields.{rest_of_line, faulted_place, closed as Fields·closed};
-ghost use Rattle.journal.specs.Steps.{NextIs, FieldIs};
+// The words of a line taken one by one, from the left to the right. The first fault is the line's.
+ghost use Rattle.std.specs.Prelude.{◌≡◌, false, IfOk, MatchResult, [], ◌∷◌};
+ghost use Rattle.words.specs.Words.{left};
+ghost use Rattle.journal.specs.Names.{role_of_word, read_as, why_not};
+ghost use Rattle.journal.specs.Fields.{more, field_of, closed as Fields·closed};
+ghost use Rattle.journal.specs.Steps.{IsField, is_error, said, Plain};
+ghost use Rattle.journal.specs.declared.Reason.{Reason as Names·Reason};
 
 use crate::{Reason, Request};
-use words::{Number, day_in, month_in, natural_of, place_of, word_at};
+use words::{Words, day_in, month_in, natural_of, place_of};
 
 // What is due at a word's place.
 #[derive(Clone, Copy)]
@@ -14,152 +16,75 @@ pub enum Kind {
     Role,
     Day,
     Month,
-    Lodged,
 }
 
-// A place in a line from which words are left, or the fault that was met.
-#[derive(Clone, Copy)]
-pub enum Place {
-    At(usize),
-    Failed(Reason),
+// The roles' names, in the order of their numbers.
+const ROLES: &[u8] = b"supplier self-supplied trader producer res-aggregator demand-response";
+
+// A word as a role: its name or its number.
+#[tactic(auto, using(crate::proofs::FieldLaws::role_named, crate::proofs::FieldLaws::role_other))]
+fn role_in(w: &[u8]) -> Option<u64>
+    ensures { result ≡ role_of_word w.now }
+{
+    match place_of(w, ROLES) {
+        Some(role) => Some(role as u64),
+        None => natural_of(w),
+    }
 }
 
-// The next word, from start up to, not including, end, and the place after it.
-#[derive(Clone, Copy)]
-pub struct Next {
-    pub start: usize,
-    pub end: usize,
-    pub place: Place,
-}
+impl Kind {
+    // A word as what is due.
+    fn read(self, w: &[u8]) -> Option<u64>
+        ensures { result ≡ read_as self w.now }
+    {
+        match self {
+            Kind::Natural => natural_of(w),
+            Kind::Role => role_in(w),
+            Kind::Day => day_in(w),
+            Kind::Month => month_in(w),
+        }
+    }
 
-// The number that a word gives, and the place after it.
-#[derive(Clone, Copy)]
-pub struct Field {
-    pub value: u64,
-    pub place: Place,
+    // What is wrong with a word that is not what is due.
+    fn why_not(self) -> Reason
+        ensures { result ≡ why_not self }
+    {
+        match self {
+            Kind::Natural => Reason::NotNumber,
+            Kind::Role => Reason::NotRole,
+            Kind::Day => Reason::NotDay,
+            Kind::Month => Reason::NotMonth,
+        }
+    }
 }
 
 // The next word.
-pub fn take_word(s: &[u8], place: Place) -> Next
-    ensures { NextIs s.now place result }
+pub fn take_word<'a>(words: &mut Words<'a>) -> Result<&'a [u8], Reason>
+    ensures { MatchResult result (λ w. left words.old ≡ w.now ∷ left words.new)
+        (λ e. (left words.old ≡ []) × (e ≡ Names·Reason.TooFewWords)) }
 {
-    match place {
-        Place::Failed(e) => Next {
-            start: 0,
-            end: 0,
-            place: Place::Failed(e),
-        },
-        Place::At(p) => {
-            let w = word_at(s, p);
-            if w.start == w.end {
-                return Next {
-                    start: 0,
-                    end: 0,
-                    place: Place::Failed(Reason::TooFewWords),
-                };
-            }
-            Next {
-                start: w.start,
-                end: w.end,
-                place: Place::At(w.end),
-            }
-        }
-    }
-}
-
-// A word as a role.
-fn role_in(w: &[u8]) -> Number
-    ensures { result ≡ role_of_word w.now }
-{
-    let k = place_of(
-        w,
-        b"supplier self-supplied trader producer res-aggregator demand-response",
-    );
-    if k < 6 {
-        return Number::Value(k as u64);
-    }
-    natural_of(w)
-}
-
-// A word as what is lodged: 0 for cash, 1 for a letter.
-fn lodged_in(w: &[u8]) -> Number
-    ensures { result ≡ lodged_in w.now }
-{
-    let k = place_of(w, b"cash letter");
-    if k < 2 {
-        return Number::Value(k as u64);
-    }
-    Number::NoNumber
-}
-
-// A word as what is due.
-fn read_as(kind: Kind, w: &[u8]) -> Number
-    ensures { result ≡ read_as kind w.now }
-{
-    match kind {
-        Kind::Natural => natural_of(w),
-        Kind::Role => role_in(w),
-        Kind::Day => day_in(w),
-        Kind::Month => month_in(w),
-        Kind::Lodged => lodged_in(w),
-    }
-}
-
-// What is wrong with a word that is not what is due.
-fn why_not(kind: Kind) -> Reason
-    ensures { result ≡ why_not kind }
-{
-    match kind {
-        Kind::Natural => Reason::NotNumber,
-        Kind::Role => Reason::NotRole,
-        Kind::Day => Reason::NotDay,
-        Kind::Month => Reason::NotMonth,
-        Kind::Lodged => Reason::NotCashOrLetter,
-    }
-}
-
-// A fault, unless there was one before.
-pub fn faulted(place: Place, why: Reason) -> Place
-    ensures { result ≡ faulted_place place why }
-{
-    match place {
-        Place::At(_) => Place::Failed(why),
-        Place::Failed(e) => Place::Failed(e),
-    }
+    words.next().ok_or(Reason::TooFewWords)
 }
 
 // The next word as what is due.
-pub fn take_field(s: &[u8], place: Place, kind: Kind) -> Field
-    ensures { FieldIs s.now place kind result }
+#[tactic(auto, using(crate::proofs::FieldLaws::field_err, crate::proofs::FieldLaws::field_none))]
+pub fn take(words: &mut Words, kind: Kind) -> Result<u64, Reason>
+    ensures { IsField (field_of kind (more (left words.old))) result words.new }
 {
-    let w = take_word(s, place);
-    let start = w.start;
-    let end = w.end;
-    let after = w.place;
-    match read_as(kind, &s[start..end]) {
-        Number::Value(n) => Field {
-            value: n,
-            place: after,
-        },
-        Number::NoNumber => Field {
-            value: 0,
-            place: faulted(after, why_not(kind)),
-        },
-    }
+    let word = take_word(words)?;
+    kind.read(word).ok_or(kind.why_not())
 }
 
 // A call whose words are all read.
-pub fn closed(s: &[u8], place: Place, request: Request) -> Request
-    ensures { result ≡ Fields·closed (rest_of_line s.now place) request }
+#[tactic(auto, using(crate::proofs::FieldLaws::closed_end, crate::proofs::FieldLaws::closed_more))]
+pub fn closed(words: &mut Words, request: Request) -> Result<Request, Reason>
+    requires { is_error request ≡ false }
+    ensures whole { said result ≡ Fields·closed (more (left words.old)) request }
+    ensures none_left { IfOk result (λ _. left words.old ≡ []) }
+    ensures plain { Plain result }
 {
-    match place {
-        Place::Failed(e) => Request::Error(e),
-        Place::At(p) => {
-            let w = word_at(s, p);
-            if w.start == w.end {
-                return request;
-            }
-            Request::Error(Reason::TooManyWords)
-        }
+    match words.next() {
+        None => Ok(request),
+        Some(_) => Err(Reason::TooManyWords),
     }
 }

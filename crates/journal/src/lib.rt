@@ -2,10 +2,11 @@
 #![tactic(auto)]
 
 ghost use Rattle.std.specs.Prelude.{length};
-ghost use Rattle.words.specs.Words.{words as Words·words};
-ghost use Rattle.journal.specs.Fields.{rest_of_line};
-ghost use Rattle.journal.specs.Grammar.{named_call, words_of, parsed};
-ghost use Rattle.journal.specs.Steps.{ParsedIs};
+ghost use Rattle.words.specs.Words.{left, place_in};
+ghost use Rattle.journal.specs.Names.{call_names};
+ghost use Rattle.journal.specs.Fields.{more};
+ghost use Rattle.journal.specs.Grammar.{named_call, parsed};
+ghost use Rattle.journal.specs.Steps.{ParsedIs, said, Plain};
 
 use calendar::{Day, Month};
 
@@ -14,12 +15,12 @@ mod calls; // calls.rt: the calls that have no lists
 mod lists; // lists.rt: the calls that have lists
 mod batch; // batch.rt: the call that has a file
 
-use fields::{Place, closed};
-use words::{content_end, has_control, place_of, word_at};
+use fields::closed;
+use words::{Words, content, has_control};
 
 // What is wrong with a line. The last three are said by a kept journal: `fresh` stands only as its first call, a line without its newline may be
 // a part of one, and where it is only read no call changes it.
-#[derive(Clone, Copy)]
+#[derive(Clone, Copy, PartialEq, Eq)]
 pub enum Reason {
     ControlByte,
     NoCall,
@@ -38,7 +39,7 @@ pub enum Reason {
 }
 
 // How long each of the seven lists of `special` is.
-#[derive(Clone, Copy)]
+#[derive(Clone, Copy, PartialEq, Eq)]
 pub struct Lengths {
     pub medium: usize,
     pub low: usize,
@@ -52,7 +53,7 @@ pub struct Lengths {
 // What a line is: nothing, a call with its arguments, or an error. Participants come first, then positions, then amounts; a settlement has
 // the number of its figures, a special guarantee the lengths of its lists, and a batch the number of its file's bytes. `role-retired` is no
 // call to the book but ends the first stretch of a journal (paper 02, Ask 3), and has no arguments.
-#[derive(Clone, Copy)]
+#[derive(Clone, Copy, PartialEq, Eq)]
 pub enum Request {
     Nothing,
     Fresh(Day),
@@ -72,44 +73,57 @@ pub enum Request {
     Error(Reason),
 }
 
-// The call whose name has place k among the names, from the place after it.
-fn call(k: usize, s: &[u8], place: Place, numbers: &mut [i64]) -> Request
-    ensures { ParsedIs (named_call (length numbers.old) k (rest_of_line s.now place))
-        numbers.old result numbers.new }
+// The call that has a name, from the words after it. The names are compared one by one, since a match on them would be proved byte by byte.
+fn call(name: &[u8], words: &mut Words, numbers: &mut [i64]) -> Result<Request, Reason>
+    ensures whole { ParsedIs (named_call (length numbers.old) (place_in name.now call_names) (more (left words.old)))
+        numbers.old (said result) numbers.new }
+    ensures plain { Plain result }
 {
-    match k {
-        0 => calls::fresh(s, place),
-        1 => calls::admit(s, place),
-        2 => calls::lodge(s, place),
-        3 => calls::release(s, place),
-        4 => lists::settle(s, place, numbers),
-        5 => calls::annual(s, place),
-        6 => calls::advance(s, place),
-        7 => calls::statement(s, place),
-        8 => closed(s, place, Request::Calls),
-        9 => lists::special(s, place, numbers),
-        10 => closed(s, place, Request::Report),
-        11 => batch::batch(s, place, numbers),
-        12 => closed(s, place, Request::RoleRetired),
-        _ => Request::Error(Reason::NoCall),
+    if name == b"fresh".as_slice() {
+        calls::fresh(words)
+    } else if name == b"admit".as_slice() {
+        calls::admit(words)
+    } else if name == b"lodge".as_slice() {
+        calls::lodge(words)
+    } else if name == b"release".as_slice() {
+        calls::release(words)
+    } else if name == b"settle".as_slice() {
+        lists::settle(words, numbers)
+    } else if name == b"annual".as_slice() {
+        calls::annual(words)
+    } else if name == b"advance".as_slice() {
+        calls::advance(words)
+    } else if name == b"statement".as_slice() {
+        calls::statement(words)
+    } else if name == b"calls".as_slice() {
+        closed(words, Request::Calls)
+    } else if name == b"special".as_slice() {
+        lists::special(words, numbers)
+    } else if name == b"report".as_slice() {
+        closed(words, Request::Report)
+    } else if name == b"batch".as_slice() {
+        batch::batch(words, numbers)
+    } else if name == b"role-retired".as_slice() {
+        closed(words, Request::RoleRetired)
+    } else {
+        Err(Reason::NoCall)
     }
 }
 
-// The call that a line without comment and control bytes is.
-fn read_words(s: &[u8], numbers: &mut [i64]) -> Request
-    ensures { ParsedIs (words_of (length numbers.old) (Words·words s.now))
-        numbers.old result numbers.new }
+// The call that a line is, or what is wrong with it.
+fn read(line: &[u8], numbers: &mut [i64]) -> Result<Request, Reason>
+    ensures whole { ParsedIs (parsed (length numbers.old) line.now) numbers.old (said result) numbers.new }
+    ensures plain { Plain result }
 {
-    let w = word_at(s, 0);
-    let start = w.start;
-    let end = w.end;
-    if start == end {
-        return Request::Nothing;
+    let text = content(line);
+    if has_control(text) {
+        return Err(Reason::ControlByte);
     }
-    let names =
-        b"fresh admit lodge release settle annual advance statement calls special report batch role-retired";
-    let k = place_of(&s[start..end], names);
-    call(k, s, Place::At(end), numbers)
+    let mut words = Words { text };
+    match words.next() {
+        None => Ok(Request::Nothing),
+        Some(name) => call(name, &mut words, numbers),
+    }
 }
 
 // The call that a line is. The numbers of its lists, or the bytes of its file, are written to the front of the slice, in a row; the rest of the
@@ -117,10 +131,8 @@ fn read_words(s: &[u8], numbers: &mut [i64]) -> Request
 pub fn parse(line: &[u8], numbers: &mut [i64]) -> Request
     ensures { ParsedIs (parsed (length numbers.old) line.now) numbers.old result numbers.new }
 {
-    let n = content_end(line);
-    let s = &line[..n];
-    if has_control(s) {
-        return Request::Error(Reason::ControlByte);
+    match read(line, numbers) {
+        Ok(request) => request,
+        Err(reason) => Request::Error(reason),
     }
-    read_words(s, numbers)
 }

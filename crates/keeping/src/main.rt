@@ -12,24 +12,15 @@ fn print(rt: &HostRuntime, bytes: &[u8]) {
     let _ = storage::write_whole(rt, Stream::Output, bytes);
 }
 
-// Prints the first 65,536 bytes of a file.
-fn print_opened(rt: &HostRuntime, file: &File) {
-    let mut buffer = io::large_buffer();
-    let n = io::read_full(file.as_raw_fd(), &mut buffer);
-    print(rt, &buffer[..n]);
-}
-
-// Prints the first 65,536 bytes of the file at a path.
-fn print_file(rt: &HostRuntime, path: &str) {
+// Prints the first 65,536 bytes of the file with a name, if it can be had.
+fn print_file(rt: &HostRuntime, name: &[u8]) {
+    let Ok(path) = str::from_utf8(name) else {
+        return;
+    };
     if let Ok(file) = File::open(rt, path) {
-        print_opened(rt, &file);
-    }
-}
-
-// Prints the first 65,536 bytes of the file with a name.
-fn print_named(rt: &HostRuntime, name: &[u8]) {
-    if let Ok(path) = str::from_utf8(name) {
-        print_file(rt, path);
+        let mut buffer = io::large_buffer();
+        let n = io::read_full(file.as_raw_fd(), &mut buffer);
+        print(rt, &buffer[..n]);
     }
 }
 
@@ -38,6 +29,6 @@ fn main(rt: HostRuntime) {
     print(&rt, b"--\n");
     let mut name = io::buffer();
     if let Ok(n) = storage::argument(&rt, 1, &mut name) {
-        print_named(&rt, &name[..n]);
+        print_file(&rt, &name[..n]);
     }
 }

@@ -2,14 +2,11 @@
 -- Assumes nothing.
 use Prim.Native.Nat.{ℕ, zero, suc, ◌+◌, ◌*◌, ◌≤◌, ◌<◌}
 use mathlib.Core.Path.{◌≡◌, refl, sym, ap, ◌∙◌}
-use mathlib.Core.Bool.{Bool}
 use mathlib.Core.List.{List, [], ◌∷◌, ◌++◌, append_assoc, append-nil}
 use native.Mathlib.Omega.{arith}
-use native.Mathlib.Numerals.{add-one, add-two, add-three, add-four, add_five, add_six, add_seven, add_eight}
-use lib.ListN.{length, get_or, set, length-append}
+use lib.ListN.{length, get_or, length-append}
 use lib.Seq.{get_or-append-add}
 use Rattle.laws.specs.Lists.{All, all-at, table}
-use Rattle.laws.specs.Places.{Filling, filling-next}
 use Rattle.laws.specs.Tabulated.{get_d-table, table-ext}
 use Rattle.file.specs.declared.File.{File}
 use Rattle.file.specs.declared.Slot.{Slot}
@@ -21,55 +18,19 @@ use Rattle.file.specs.Calls.{call_of}
 use Rattle.file.specs.Totals.{no_total}
 use Rattle.layout.specs.Parts.{flag_of, slot_of_words, open_call_of_words, total_of_words, slot_words, open_call_words, total_words, written, SlotBack}
 use Rattle.layout.specs.Parts.{CallBack, TotalBack}
-use Rattle.layout.specs.Files.{slot_in, call_in, month_total_in, slots_of_words, calls_of_words, totals_of_words, file_of_words, words_at, flat, own_words}
+use Rattle.layout.specs.Files.{slot_in, slots_of_words, calls_of_words, totals_of_words, file_of_words, words_at, flat, own_words}
 use Rattle.layout.specs.Files.{file_words, Put, PutRows}
+use Rattle.layout.specs.RowLaws.{slots-table}
 use Rattle.layout.proofs.Backs.{flag-back}
 use Rattle.layout.proofs.Written.{written_next, written_in}
-use Rattle.layout.proofs.Rows.{flat-length, flat-at}
+use Rattle.layout.proofs.Flat.{flat-length, flat-at}
 
 -- ---- the arrays as they are read
 
--- Which part stands where.
-module _ (l : List ℕ) (at k : ℕ) where
-  abbrev w : ℕ → ℕ
-  w = words_at l at
-
-  pub slot-there : (d : Slot) → k < 8 → get_or (slots_of_words w) k d ≡ slot_in l (at + (9 + 4 * k))
-  unfolding slots_of_words
-  slot-there d h =
-      let first : at + (10 + 4 * k) ≡ at + (9 + 4 * k) + 1 = omega arith in
-      let second : at + (11 + 4 * k) ≡ at + (9 + 4 * k) + 2 = omega arith in
-      let third : at + (12 + 4 * k) ≡ at + (9 + 4 * k) + 3 = omega arith in
-      get_d-table 8 (λ j. slot_of_words (w (9 + 4 * j)) (w (10 + 4 * j)) (w (11 + 4 * j)) (w (12 + 4 * j))) k d h
-      ∙ (λ i. slot_of_words (get_or l (at + (9 + 4 * k)) 0) (get_or l (first i) 0) (get_or l (second i) 0) (get_or l (third i) 0))
-
-  call-there : (d : OpenCall) → k < 4 → get_or (calls_of_words w) k d ≡ call_in l (at + (41 + 2 * k))
-  unfolding calls_of_words
-  call-there d h =
-      let first : at + (42 + 2 * k) ≡ at + (41 + 2 * k) + 1 = omega arith in
-      get_d-table 4 (λ j. open_call_of_words (w (41 + 2 * j)) (w (42 + 2 * j))) k d h
-      ∙ (λ i. open_call_of_words (get_or l (at + (41 + 2 * k)) 0) (get_or l (first i) 0))
-
-  total-there : (d : MonthTotal) → k < 16 → get_or (totals_of_words w) k d ≡ month_total_in l (at + (49 + 3 * k))
-  unfolding totals_of_words
-  total-there d h =
-      let first : at + (50 + 3 * k) ≡ at + (49 + 3 * k) + 1 = omega arith in
-      let second : at + (51 + 3 * k) ≡ at + (49 + 3 * k) + 2 = omega arith in
-      get_d-table 16 (λ j. total_of_words (w (49 + 3 * j)) (w (50 + 3 * j)) (w (51 + 3 * j))) k d h
-      ∙ (λ i. total_of_words (get_or l (at + (49 + 3 * k)) 0) (get_or l (first i) 0) (get_or l (second i) 0))
-
-  -- one more is read
-  pub slots_next : (before now : List Slot) (s : Slot) → Filling 8 k (slots_of_words w) before now → k < 8 → s ≡ slot_in l (at + (9 + 4 * k))
-      → Filling 8 (k + 1) (slots_of_words w) before (set now k s)
-  slots_next before now s f h e = filling-next 8 (slots_of_words w) k before now s (slot_of Empty) f h (e ∙ sym (slot-there (slot_of Empty) h))
-
-  pub calls-next : (before now : List OpenCall) (s : OpenCall) → Filling 4 k (calls_of_words w) before now → k < 4
-      → s ≡ call_in l (at + (41 + 2 * k)) → Filling 4 (k + 1) (calls_of_words w) before (set now k s)
-  calls-next before now s f h e = filling-next 4 (calls_of_words w) k before now s (call_of 0 0) f h (e ∙ sym (call-there (call_of 0 0) h))
-
-  pub totals-next : (before now : List MonthTotal) (s : MonthTotal) → Filling 16 k (totals_of_words w) before now → k < 16
-      → s ≡ month_total_in l (at + (49 + 3 * k)) → Filling 16 (k + 1) (totals_of_words w) before (set now k s)
-  totals-next before now s f h e = filling-next 16 (totals_of_words w) k before now s no_total f h (e ∙ sym (total-there no_total h))
+-- Which slot stands where.
+pub slot-there : (l : List ℕ) (at k : ℕ) (d : Slot) → k < 8 → get_or (slots_of_words (words_at l at)) k d ≡ slot_in l (at + (9 + 4 * k))
+slot-there l at k d h =
+    ap (λ (slots : List Slot). get_or slots k d) (slots-table l at) ∙ get_d-table 8 (λ (j : ℕ). slot_in l (at + (9 + 4 * j))) k d h
 
 -- There are as many as a file has.
 pub slots-long : (w : ℕ → ℕ) → length (slots_of_words w) ≡ 8
@@ -83,26 +44,6 @@ calls-long w = refl
 pub totals-long : (w : ℕ → ℕ) → length (totals_of_words w) ≡ 16
 unfolding totals_of_words
 totals-long w = refl
-
--- a file from its parts
-pub taken_is : (w : ℕ → ℕ) (a e : Bool) (s : List Slot) (c : List OpenCall) (t : List MonthTotal)
-    → a ≡ flag_of (w 1) → e ≡ flag_of (w 5) → s ≡ slots_of_words w → c ≡ calls_of_words w → t ≡ totals_of_words w
-    → ◌≡◌ {A = File}
-    (record {
-      admitted = a;
-      role = w 2;
-      firm = w 3;
-      slots = s;
-      calls = c;
-      count = w 4;
-      next = record { set = e; amount = w 6 };
-      totals = t;
-      charged = w 7;
-      accrued = w 8;
-    })
-    (file_of_words w)
-unfolding file_of_words
-taken_is w a e s c t p q r u v = simp (p, q, r, u, v)
 
 -- ---- a file is read from its words 1 to 96
 
@@ -310,10 +251,3 @@ put_is f l m n o p at h first s c t =
     ∙ ap (λ (z : List ℕ). written m (at + 9) z) (append_assoc S C O)
     ∙ ap (λ (z : List ℕ). written z (at + 9) (S ++ (C ++ O))) first
     ∙ written_next l (at + 1) (at + 9) (own_words f) (S ++ (C ++ O)) (omega arith))
-
--- The words of its own.
-pub own-written : (l : List ℕ) (at a b c d e f g h a' e' : ℕ) → a' ≡ a → e' ≡ e
-    → set (set (set (set (set (set (set (set l (at + 1) a') (at + 2) b) (at + 3) c) (at + 4) d) (at + 5) e') (at + 6) f) (at + 7) g) (at + 8) h
-    ≡ written l (at + 1) (a ∷ b ∷ c ∷ d ∷ e ∷ f ∷ g ∷ h ∷ [])
-unfolding written
-own-written l at a b c d e f g h a' e' p q = simp (p, q, add-one, add-two, add-three, add-four, add_five, add_six, add_seven, add_eight)

@@ -1,7 +1,8 @@
 pub mod Written
 pub mod Zigzag
 pub mod Backs
-pub mod Rows
+pub mod Flat
+pub mod Made
 pub mod FileLaws
 pub mod BookLaws
 pub mod PartLaws

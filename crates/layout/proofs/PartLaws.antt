@@ -22,7 +22,7 @@ use Rattle.layout.specs.Words.{book_length, place, file_in_words, book_of_words,
 use Rattle.layout.proofs.Backs.{flag-back}
 use Rattle.layout.proofs.Zigzag.{signed_back}
 use Rattle.layout.proofs.Written.{written-first, written-later, written-left, written-within, written_over}
-use Rattle.layout.proofs.Rows.{flat-length}
+use Rattle.layout.proofs.Flat.{flat-length}
 use Rattle.layout.proofs.FileLaws.{put_of, slots-long, calls-long, totals-long}
 use Rattle.layout.proofs.BookLaws.{read-long, words-stand}
 

@@ -8,13 +8,23 @@ use borrow.Author.Tests.{ltb-true, ltb-false}
 use lib.Dec.{ltb}
 use lib.ListN.{length, get_or, set, take, drop, length-set, length-append}
 use lib.Seq.{sets, length-sets, sets-eq, drop_at, take-append-le, drop-append-le, take-append-add, drop-append-add, get_or-set_same, get_or-set_other}
-use lib.Seq.{ext_get_or}
+use lib.Seq.{ext_get_or, take_all}
+use borrow.Rule.Slice.PartMut.{put_mid}
+use Rattle.std.proofs.lemmas.Slice.{put_mid-paste}
 use Rattle.laws.specs.Cases.{split}
 use Rattle.layout.specs.Parts.{written}
 
 pub length-written : (l : List ℕ) (at : ℕ) (vs : List ℕ) → length (written l at vs) ≡ length l
 unfolding written
 length-written l at vs = length-sets l at vs
+
+-- a part that is written over with other words
+pub part-written : (l vs ys : List ℕ) (at k : ℕ) → at + length vs ≤ length l → k ≡ length vs → ys ≡ vs → put_mid at k l ys ≡ written l at vs
+unfolding written
+part-written l vs ys at k h e same =
+    put_mid-paste at k l ys vs (length vs) same (sym e) refl
+    ∙ ap (λ (z : List ℕ). take at l ++ z ++ drop (at + length vs) l) (take_all (length vs) vs (omega arith))
+    ∙ sym (sets-eq vs l at h)
 
 sets-append : (vs us l : List ℕ) (i m : ℕ) → m ≡ i + length vs → sets (sets l i vs) m us ≡ sets l i (vs ++ us)
 sets-append [] us l i m e = let h : m ≡ i = omega arith in rw h

@@ -44,16 +44,9 @@ unfolding zigzag_of
 odd-word (pos k) t = absurd (omega (arith, ltb-true k 0 t))
 odd-word (negsuc k) t = refl
 
--- The code's steps, below 0.
-module _ (z : ℤ) (s : SFits w64 z) (t : lt_z (read z) (pos 0) ≡ true) where
-  pub negative-twice : Fits w64 (nat_abs (read (negsuc 0 -ℤ read z)) * 2)
-  negative-twice = rw (read-flipped z s t) (record { fits = omega (arith, s.sfits) })
-
-  pub negative-more : Fits w64 (nat_abs (read (negsuc 0 -ℤ read z)) * 2 + 1)
-  negative-more = rw (read-flipped z s t) (record { fits = omega (arith, s.sfits) })
-
-  pub negative-is : nat_abs (read (negsuc 0 -ℤ read z)) * 2 + 1 ≡ zigzag_of z
-  negative-is = rw (read-flipped z s t) (odd-word z (rw (to_z-of_z s) at t))
+-- The code's step, below 0.
+pub negative-is : (z : ℤ) → SFits w64 z → lt_z (read z) (pos 0) ≡ true → nat_abs (read (negsuc 0 -ℤ read z)) * 2 + 1 ≡ zigzag_of z
+negative-is z s t = rw (read-flipped z s t) (odd-word z (rw (to_z-of_z s) at t))
 
 -- The word of any other is even.
 even-word : (z : ℤ) → lt_z z (pos 0) ≡ false → nat_abs z * 2 ≡ zigzag_of z
@@ -61,18 +54,9 @@ unfolding zigzag_of
 even-word (pos k) t = refl
 even-word (negsuc k) t = clash refl t
 
--- It fits.
-twice-fits : (z : ℤ) → SFits w64 z → lt_z z (pos 0) ≡ false → Fits w64 (nat_abs z * 2)
-twice-fits (pos k) s t = record { fits = omega (arith, s.sfits) }
-twice-fits (negsuc k) s t = clash refl t
-
--- The code's steps, from 0 on.
-module _ (z : ℤ) (s : SFits w64 z) (t : lt_z (read z) (pos 0) ≡ false) where
-  pub natural-twice : Fits w64 (nat_abs (read z) * 2)
-  natural-twice = rw (to_z-of_z s) (twice-fits z s (rw (to_z-of_z s) at t))
-
-  pub natural-is : nat_abs (read z) * 2 ≡ zigzag_of z
-  natural-is = rw (to_z-of_z s) (even-word z (rw (to_z-of_z s) at t))
+-- The code's step, from 0 on.
+pub natural-is : (z : ℤ) → SFits w64 z → lt_z (read z) (pos 0) ≡ false → nat_abs (read z) * 2 ≡ zigzag_of z
+natural-is z s t = rw (to_z-of_z s) (even-word z (rw (to_z-of_z s) at t))
 
 -- ---- there and back
 

@@ -3,3 +3,4 @@
 
 pub mod files;
 pub mod parts;
+pub mod rows;

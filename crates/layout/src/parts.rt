@@ -1,12 +1,11 @@
 // The parts of a file as words, and back.
-ghost use Rattle.std.specs.Prelude.{◌≡◌, ◌+◌, ◌≤◌, ◌<◌, [], ◌∷◌, length};
-ghost use Rattle.layout.specs.Parts.{flag_of, number_of, signed_of_word, zigzag_of, flag_word, position_of, slot_of_words};
-ghost use Rattle.layout.specs.Parts.{open_call_of_words, total_of_words, kind_word, first_word, last_word, slot_words, open_call_words};
-ghost use Rattle.layout.specs.Parts.{total_words, written, SlotBack, CallBack, TotalBack};
+ghost use Rattle.std.specs.Prelude.{◌≡◌, ◌+◌, ◌≤◌, length};
+ghost use Rattle.file.specs.Position.{slot_of};
+ghost use Rattle.layout.specs.Parts.{flag_of, number_of, signed_of_word, zigzag_of, flag_word, position_of};
+ghost use Rattle.layout.specs.Parts.{slot_words, written, SlotBack};
 
-use calendar::{Day, Month};
-use file::holding::amount_of;
-use file::{MonthTotal, OpenCall, Position, Slot};
+use calendar::Day;
+use file::Position;
 
 // A word as a flag.
 pub fn flag(word: u64) -> bool
@@ -19,7 +18,7 @@ pub fn flag(word: u64) -> bool
 pub fn flag_word(flag: bool) -> u64
     ensures { result ≡ flag_word flag }
 {
-    if flag { 1 } else { 0 }
+    u64::from(flag)
 }
 
 // A word as a number of 32 bits.
@@ -42,136 +41,40 @@ pub fn zigzag(x: i64) -> u64
     ensures { result ≡ zigzag_of x }
 {
     if x < 0 {
-        return (-1 - x) as u64 * 2 + 1;
+        (-1 - x) as u64 * 2 + 1
+    } else {
+        x as u64 * 2
     }
-    x as u64 * 2
 }
 
 // A position, from its kind, its amount and its days.
 pub fn position(kind: u64, amount: u64, first: u64, last: u64) -> Position
     ensures { result ≡ position_of kind amount first last }
 {
-    if kind == 0 {
-        return Position::Empty;
-    }
-    if kind == 1 {
-        return Position::Cash(amount);
-    }
-    Position::Letter(amount, Day(number(first)), Day(number(last)))
-}
-
-// A slot, from its words.
-pub fn slot(kind: u64, amount: u64, first: u64, last: u64) -> Slot
-    ensures { result ≡ slot_of_words kind amount first last }
-{
-    Slot {
-        position: position(kind, amount, first, last),
+    // Kept: numbers for kinds, since the C interface lends a book as words.
+    match kind {
+        0 => Position::Empty,
+        1 => Position::Cash(amount),
+        _ => Position::Letter(amount, Day(number(first)), Day(number(last))),
     }
 }
 
-// An open call, from its words.
-pub fn call(amount: u64, last: u64) -> OpenCall
-    ensures { result ≡ open_call_of_words amount last }
-{
-    OpenCall {
-        amount,
-        last: Day(number(last)),
-    }
-}
-
-// A month's total, from its words.
-pub fn total(recorded: u64, month: u64, total: u64) -> MonthTotal
-    ensures { result ≡ total_of_words recorded month total }
-{
-    MonthTotal {
-        recorded: flag(recorded),
-        month: Month(number(month)),
-        total: signed(total),
-    }
-}
-
-// Four words from a place on.
-fn put_four(words: &mut [u64], at: usize, a: u64, b: u64, c: u64, d: u64)
-    requires { at + 4 ≤ length words.old }
-    ensures { words.new ≡ written words.old at (a ∷ b ∷ c ∷ d ∷ []) }
-{
-    words[at] = a;
-    words[at + 1] = b;
-    words[at + 2] = c;
-    words[at + 3] = d;
-}
-
-// Three words from a place on.
-fn put_three(words: &mut [u64], at: usize, a: u64, b: u64, c: u64)
-    requires { at + 3 ≤ length words.old }
-    ensures { words.new ≡ written words.old at (a ∷ b ∷ c ∷ []) }
-{
-    words[at] = a;
-    words[at + 1] = b;
-    words[at + 2] = c;
-}
-
-// The words of a position.
-fn kind_word(position: Position) -> u64
-    ensures { result ≡ kind_word position }
+// A position's words: its kind, its amount and its days.
+#[tactic(auto, unfolding(crate::specs::Parts::slot_of_words))]
+pub(crate) fn position_words(position: Position) -> [u64; 4]
+    ensures { (result ≡ slot_words (slot_of position)) × SlotBack (slot_of position) }
 {
     match position {
-        Position::Empty => 0,
-        Position::Cash(_) => 1,
-        Position::Letter(_, _, _) => 2,
+        Position::Empty => [0, 0, 0, 0],
+        Position::Cash(amount) => [1, amount, 0, 0],
+        Position::Letter(amount, first, last) => [2, amount, first.0 as u64, last.0 as u64],
     }
 }
 
-fn first_word(position: Position) -> u64
-    ensures { (result ≡ first_word position) × (result < 4294967296) }
+// Other words from a place on.
+pub(crate) fn put_words(words: &mut [u64], at: usize, new: &[u64])
+    requires { at + length new.now ≤ length words.old }
+    ensures { words.new ≡ written words.old at new.now }
 {
-    match position {
-        Position::Empty => 0,
-        Position::Cash(_) => 0,
-        Position::Letter(_, first, _) => first.0 as u64,
-    }
-}
-
-fn last_word(position: Position) -> u64
-    ensures { (result ≡ last_word position) × (result < 4294967296) }
-{
-    match position {
-        Position::Empty => 0,
-        Position::Cash(_) => 0,
-        Position::Letter(_, _, last) => last.0 as u64,
-    }
-}
-
-// A slot's words from a place on.
-pub fn put_slot(words: &mut [u64], at: usize, slot: Slot)
-    requires { at + 4 ≤ length words.old }
-    ensures { (words.new ≡ written words.old at (slot_words slot)) × SlotBack slot }
-{
-    let position = slot.position;
-    let kind = kind_word(position);
-    let amount = amount_of(position);
-    let first = first_word(position);
-    let last = last_word(position);
-    put_four(words, at, kind, amount, first, last);
-}
-
-// An open call's words from a place on.
-pub fn put_call(words: &mut [u64], at: usize, call: OpenCall)
-    requires { at + 2 ≤ length words.old }
-    ensures { (words.new ≡ written words.old at (open_call_words call)) × CallBack call }
-{
-    let last = call.last;
-    words[at] = call.amount;
-    words[at + 1] = last.0 as u64;
-}
-
-// A month total's words from a place on.
-pub fn put_total(words: &mut [u64], at: usize, total: MonthTotal)
-    requires { at + 3 ≤ length words.old }
-    ensures { (words.new ≡ written words.old at (total_words total)) × TotalBack total }
-{
-    let month = total.month;
-    let recorded = flag_word(total.recorded);
-    let sum = zigzag(total.total);
-    put_three(words, at, recorded, month.0 as u64, sum);
+    words[at..at + new.len()].copy_from_slice(new);
 }

@@ -16,7 +16,7 @@ use Rattle.laws.specs.Cases.{and_left}
 use Rattle.laws.specs.Read.{read}
 use Rattle.manual.specs.Check.{exceeds_tolerance, exceeds_each, call_is_made, checked}
 use Rattle.manual.specs.Laws.{call_is_made-above, call_is_made-tolerance}
-use Rattle.manual.specs.declared.Check.TheVariants.{Call, Covered}
+use Rattle.std.specs.Prelude.{Some, None}
 
 -- ---- the tests: t₁ of the tolerance, t₂ against the firm amount, t₃ against the open calls
 
@@ -41,11 +41,11 @@ module _ (t : Bool) (e : ℤ) (d firm : ℕ) (opens : List ℕ) (f : SFits w64 e
   decided : t ≡ call_is_made e d firm opens
   decided = rw (to_z-of_z f) at said
 
-  pub covered : t ≡ false → Covered ≡ checked e d firm opens
+  pub covered : t ≡ false → None ≡ checked e d firm opens
   unfolding checked
   covered p = rw (sym decided ∙ p)
 
-  pub called : t ≡ true → Call (nat_abs (read e)) (nat_abs (read e) - d) ≡ checked e d firm opens
+  pub called : t ≡ true → Some (record { amount = nat_abs (read e); asked = nat_abs (read e) - d }) ≡ checked e d firm opens
   unfolding checked
   called p = rw (to_z-of_z f, sym decided ∙ p)
 

@@ -1,44 +1,28 @@
 -- The loop over a month's figures: what is summed and what is left make the whole, and each figure passed is within its bound. Assumes nothing.
 use Prim.Native.Nat.{ℕ, ◌+◌, ◌*◌, ◌≤◌, ◌<◌}
-use mathlib.Core.Path.{◌≡◌, refl, sym, ◌∙◌, ap}
+use mathlib.Core.Path.{◌≡◌, sym, ◌∙◌, ap}
 use mathlib.Core.Bool.{Bool, true, false, ◌||◌}
 use mathlib.Core.List.{List}
 use native.Mathlib.Nat.{le_trans}
 use native.Mathlib.Omega.{arith}
 use native.Mathlib.Numerals.{add-one}
-use borrow.Author.Tests.{lt-ltb, le-ltb, ltb-false, leb-true}
-use lib.Dec.{leb, ltb, leb-suc-suc}
+use borrow.Author.Tests.{le-ltb, ltb-false, leb-true}
+use lib.Dec.{leb, ltb}
 use lib.ListN.{length, get_or, drop, drop_of_length-le}
 use lib.Seq.{drop-cons}
-use lib.IntN.{ℤ, pos, negsuc, nat_abs, ◌+ℤ◌, +ℤ_idr}
-use lib.Signed.{le_z}
+use lib.IntN.{ℤ, pos, nat_abs, ◌+ℤ◌, +ℤ_idr}
 use mir.Syntax.{w64}
 use mir.Val.{SFits, to_z, of_z}
 use mir.Facts.{to_z-of_z}
-use Rattle.laws.specs.Cases.{clash, cond-true, or-first, or-second}
+use Rattle.laws.specs.Cases.{cond-true, or-first, or-second}
 use Rattle.laws.specs.Integers.{nat_abs-add, sum_of, sum_of-turn}
 use Rattle.laws.specs.Signed.{fits_nat_abs}
 use Rattle.laws.specs.Read.{read}
 use Rattle.manual.specs.Figures.{bound, wrong_count, all_within, out_of_range, summed}
-use Rattle.manual.specs.declared.Sum.TheVariants.{Total, Refused}
-
--- ---- one figure
-
-pub above_low : (x : ℤ) → le_z (negsuc 999999999999) x ≡ true → le_z x (pos 1000000000000) ≡ leb (nat_abs x) bound
-above_low (pos n) p = refl
-above_low (negsuc n) p = sym (leb-suc-suc n 999999999999 ∙ p)
-
-pub below-low : (x : ℤ) → le_z (negsuc 999999999999) x ≡ false → le_z (negsuc 999999999999) x ≡ leb (nat_abs x) bound
-below-low (pos n) p = clash refl p
-below-low (negsuc n) p = sym (leb-suc-suc n 999999999999)
+use Rattle.std.specs.Prelude.{Ok, Err}
+use Rattle.refusal.specs.declared.Refusal.TheVariants.{FigureCount, OutOfRange}
 
 -- ---- cause 10, by the number of the figures
-
-pub count-few : (n : ℕ) → n < 5 → true ≡ (ltb n 5 || ltb 16 n)
-count-few n h = rw (lt-ltb n 5 h)
-
-pub count-many : (n : ℕ) → 5 ≤ n → ltb 16 n ≡ (ltb n 5 || ltb 16 n)
-count-many n h = rw (le-ltb n 5 h)
 
 module _ (t : Bool) (n : ℕ) (said : t ≡ (ltb n 5 || ltb 16 n)) where
   pub at-least-five : t ≡ false → 5 ≤ n
@@ -47,10 +31,10 @@ module _ (t : Bool) (n : ℕ) (said : t ≡ (ltb n 5 || ltb 16 n)) where
   pub at-most-sixteen : t ≡ false → n ≤ 16
   at-most-sixteen h = ltb-false 16 n (or-second (ltb n 5) (ltb 16 n) (sym said ∙ h))
 
-  pub wrong-number : (l : List ℤ) → n ≡ length l → t ≡ true → Refused 10 ≡ summed l
+  pub wrong-number : (l : List ℤ) → length l ≡ n → t ≡ true → Err FigureCount ≡ summed l
   unfolding summed wrong_count
   wrong-number l e h =
-      sym (cond-true (ltb (length l) 5 || ltb 16 (length l)) (Refused 10) _ (ap (λ (k : ℕ). ltb k 5 || ltb 16 k) (sym e) ∙ sym said ∙ h))
+      sym (cond-true (ltb (length l) 5 || ltb 16 (length l)) (Err FigureCount) _ (ap (λ (k : ℕ). ltb k 5 || ltb 16 k) e ∙ sym said ∙ h))
 
 -- ---- a turn at the next figure, which t found within the bound or not
 
@@ -63,35 +47,47 @@ SoFar l s i = (i ≤ length l) × (all_within (drop i l) ≡ all_within l) × (n
 grown : (s x : ℤ) (k : ℕ) → nat_abs s ≤ k * bound → nat_abs x ≤ bound → nat_abs (s +ℤ x) ≤ (k + 1) * bound
 grown s x k p q = le_trans (nat_abs-add s x) (omega arith)
 
-module _ (t : Bool) (l : List ℤ) (s : ℤ) (i : ℕ) (f : SFits w64 (get_or l i (pos 0))) (h : i < length l) (few : length l ≤ 16)
-    (said : t ≡ leb (nat_abs (read (get_or l i (pos 0)))) bound) (inv : SoFar l s i) where
+-- n figures, of which x is that at i
+module _ (t : Bool) (l : List ℤ) (s x : ℤ) (i n : ℕ) (f : SFits w64 x) (given : x ≡ get_or l i (pos 0)) (many : length l ≡ n) (h : i < n) (few : n ≤ 16)
+    (said : t ≡ leb (nat_abs (read x)) bound) (inv : SoFar l s i) where
+  there : i < length l
+  there = omega arith
+
+  tested : t ≡ leb (nat_abs x) bound
+  tested = rw (to_z-of_z f) at said
+
   found : t ≡ leb (nat_abs (get_or l i (pos 0))) bound
-  found = rw (to_z-of_z f) at said
+  found = tested ∙ ap (λ (z : ℤ). leb (nat_abs z) bound) given
 
   one_out : t ≡ false → false ≡ all_within l
   unfolding all_within
-  one_out p = rw (drop-cons l i (pos 0) h, sym found ∙ p) at inv.1
+  one_out p = rw (drop-cons l i (pos 0) there, sym found ∙ p) at inv.1
 
   -- cause 11
-  pub out_of_range_lem : 5 ≤ length l → t ≡ false → Refused 11 ≡ summed l
+  pub out_of_range_lem : 5 ≤ n → t ≡ false → Err OutOfRange ≡ summed l
   unfolding summed wrong_count out_of_range
-  out_of_range_lem g p = rw (le-ltb (length l) 5 g, le-ltb 16 (length l) few, sym (one_out p))
+  out_of_range_lem g p =
+      let enough : 5 ≤ length l = omega arith in
+      let most : length l ≤ 16 = omega arith in
+      rw (le-ltb (length l) 5 enough, le-ltb 16 (length l) most, sym (one_out p))
 
   in-range : t ≡ true → all_within (drop (i + 1) l) ≡ all_within l
   unfolding all_within
-  in-range p = rw (add-one i) (rw (drop-cons l i (pos 0) h, sym found ∙ p) at inv.1)
+  in-range p = rw (add-one i) (rw (drop-cons l i (pos 0) there, sym found ∙ p) at inv.1)
 
-  small : t ≡ true → nat_abs (s +ℤ read (get_or l i (pos 0))) ≤ (i + 1) * bound
-  small p = rw (to_z-of_z f) (grown s (get_or l i (pos 0)) i inv.2 (leb-true (nat_abs (get_or l i (pos 0))) bound (sym found ∙ p)))
+  small : t ≡ true → nat_abs (s +ℤ read x) ≤ (i + 1) * bound
+  small p = rw (to_z-of_z f) (grown s x i inv.2 (leb-true (nat_abs x) bound (sym tested ∙ p)))
 
   -- the sum does not overflow
-  pub sum_fits : t ≡ true → SFits w64 (s +ℤ read (get_or l i (pos 0)))
+  pub sum_fits : t ≡ true → SFits w64 (s +ℤ read x)
   sum_fits p = fits_nat_abs _ (omega (arith, small p))
 
-  pub sum-again : t ≡ true → SoFar l (to_z w64 (of_z w64 (s +ℤ read (get_or l i (pos 0))))) (i + 1)
+  pub sum-again : t ≡ true → SoFar l (to_z w64 (of_z w64 (s +ℤ read x))) (i + 1)
   sum-again p =
       let e = to_z-of_z (sum_fits p) in
-      (omega arith, in-range p, rw e (small p), rw (e, to_z-of_z f) (sym (sum_of-turn s l i h) ∙ inv.3))
+      let next : (s +ℤ x) +ℤ sum_of (drop (i + 1) l) ≡ sum_of l =
+      ap (λ (z : ℤ). (s +ℤ z) +ℤ sum_of (drop (i + 1) l)) given ∙ sym (sum_of-turn s l i there) ∙ inv.3 in
+      (omega arith, in-range p, rw e (small p), rw (e, to_z-of_z f) next)
 
 -- ---- the loop's end
 
@@ -103,8 +99,11 @@ all-summed : (l : List ℤ) (i : ℕ) (z : ℤ) → length l ≤ i → z +ℤ su
 unfolding sum_of
 all-summed l i z h p = sym (+ℤ_idr z) ∙ (rw (drop_of_length-le l h) at p)
 
-pub sum-ends : (l : List ℤ) (s : ℤ) (i : ℕ) → length l ≤ i → 5 ≤ length l → length l ≤ 16 → SoFar l s i → Total s ≡ summed l
+pub sum-ends : (l : List ℤ) (s : ℤ) (i n : ℕ) → length l ≡ n → n ≤ i → 5 ≤ n → n ≤ 16 → SoFar l s i → Ok s ≡ summed l
 unfolding summed wrong_count out_of_range
-sum-ends l s i h g few inv =
-    ap Total (all-summed l i s h inv.3)
-    ∙ rw (le-ltb (length l) 5 g, le-ltb 16 (length l) few, sym (all-passed l i h inv.1))
+sum-ends l s i n e h g few inv =
+    let enough : 5 ≤ length l = omega arith in
+    let most : length l ≤ 16 = omega arith in
+    let past : length l ≤ i = omega arith in
+    ap Ok (all-summed l i s past inv.3)
+    ∙ rw (le-ltb (length l) 5 enough, le-ltb 16 (length l) most, sym (all-passed l i past inv.1))

@@ -1,9 +1,8 @@
 -- The monthly check of paper 01, 'Settle' (002, 2.2).
 -- Assumes nothing.
-use Rattle.std.specs.Prelude.{ℕ, ◌*◌, ◌-◌, Bool, true, cond, ◌&&◌, List, [], ◌∷◌, ℤ, pos, nat_abs, ◌*ℤ◌}
+use Rattle.std.specs.Prelude.{ℕ, ◌*◌, ◌-◌, Bool, true, cond, ◌&&◌, List, [], ◌∷◌, Option, Some, None, ℤ, pos, nat_abs, ◌*ℤ◌}
 use Rattle.std.specs.Int.Signed.{lt_z, le_z}
-use Rattle.manual.specs.declared.Check.{Check}
-use Rattle.manual.specs.declared.Check.TheVariants.{Call, Covered}
+use Rattle.manual.specs.declared.Call.{Call}
 
 -- "A call is made when E > D, 5 × E ≥ 6 × D": E exceeds the deposited guarantee D, by at least 20%.
 unfoldable pub exceeds_tolerance : ℤ → ℕ → Bool
@@ -18,6 +17,6 @@ exceeds_each e (a ∷ rest) = lt_z (pos a) e && exceeds_each e rest
 unfoldable pub call_is_made : ℤ → ℕ → ℕ → List ℕ → Bool
 call_is_made e d firm opens = exceeds_tolerance e d && exceeds_each e (firm ∷ opens)
 
--- The check's outcome: ".. amount E, .. asked E − D", or covered.
-unfoldable pub checked : ℤ → ℕ → ℕ → List ℕ → Check
-checked e d firm opens = cond (call_is_made e d firm opens) (Call (nat_abs e) (nat_abs e - d)) Covered
+-- The check's outcome: ".. amount E, .. asked E − D", or none: covered.
+unfoldable pub checked : ℤ → ℕ → ℕ → List ℕ → Option Call
+checked e d firm opens = cond (call_is_made e d firm opens) (Some (record { amount = nat_abs e; asked = nat_abs e - d })) None

@@ -1,10 +1,10 @@
 -- A month's figures, paper 01, 'Settle': "5 to 16 signed figures. .. Each is within plus or minus 10^12; .. E, their sum".
 -- Assumes nothing.
-use Rattle.std.specs.Prelude.{ℕ, Bool, true, cond, not, ◌&&◌, ◌||◌, List, [], ◌∷◌, ltb, leb, length, ℤ, nat_abs}
+use Rattle.std.specs.Prelude.{ℕ, Bool, true, cond, not, ◌&&◌, ◌||◌, List, [], ◌∷◌, ltb, leb, length, Result, Ok, Err, ℤ, nat_abs}
 -- `sum_of` is E, the sum of the figures: x₁ + (x₂ + .. + 0)
 unfoldable pub use Rattle.laws.specs.Integers.{sum_of}
-use Rattle.manual.specs.declared.Sum.{Sum}
-use Rattle.manual.specs.declared.Sum.TheVariants.{Total, Refused}
+use Rattle.refusal.specs.declared.Refusal.{Refusal}
+use Rattle.refusal.specs.declared.Refusal.TheVariants.{FigureCount, OutOfRange}
 
 -- The bound of a figure and of an amount, 10^12 cents.
 abbrev pub bound : ℕ
@@ -24,5 +24,5 @@ unfoldable pub out_of_range : List ℤ → Bool
 out_of_range figures = not (all_within figures)
 
 -- The sum of the figures, or the first of the causes 10 and 11 that holds.
-unfoldable pub summed : List ℤ → Sum
-summed figures = cond (wrong_count figures) (Refused 10) (cond (out_of_range figures) (Refused 11) (Total (sum_of figures)))
+unfoldable pub summed : List ℤ → Result ℤ Refusal
+summed figures = cond (wrong_count figures) (Err FigureCount) (cond (out_of_range figures) (Err OutOfRange) (Ok (sum_of figures)))

@@ -2,27 +2,19 @@ ghost use Rattle.std.specs.Prelude.{◌≡◌, pos, nat_abs};
 ghost use Rattle.manual.specs.Annual.{larger, annual_amount};
 
 use crate::minimum::minimum;
-use crate::monthly::exceeds;
 
 // An amount, raised to a total that exceeds it.
 fn raised(amount: u64, total: i64) -> u64
     ensures { result ≡ nat_abs (larger total (pos amount)) }
 {
-    if exceeds(total, amount) {
-        return total as u64;
-    }
-    amount
+    amount.max(total.max(0) as u64)
 }
 
 // The annual amount of a role with these recorded totals: the largest, and at least the role's minimum.
 pub fn annual_amount(role: u64, totals: &[i64]) -> u64
     ensures { result ≡ annual_amount role totals.now }
 {
-    let mut amount = minimum(role);
-    let mut i = 0;
-    while i < totals.len() {
-        amount = raised(amount, totals[i]);
-        i += 1;
-    }
-    amount
+    totals
+        .iter()
+        .fold(minimum(role), |amount, total| raised(amount, *total))
 }

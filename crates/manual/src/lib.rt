@@ -7,16 +7,9 @@ pub mod figures;
 pub mod minimum;
 pub mod monthly;
 
-// What the monthly check of paper 01, 'Settle', finds: a call with its amount E and the asked E - D, or covered.
-#[derive(Clone, Copy)]
-pub enum Check {
-    Call { amount: u64, asked: u64 },
-    Covered,
-}
-
-// The sum of a month's figures, or the number of the cause that refuses them.
-#[derive(Clone, Copy)]
-pub enum Sum {
-    Total(i64),
-    Refused(u32),
+// The call that the monthly check of paper 01, 'Settle', makes: its amount E and the asked E - D.
+#[derive(Clone, Copy, PartialEq, Eq)]
+pub struct Call {
+    pub amount: u64,
+    pub asked: u64,
 }

@@ -5,8 +5,9 @@ ghost use Rattle.manual.specs.Minimum.{minimum_of};
 const MINIMUMS: [u64; 6] = [2000000, 2000000, 1000000, 0, 0, 0];
 
 // A role's minimum guarantee, in cents; 0 for a number that is no role.
+#[tactic(auto, unfolding(crate::specs::Minimum::minimum_of))]
 pub fn minimum(role: u64) -> u64
     ensures { result ≡ minimum_of role }
 {
-    if role < 6 { MINIMUMS[role as usize] } else { 0 }
+    MINIMUMS.get(role as usize).copied().unwrap_or(0)
 }

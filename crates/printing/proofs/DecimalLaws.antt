@@ -1,7 +1,7 @@
 -- Numbers in decimal, read again.
 -- Assumes nothing.
-use Prim.Native.Nat.{ℕ, zero, suc, ◌+◌, ◌-◌, ◌*◌, ◌/◌, ◌%◌, ◌≤◌, ◌<◌, min}
-use mathlib.Core.Path.{◌≡◌, refl, sym, ◌∙◌}
+use Prim.Native.Nat.{ℕ, zero, suc, ◌+◌, ◌-◌, ◌*◌, ◌/◌, ◌%◌, ◌≤◌, ◌<◌, ◌^◌, min}
+use mathlib.Core.Path.{◌≡◌, refl, sym, ap, ◌∙◌}
 use mathlib.Core.Bool.{Bool, true, false}
 use mathlib.Core.List.{List, [], ◌∷◌, ◌++◌}
 use native.Mathlib.Nat.{not-suc-le-zero}
@@ -18,12 +18,13 @@ use Rattle.words.specs.Words.{place_in}
 use Rattle.words.specs.Numerals.{natural, value_from, value, natural_of, unsigned_of, negative_of, signed_of}
 use Rattle.words.specs.Dates.{day_in, month_in}
 use Rattle.journal.specs.Names.{role_names, role_of_word, read_number}
-use Rattle.words.specs.declared.numbers.Number.{Number}
-use Rattle.words.specs.declared.numbers.Signed.{Signed}
-use Rattle.words.proofs.NumberLaws.{natural-each}
+use Rattle.std.specs.Prelude.{Some}
+use Rattle.words.proofs.NumberLaws.{natural_each}
 use Rattle.words.proofs.WordLaws.{solid}
 use Rattle.printing.specs.Decimals.{numeral, decimal, integer}
 use Rattle.printing.specs.Lines.{Holds}
+use Rattle.printing.specs.Written.{Sheet, followed}
+use Rattle.printing.specs.WrittenLaws.{followed_twice, decimal_step, decimal-small}
 use Rattle.printing.proofs.PlainWords.{word_byte, IsWord, each-weaker, each_append}
 
 -- Digits.
@@ -105,7 +106,7 @@ unfolding decimal
 decimal-value n = numeral-value n n (omega arith)
 
 pub decimal-natural : (n : ℕ) → natural (decimal n) ≡ true
-decimal-natural n = sym (natural-each (decimal n) (λ e. omega (arith, decimal-long n))) ∙ decimal-digits n
+decimal-natural n = sym (natural_each (decimal n) (λ e. omega (arith, decimal-long n))) ∙ decimal-digits n
 
 pub decimal-word : (n : ℕ) → IsWord (decimal n)
 decimal-word n = record { some_byte = decimal-long n; bytes = each-weaker digit word_byte digit-word (decimal n) (decimal-digits n) }
@@ -125,17 +126,17 @@ integer-word (negsuc n) =
 
 -- Read as a natural number, a day, a month, a role.
 
-pub natural-back : (n : ℕ) → n ≤ 18446744073709551615 → natural_of (decimal n) ≡ Number.Value n
+pub natural-back : (n : ℕ) → n ≤ 18446744073709551615 → natural_of (decimal n) ≡ Some n
 unfolding natural_of
 natural-back n h =
     let e : min n 18446744073709551615 ≡ n = omega arith in
     rw (decimal-natural n, decimal-value n, e)
 
-pub day-back : (n : ℕ) → n ≤ 18446744073709551615 → day_in (decimal n) ≡ Number.Value n
+pub day-back : (n : ℕ) → n ≤ 18446744073709551615 → day_in (decimal n) ≡ Some n
 unfolding day_in
 day-back n h = rw (decimal-natural n) (natural-back n h)
 
-pub month-back : (n : ℕ) → n ≤ 18446744073709551615 → month_in (decimal n) ≡ Number.Value n
+pub month-back : (n : ℕ) → n ≤ 18446744073709551615 → month_in (decimal n) ≡ Some n
 unfolding month_in
 month-back n h = rw (decimal-natural n) (natural-back n h)
 
@@ -160,19 +161,19 @@ no-role w h e =
       not-name w 100 _ h e (lit< tt),
     )
 
-pub role-back : (n : ℕ) → n ≤ 18446744073709551615 → role_of_word (decimal n) ≡ Number.Value n
+pub role-back : (n : ℕ) → n ≤ 18446744073709551615 → role_of_word (decimal n) ≡ Some n
 unfolding role_of_word
 role-back n h = rw (no-role (decimal n) (decimal-long n) (decimal-digits n)) (natural-back n h)
 
 -- Read as a number of a list.
 
-pub unsigned_back : (n : ℕ) → n < 9223372036854775808 → unsigned_of (decimal n) ≡ Signed.Value (pos n)
+pub unsigned_back : (n : ℕ) → n < 9223372036854775808 → unsigned_of (decimal n) ≡ Some (pos n)
 unfolding unsigned_of
 unsigned_back n h =
     let e : min n 9223372036854775807 ≡ n = omega arith in
     rw (decimal-natural n, decimal-value n, e)
 
-negative_back : (n : ℕ) → n < 9223372036854775808 → negative_of (decimal (suc n)) ≡ Signed.Value (negsuc n)
+negative_back : (n : ℕ) → n < 9223372036854775808 → negative_of (decimal (suc n)) ≡ Some (negsuc n)
 unfolding negative_of
 negative_back n h =
     let e : min (suc n) 9223372036854775808 ≡ suc n = omega arith in
@@ -191,13 +192,22 @@ signed-negative : (w : List ℕ) → signed_of (45 ∷ w) ≡ negative_of w
 unfolding signed_of
 signed-negative w = refl
 
-pub signed_back : (z : ℤ) → mag z < 9223372036854775808 → signed_of (integer z) ≡ Signed.Value z
+pub signed_back : (z : ℤ) → mag z < 9223372036854775808 → signed_of (integer z) ≡ Some z
 unfolding integer
 signed_back (pos n) h = signed-digits (decimal n) (decimal-long n) (decimal-digits n) ∙ unsigned_back n h
 signed_back (negsuc n) h = signed-negative (decimal (suc n)) ∙ negative_back n h
 
-pub number-back : (marks : Bool) (z : ℤ) → Holds marks z → read_number marks (integer z) ≡ Signed.Value z
+pub number-back : (marks : Bool) (z : ℤ) → Holds marks z → read_number marks (integer z) ≡ Some z
 unfolding read_number integer
 number-back false z h = signed_back z h
 number-back true (pos n) h = unsigned_back n h
 number-back true (negsuc n) h = absurd h
+
+-- The digits of a tenth of a number written, and its last behind them; and a number of one digit.
+
+pub digits_more : (o u v w : Sheet) (n d : ℕ) → 10 ≤ n → u ≡ followed o (decimal (n / 10)) → v ≡ u → d ≡ 48 + n % 10
+    → w ≡ followed v (d ∷ []) → w ≡ followed o (decimal n)
+digits_more o u v w n d h e f g k = rw (k, f, e, g, followed_twice, decimal_step n h)
+
+pub digits_one : (o v w : Sheet) (n d : ℕ) → n < 10 → v ≡ o → d ≡ 48 + n % 10 → w ≡ followed v (d ∷ []) → w ≡ followed o (decimal n)
+digits_one o v w n d h f g k = rw (k, f, g, decimal-small n h)

@@ -12,11 +12,11 @@ use lib.IntN.{ℤ}
 use Rattle.laws.specs.Lists.{All}
 use Rattle.calendar.specs.declared.Day.{Day}
 use Rattle.calendar.specs.declared.Month.{Month}
-use Rattle.journal.specs.Names.{read_as, read_number}
-use Rattle.journal.specs.Fields.{Left, more, next_of, taken, field_of, closed}
+use Rattle.journal.specs.Names.{lodged_in, read_as, read_number}
+use Rattle.journal.specs.Fields.{Left, more, next_of, taken, field_of, lodged_field, closed}
 use Rattle.journal.specs.Fields.{Numbers, with_number, next_numbers, words_left, figures_of, list_of, on_lists, lists_of}
 use Rattle.journal.specs.Grammar.{day_numbered, month_numbered}
-use Rattle.words.specs.declared.numbers.Number.{Number}
+use Rattle.std.specs.Prelude.{Some}
 use Rattle.journal.specs.declared.Request.{Request}
 use Rattle.journal.specs.declared.fields.Kind.{Kind}
 use Rattle.printing.specs.Decimals.{decimal, integer}
@@ -25,10 +25,16 @@ use Rattle.journal.specs.Grammar.{total}
 use Rattle.printing.proofs.DecimalLaws.{natural-back, day-back, month-back, role-back, number-back}
 
 -- a word that is what is due
-pub field_back : (k : Kind) (w : List ℕ) (ws : List (List ℕ)) (n : ℕ) → read_as k w ≡ Number.Value n
+pub field_back : (k : Kind) (w : List ℕ) (ws : List (List ℕ)) (n : ℕ) → read_as k w ≡ Some n
     → field_of k (more (w ∷ ws)) ≡ record { value = n; left = more ws }
 unfolding field_of next_of taken
 field_back k w ws n e = rw e
+
+-- a word that is what is lodged
+pub lodged_back : (w : List ℕ) (ws : List (List ℕ)) (n : ℕ) → lodged_in w ≡ Some n
+    → lodged_field (more (w ∷ ws)) ≡ record { value = n; left = more ws }
+unfolding lodged_field next_of taken
+lodged_back w ws n h = rw h
 
 pub natural-field : (n : ℕ) (ws : List (List ℕ)) → n ≤ 18446744073709551615
     → field_of Kind.Natural (more (decimal n ∷ ws)) ≡ record { value = n; left = more ws }

@@ -1,35 +1,28 @@
 -- Bytes as hexadecimal digits: as they are written, and read again.
 -- Assumes nothing.
-use Prim.Native.Nat.{ℕ, suc, ◌+◌, ◌-◌, ◌*◌, ◌/◌, ◌%◌, ◌≤◌, ◌<◌, min}
-use mathlib.Core.Path.{◌≡◌, refl, sym, ap, ◌∙◌}
+use Prim.Native.Nat.{ℕ, ◌+◌, ◌-◌, ◌*◌, ◌/◌, ◌%◌, ◌≤◌, ◌<◌}
+use mathlib.Core.Path.{◌≡◌, refl}
 use mathlib.Core.Bool.{true}
 use mathlib.Core.List.{List, [], ◌∷◌, ◌++◌}
 use native.Mathlib.Numerals.{add-one}
 use native.Mathlib.Omega.{arith}
 use borrow.Author.Tests.{le-leb, lt-leb, le-ltb, lt-ltb, ltb-true, ltb-false, ne_eqb, eq-eqb}
-use mir.Facts.{to_z-of_z}
-use mir.Syntax.{w64}
-use mir.Val.{SFits}
 use lib.Dec.{ltb}
 use lib.IntN.{ℤ, pos, negsuc, nat_abs}
 use lib.ListN.{length, take, drop, get_or, drop_of_length-le, length-append, length-take}
 use lib.Seq.{drop-cons, length-take-le}
 use Rattle.laws.specs.Cases.{split}
-use Rattle.laws.specs.Clipped.{take-clipped}
 use Rattle.laws.specs.Every.{every-nil, every-cons}
 use Rattle.laws.specs.Lists.{All}
-use Rattle.laws.specs.Read.{read}
 use Rattle.words.specs.Text.{text}
 use Rattle.words.specs.Bytes.{blank, control, digit, each}
 use Rattle.words.specs.Hex.{lower_hex, hex_digit, hex_value, hexadecimal, bytes_of_hex}
-use Rattle.words.proofs.HexLaws.{value-small}
+use Rattle.words.proofs.HexLaws.{value_small}
 use Rattle.words.proofs.WordLaws.{solid}
 use Rattle.journal.specs.declared.Request.{Request}
 use Rattle.printing.specs.Decimals.{spaced, joined}
 use Rattle.printing.specs.Hex.{last_hex, hex_byte, hex_bytes, hex_words}
 use Rattle.printing.specs.Lines.{IsByte, call_words, printed}
-use Rattle.printing.specs.Placed.{Put}
-use Rattle.printing.specs.PlacedLaws.{Putting, putting-goes, putting-ends, put-none, put_then, put-blank, put_first}
 use Rattle.printing.proofs.PlainWords.{word_byte, IsWord}
 
 -- The last digit of a number.
@@ -79,9 +72,9 @@ last-value n =
     split (ltb (n % 16) 10) (λ t. rw t (small-value (n % 16) (ltb-true (n % 16) 10 t)))
     (λ t. rw t (letter-value (n % 16) (ltb-false (n % 16) 10 t) (omega arith)))
 
-pub last-small : (n d : ℕ) → d ≡ n % 16 → d < 10 → 48 + d ≡ last_hex n
+pub last_small : (n d : ℕ) → d ≡ n % 16 → d < 10 → 48 + d ≡ last_hex n
 unfolding last_hex
-last-small n d e h = rw (← e, lt-ltb d 10 h)
+last_small n d e h = rw (← e, lt-ltb d 10 h)
 
 pub last_letter : (n d : ℕ) → d ≡ n % 16 → 10 ≤ d → 87 + d ≡ last_hex n
 unfolding last_hex
@@ -123,7 +116,7 @@ pub bytes-are : (w : List ℕ) → All IsByte (bytes_of_hex w)
 unfolding bytes_of_hex
 bytes-are [] = tt
 bytes-are (a ∷ []) = tt
-bytes-are (a ∷ b ∷ w) = (omega (arith, value-small a, value-small b), bytes-are w)
+bytes-are (a ∷ b ∷ w) = (omega (arith, value_small a, value_small b), bytes-are w)
 
 -- The word of a file.
 
@@ -190,50 +183,25 @@ file-short (z ∷ zs) = omega (arith, file-long (z ∷ zs) (omega arith))
 pub batch-short : (n : ℕ) (zs : List ℤ) → length (printed (Request.Batch n) zs) ≤ 6 + 2 * length zs
 batch-short n zs = omega (arith, batch-line n zs, file-short (take n zs), length-take n zs)
 
--- Bytes as they are written.
+-- One by one.
 
-pub part-long : (zs : List ℤ) (n end : ℕ) → end ≡ min (0 + n) (length zs) → end ≡ length (take end zs)
-part-long zs n end k = sym (length-take-le end zs (omega arith))
-
-module _ (e f g : List ℕ) (at p q : ℕ) where
-  pub put-two-digits : (z : ℤ) (n a b : ℕ) → SFits w64 z → n ≡ nat_abs (read z) → a ≡ last_hex (n / 16) → b ≡ last_hex n → Put (a ∷ []) e at p f
-      → Put (b ∷ []) f p q g → Put (hex_byte z) e at q g
-  unfolding hex_byte
-  put-two-digits z n a b s m c d x y =
-      let k : n ≡ nat_abs z = m ∙ ap nat_abs (to_z-of_z s) in
-      rw (← k, ← c, ← d) (put_then (a ∷ []) (b ∷ []) e f g at p q x y)
-
-  pub put-file : (zs : List ℤ) → (length zs ≡ 0 → ⊥) → Put (32 ∷ []) e at p f → Put (hex_bytes zs) f p q g → Put (spaced (hex_words zs)) e at q g
-  unfolding hex_words
-  put-file [] n x y = absurd (n refl)
-  put-file (z ∷ zs) n x y = put-blank e f g at p q (hex_bytes (z ∷ zs)) x y
-
-  pub put-batch : (zs : List ℤ) (n end : ℕ) → end ≡ min (0 + n) (length zs) → Put (text "batch") e at p f
-      → Put (spaced (hex_words (take end zs))) f p q g → Put (joined (text "batch" ∷ hex_words (take n zs))) e at q g
-  put-batch zs n end k x y =
-      let t : take end zs ≡ take n zs = take-clipped n end zs (omega arith) in
-      put_first e f g at p q (text "batch") (hex_words (take n zs)) x (rw t at y)
-
-pub no-file : (zs : List ℤ) (e : List ℕ) (at : ℕ) → length zs ≡ 0 → Put (spaced (hex_words zs)) e at at e
-unfolding hex_words spaced
-no-file [] e at h = put-none e at
-no-file (z ∷ zs) e at h = absurd (omega arith)
-
--- one by one
-hex-next : (z : ℤ) (zs : List ℤ) → hex_bytes (z ∷ zs) ≡ hex_byte z ++ hex_bytes zs
+pub hex_first : (zs : List ℤ) (i : ℕ) (z : ℤ) → i < length zs → z ≡ get_or zs i (pos 0)
+    → hex_bytes (drop i zs) ≡ hex_byte z ++ hex_bytes (drop (i + 1) zs)
 unfolding hex_bytes
-hex-next z zs = refl
+hex_first zs i z h e = let k : drop i zs ≡ z ∷ drop (i + 1) zs = rw (e, add-one i) (drop-cons zs i (pos 0) h) in rw k
 
-hex-none : hex_bytes [] ≡ []
+pub hex_done : (zs : List ℤ) (i : ℕ) → length zs ≤ i → hex_bytes (drop i zs) ≡ []
 unfolding hex_bytes
-hex-none = refl
+hex_done zs i h = rw (drop_of_length-le zs h)
 
-pub hexes-more : (x : List ℕ) (zs : List ℤ) (v : ℤ) (e f g : List ℕ) (at p q i : ℕ) → i < length zs → v ≡ get_or zs i (pos 0)
-    → Putting x (hex_bytes (drop i zs)) e at p f → Put (hex_byte v) f p q g → Putting x (hex_bytes (drop (i + 1) zs)) e at q g
-hexes-more x zs v e f g at p q i h k w z =
-    putting-goes x (hex_bytes (drop i zs)) (hex_byte v) (hex_bytes (drop (i + 1) zs)) e f g at p q w
-    (rw (k, add-one i, drop-cons zs i (pos 0) h) (hex-next (get_or zs i (pos 0)) (drop (suc i) zs)))
-    z
+-- the word of a file that has bytes, and none of an empty one
 
-pub hexes-done : (x : List ℕ) (zs : List ℤ) (e f : List ℕ) (at p i : ℕ) → length zs ≤ i → Putting x (hex_bytes (drop i zs)) e at p f → Put x e at p f
-hexes-done x zs e f at p i h w = putting-ends x (hex_bytes (drop i zs)) e f at p w (rw (drop_of_length-le zs h) hex-none)
+pub some_file : (zs : List ℤ) → 0 < length zs → hex_words zs ≡ hex_bytes zs ∷ []
+unfolding hex_words
+some_file [] h = absurd (omega arith)
+some_file (z ∷ zs) h = refl
+
+pub no_file : (zs : List ℤ) → length zs ≡ 0 → hex_words zs ≡ []
+unfolding hex_words
+no_file [] h = refl
+no_file (z ∷ zs) h = absurd (omega arith)

@@ -3,6 +3,6 @@ pub mod DecimalLaws
 pub mod HexLaws
 pub mod FieldsBack
 pub mod RoundTrip
-pub mod PutLaws
+pub mod OutLaws
 pub mod LineLaws
 pub mod ParsedFits

@@ -16,10 +16,9 @@ use Rattle.words.specs.Bytes.{control, some, uncommented}
 use Rattle.words.specs.Words.{words, place_in}
 use Rattle.words.specs.Hex.{bytes_of_hex}
 use Rattle.words.specs.Numerals.{natural, value, natural_of, unsigned_of, negative_of, signed_of}
-use Rattle.words.specs.declared.numbers.Number.{Number}
-use Rattle.words.specs.declared.numbers.Signed.{Signed}
+use Rattle.std.specs.Prelude.{Option, Some, None}
 use Rattle.journal.specs.Names.{call_names, role_names, role_of_word, read_number, why_not}
-use Rattle.journal.specs.Fields.{Left, more, fault, next_of, taken, field_of, closed, file_of, checked_file, ended}
+use Rattle.journal.specs.Fields.{Left, more, fault, next_of, taken, field_of, lodged_field, closed, file_of, checked_file, ended}
 use Rattle.journal.specs.Fields.{Numbers, with_number, next_numbers, words_left, figures_of, list_of, on_lists, lists_of}
 use Rattle.journal.specs.Grammar.{Parsed, plain, are_marks, lengths_of, day_numbered, month_numbered}
 use Rattle.journal.specs.Grammar.{fresh_of, admit_of, cash_of, letter_of, lodge_of, release_of, settle_of}
@@ -37,9 +36,9 @@ use Rattle.printing.proofs.RoundTrip.{round_trip}
 
 -- ---- natural numbers and roles
 
-Small : Number → Type 0
-Small (Number.Value n) = Natural64 n
-Small Number.NoNumber = Unit {0}
+Small : Option ℕ → Type 0
+Small (Some n) = Natural64 n
+Small None = Unit {0}
 
 natural-small : (w : List ℕ) → Small (natural_of w)
 unfolding natural_of Small
@@ -50,10 +49,10 @@ unfolding role_of_word Small
 role-small w =
     split (ltb (place_in w role_names) 6) (λ t. rw t (omega (arith, ltb-true (place_in w role_names) 6 t))) (λ t. rw t (natural-small w))
 
-taken-small : (x : Number) (e : Reason) (l : Left) → Small x → Natural64 (taken x e l).value
+taken-small : (x : Option ℕ) (e : Reason) (l : Left) → Small x → Natural64 (taken x e l).value
 unfolding taken Small
-taken-small (Number.Value n) e l h = h
-taken-small Number.NoNumber e l h = omega arith
+taken-small (Some n) e l h = h
+taken-small None e l h = omega arith
 
 field-natural : (l : Left) → Natural64 (field_of Kind.Natural l).value
 unfolding field_of
@@ -71,9 +70,9 @@ month-small n = omega arith
 
 -- ---- the numbers of lists
 
-Held : Bool → Signed → Type 0
-Held m (Signed.Value z) = Holds m z
-Held m Signed.NoNumber = Unit {0}
+Held : Bool → Option ℤ → Type 0
+Held m (Some z) = Holds m z
+Held m None = Unit {0}
 
 negative-holds : (n : ℕ) → n ≤ 9223372036854775808 → Holds false (neg_ℤ (pos n))
 negative-holds zero h = omega arith
@@ -99,11 +98,11 @@ unfolding read_number
 read_held true w = unsigned-held true w
 read_held false w = signed-held w
 
-with-held : (m : Bool) (room : ℕ) (x : Signed) (l : Left) (rest : Numbers) → Held m x → All (Holds m) rest.numbers
+with-held : (m : Bool) (room : ℕ) (x : Option ℤ) (l : Left) (rest : Numbers) → Held m x → All (Holds m) rest.numbers
     → All (Holds m) (with_number room x l rest).numbers
 unfolding with_number Held
-with-held m room (Signed.Value z) l rest h a = split (eqb room 0) (λ t. rw t tt) (λ t. rw t (h, a))
-with-held m room Signed.NoNumber l rest h a = tt
+with-held m room (Some z) l rest h a = split (eqb room 0) (λ t. rw t tt) (λ t. rw t (h, a))
+with-held m room None l rest h a = tt
 
 numbers-held : (m : Bool) (room n : ℕ) (l : Left) → All (Holds m) (next_numbers m room n l).numbers
 unfolding next_numbers
@@ -182,7 +181,7 @@ unfolding lodge_of
 lodge-fits l =
     let p = field_of Kind.Natural l in
     let q = field_of Kind.Natural p.left in
-    let k = field_of Kind.Lodged q.left in
+    let k = lodged_field q.left in
     split (eqb k.value 0)
     (λ t. rw t (cash-fits p.value q.value k.left (field-natural l) (field-natural p.left)))
     (λ t. rw t (letter-fits p.value q.value k.left (field-natural l) (field-natural p.left)))

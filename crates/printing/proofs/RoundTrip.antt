@@ -24,10 +24,9 @@ use Rattle.journal.specs.Fields.{more, closed, file_of, checked_file, ended}
 use Rattle.journal.specs.Grammar.{plain, are_marks, fresh_of, admit_of, cash_of, letter_of, lodge_of, release_of, settle_of}
 use Rattle.journal.specs.Grammar.{length_list, total, annual_of, advance_of, statement_of, special_of, filed, batch_of, calls_of, named_call}
 use Rattle.journal.specs.Grammar.{words_of, parsed}
-use Rattle.words.specs.declared.numbers.Number.{Number}
+use Rattle.std.specs.Prelude.{Some}
 use Rattle.journal.specs.declared.Request.{Request}
 use Rattle.journal.specs.declared.Lengths.{Lengths}
-use Rattle.journal.specs.declared.fields.Kind.{Kind}
 use Rattle.words.proofs.WordLaws.{solid}
 use Rattle.journal.proofs.Room.{◌&◌}
 use Rattle.printing.specs.Decimals.{decimal, integer, joined}
@@ -36,7 +35,7 @@ use Rattle.printing.specs.Lines.{call_words, list_words, cut, printed, Natural64
 use Rattle.printing.proofs.PlainWords.{word_byte, IsWord, uncommented-line, no-control, joined_line, joined_words}
 use Rattle.printing.proofs.DecimalLaws.{decimal-word, integer-word}
 use Rattle.printing.proofs.HexLaws.{file-words, hex-hexadecimal, bytes_back}
-use Rattle.printing.proofs.FieldsBack.{field_back, natural-field, role-field, day-field, month-field, closed-back}
+use Rattle.printing.proofs.FieldsBack.{lodged_back, natural-field, role-field, day-field, month-field, closed-back}
 use Rattle.printing.proofs.FieldsBack.{same-day, same-month, figures-back, lists_back, cut-flat, cut-lengths}
 
 -- A line of words that a line can hold is parsed by those words.
@@ -97,11 +96,11 @@ at_name room k t ws = ap (λ (n : ℕ). named_call room n (more ws)) (place k t)
 
 -- The arguments of each call.
 
-lodged-cash : lodged_in (text "cash") ≡ Number.Value 0
+lodged-cash : lodged_in (text "cash") ≡ Some 0
 unfolding lodged_in place_in same lodged_names
 lodged-cash = refl
 
-lodged-letter : lodged_in (text "letter") ≡ Number.Value 1
+lodged-letter : lodged_in (text "letter") ≡ Some 1
 unfolding lodged_in place_in same lodged_names
 lodged-letter = refl
 
@@ -137,7 +136,7 @@ module _ (p q : ℕ) (h : Natural64 p) (g : Natural64 q) (ws : List (List ℕ)) 
       rw (
         natural-field p (decimal q ∷ text "cash" ∷ ws) h,
         natural-field q (text "cash" ∷ ws) g,
-        field_back Kind.Lodged (text "cash") ws 0 lodged-cash,
+        lodged_back (text "cash") ws 0 lodged-cash,
       )
 
   lodge-letter : lodge_of (more (decimal p ∷ decimal q ∷ text "letter" ∷ ws)) ≡ letter_of p q (more ws)
@@ -146,7 +145,7 @@ module _ (p q : ℕ) (h : Natural64 p) (g : Natural64 q) (ws : List (List ℕ)) 
       rw (
         natural-field p (decimal q ∷ text "letter" ∷ ws) h,
         natural-field q (text "letter" ∷ ws) g,
-        field_back Kind.Lodged (text "letter") ws 1 lodged-letter,
+        lodged_back (text "letter") ws 1 lodged-letter,
       )
 
 release-back : (p q a : ℕ) → Natural64 p → Natural64 q → Natural64 a

@@ -1,6 +1,6 @@
 pub mod Decimals
 pub mod Hex
 pub mod Lines
-pub mod Placed
-pub mod PlacedLaws
+pub mod Written
+pub mod WrittenLaws
 pub mod Answers

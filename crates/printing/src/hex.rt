@@ -1,48 +1,41 @@
 // Bytes as hexadecimal digits, two for each byte.
 ghost use Rattle.std.specs.Prelude.{◌≡◌};
-ghost use Rattle.printing.specs.Decimals.{spaced};
-ghost use Rattle.printing.specs.Hex.{last_hex, hex_byte, hex_bytes, hex_words};
-ghost use Rattle.printing.specs.Placed.{Put};
+ghost use Rattle.printing.specs.Hex.{last_hex, hex_byte, hex_bytes};
+ghost use Rattle.printing.specs.Written.{followed};
 
-use crate::bytes::{magnitude, put_byte, put_text};
+use crate::lent::{Out, Puts};
 
 // The last hexadecimal digit of a number, in lower case.
+#[tactic(auto, using(crate::proofs::HexLaws::last_small, crate::proofs::HexLaws::last_letter))]
 fn last_hex(n: u64) -> u8
     ensures { result ≡ last_hex n }
 {
     let d = (n % 16) as u8;
-    if d < 10 { 48 + d } else { 87 + d }
+    if d < 10 { b'0' + d } else { b'a' - 10 + d }
 }
 
 // The last two hexadecimal digits of a number without its minus.
-fn put_hex(out: &mut [u8], at: usize, z: i64) -> usize
-    ensures { Put (hex_byte z) out.old at result out.new }
+#[tactic(auto, using(crate::specs::WrittenLaws::followed_twice), unfolding(crate::specs::Hex::hex_byte))]
+fn put_hex(out: &mut Out, z: i64)
+    ensures { out.new ≡ followed out.old (hex_byte z) }
 {
-    let n = magnitude(z);
-    let next = put_byte(out, at, last_hex(n / 16));
-    put_byte(out, next, last_hex(n))
+    let n = z.unsigned_abs();
+    out.byte(last_hex(n / 16));
+    out.byte(last_hex(n))
 }
 
 // Bytes one after the other.
-fn put_hex_bytes(out: &mut [u8], at: usize, values: &[i64]) -> usize
-    ensures { Put (hex_bytes values.now) out.old at result out.new }
-{
-    let mut p = at;
-    let mut i = 0;
-    while i < values.len() {
-        p = put_hex(out, p, values[i]);
-        i += 1;
-    }
-    p
+#[derive(Clone, Copy)]
+pub struct Hex<'a> {
+    pub bytes: &'a [i64],
 }
 
-// A blank and the bytes of a file; nothing for an empty one.
-pub fn put_file(out: &mut [u8], at: usize, values: &[i64]) -> usize
-    ensures { Put (spaced (hex_words values.now)) out.old at result out.new }
-{
-    if values.len() == 0 {
-        return at;
+impl<'a> Puts for Hex<'a> {
+    ghost text = { λ h. hex_bytes h.bytes.now };
+
+    fn put_in(self, out: &mut Out) {
+        for z in self.bytes {
+            put_hex(out, *z);
+        }
     }
-    let next = put_text(out, at, b" ");
-    put_hex_bytes(out, next, values)
 }

@@ -4,15 +4,15 @@
 use calendar::Day;
 use journal::Reason;
 
-mod bytes; // bytes.rt: texts and numbers written into a lent slice
+mod lent; // lent.rt: texts written into lent bytes, one behind the other
+mod numbers; // numbers.rt: numbers in decimal
 mod hex; // hex.rt: bytes as hexadecimal digits
-mod spaced; // spaced.rt: numbers after a word, with a blank before each
 mod calls; // calls.rt: the lines of calls
 mod answers; // answers.rt: the lines of answers
 
-pub use answers::{put_answer, put_reason};
-pub use bytes::{last_digit, put_byte, put_integer, put_number, put_text};
-pub use calls::{end_of, put_call};
+pub use calls::{CallLine, end_of};
+pub use lent::{Out, Puts};
+pub use numbers::last_digit;
 
 // An answer to a line: E is the sum of a settlement's figures, ASKED what a call asks for and LAST_FREE_DAY its last free day; the amount
 // and the months of an annual run; the days opened; a statement's firm amount, cover, shortfall, days charged and accrued charge; the calls
@@ -21,6 +21,7 @@ pub use calls::{end_of, put_call};
 #[derive(Clone, Copy)]
 pub enum Answer {
     Done,
+    // Kept: what is printed is the number, which the specs' answers carry too, so an enum of the causes would be turned back into it here.
     Refused(u32),
     Called(u64, u64, Day),
     Covered(i64),

@@ -8,9 +8,8 @@ use mathlib.Core.List.{List, [], ◌∷◌}
 use borrow.Author.Tests.{ltb-false}
 use lib.Dec.{ltb}
 use lib.ListN.{length}
-use lib.IntN.{ℤ, pos, nat_abs}
+use lib.IntN.{ℤ, nat_abs}
 use Rattle.laws.specs.Cases.{split, by-test}
-use Rattle.laws.specs.Read.{read, read-abs}
 use Rattle.laws.specs.Tabulated.{length-table}
 use Rattle.calendar.specs.Civil.{month_of}
 use Rattle.manual.specs.Figures.{sum_of}
@@ -33,8 +32,8 @@ use Rattle.layout.specs.Parts.{slot_of_words}
 use Rattle.layout.specs.Files.{slots_of_words, file_of_words, words_at}
 use Rattle.layout.specs.Words.{place, book_of_words}
 use Rattle.layout.specs.WellFormed.{WellFormed}
-use Rattle.batch.specs.declared.Form.{Form}
-use Rattle.batch.specs.declared.Form.TheVariants.{Parts, Refused}
+use Rattle.std.specs.Prelude.{Result, Ok, Err}
+use Rattle.batch.specs.declared.Misfit.{Misfit}
 use Rattle.batch.specs.Batch.{form_of}
 use Rattle.book.specs.Call.{Act, admit, lodge, release, settle, annual_run, Call, on, advance, statement, calls_made, batch}
 use Rattle.book.specs.Call.{first_refused, batch_says}
@@ -43,28 +42,10 @@ use Rattle.book.specs.Account.{file_at, if_numbered, if_admitted, file_answer, p
 use Rattle.book.proofs.Participant.Lawful.{NoneHolds}
 use Rattle.book.specs.Reached.{Given}
 use Rattle.book.specs.InWords.{GivenWords}
-use Rattle.replay.specs.Encoding.{largest_signed, six, WithinSigned}
+use Rattle.replay.specs.Encoding.{WithinSigned}
 use Rattle.book.proofs.Participant.Decide.{decide_true, decide-false}
 use Rattle.book.proofs.Functions.SoundBook.{sound-file, sound-made}
 use Rattle.book.proofs.Functions.OnWords.{file-there}
-
--- What a signed word that was made of a number reads.
-read_back : (n : ℕ) (z : ℤ) → n ≤ largest_signed → z ≡ pos n → read z ≡ pos n
-read_back n z h e = ap read e ∙ read-abs (pos n) (omega arith)
-
--- Six words.
-pub six-read : (k a b c : ℕ) (w x y z : ℤ) → (k ≤ 10) × (a ≤ largest_signed) × (b ≤ largest_signed) × (c ≤ largest_signed)
-    → w ≡ pos k → x ≡ pos a → y ≡ pos b → z ≡ pos c
-    → read w ∷ read x ∷ read y ∷ read z ∷ pos 0 ∷ pos 0 ∷ [] ≡ six k (pos a) (pos b) (pos c) (pos 0) (pos 0)
-six-read k a b c w x y z h p q r s =
-    simp (read_back k w (omega (arith, h.0)) p, read_back a x h.1 q, read_back b y h.2 r, read_back c z h.3 s)
-
-pub five-read : (a b c d e : ℕ) (v w x y z : ℤ)
-    → (a ≤ largest_signed) × (b ≤ largest_signed) × (c ≤ largest_signed) × (d ≤ largest_signed) × (e ≤ largest_signed)
-    → v ≡ pos a → w ≡ pos b → x ≡ pos c → y ≡ pos d → z ≡ pos e
-    → pos 7 ∷ read v ∷ read w ∷ read x ∷ read y ∷ read z ∷ [] ≡ six 7 (pos a) (pos b) (pos c) (pos d) (pos e)
-five-read a b c d e v w x y z h p q r s t =
-    simp (read_back a v h.0 p, read_back b w h.1 q, read_back c x h.2 r, read_back d y h.3 s, read_back e z h.4 t)
 
 -- ---- the bounds of an answer's numbers
 
@@ -126,10 +107,10 @@ eight l p h =
     ∙ length-table 8 (λ k. slot_of_words (w (9 + 4 * k)) (w (10 + 4 * k)) (w (11 + 4 * k)) (w (12 + 4 * k)))
 
 -- A batch's are small by its bytes.
-batch-within : (form : Form) (answers : ℕ → Answer) → WithinSigned (batch_says form answers)
+batch-within : (form : Result ℕ Misfit) (answers : ℕ → Answer) → WithinSigned (batch_says form answers)
 unfolding batch_says
-batch-within (Refused n i) answers = tt
-batch-within (Parts n) answers =
+batch-within (Err m) answers = tt
+batch-within (Ok n) answers =
     by-test (ltb (first_refused answers n) n) _ (batched n) WithinSigned (λ e. tt) (λ e. tt)
 
 -- The numbers of every answer of a book in well-formed words are within.
@@ -155,3 +136,5 @@ asked-within l c x w g = subst WithinSigned (sym g.answered) (answer-within l c 
 
 pub given-within : (l m : List ℕ) (c : Call) (x : Answer) → WellFormed l → GivenWords l c x m → WithinSigned x
 given-within l m c x w g = subst WithinSigned (sym g.given.answered) (answer-within l c w)
+
+pub ruleset within = (asked-within, given-within)

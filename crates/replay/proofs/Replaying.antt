@@ -1,150 +1,35 @@
 -- A call given as words gives what the call gives, and the calls of a list, in turn, give what the list does.
 -- Assumes nothing.
-use Prim.Native.Nat.{ℕ, zero, suc, ◌+◌, ◌-◌, ◌*◌, ◌/◌, ◌^◌, ◌≤◌, ◌<◌, min}
+use Prim.Native.Nat.{ℕ, zero, suc, ◌+◌, ◌*◌, ◌/◌, ◌≤◌, ◌<◌, min}
 use native.Mathlib.Omega.{arith}
 use native.Mathlib.Numerals.{add-one}
 use mathlib.Core.Path.{◌≡◌, refl, sym, ap, ap₂, subst, ◌∙◌}
 use mathlib.Core.Bool.{Bool, true, false, cond}
 use mathlib.Core.List.{List, ◌++◌}
-use borrow.Author.Rules.{sfits_of}
-use borrow.Author.Tests.{ne_eqb, lt-ltb, le-ltb}
-use lib.IntN.{ℤ, pos}
-use lib.Signed.{mag}
-use lib.ListN.{length, get_or, take, drop, set, length-append, length-drop}
-use lib.Seq.{paste, paste-suc, take_all, take_at, drop_at, drop-drop}
-use mir.Syntax.{w64}
-use mir.Val.{hbits, to_z, of_z}
-use mir.Facts.{to_z-of_z}
-use Rattle.laws.specs.Clipped.{take-clipped, drop-clipped}
-use Rattle.file.specs.declared.Position.{Position}
-use Rattle.file.specs.declared.Position.TheVariants.{Cash, Letter}
+use borrow.Author.Tests.{lt-ltb, le-ltb, ltb-true, ltb-false}
+use Rattle.laws.specs.Cases.{split, clash}
+use Rattle.file.specs.DecideLaws.{none-holds}
+use lib.IntN.{ℤ}
+use lib.Dec.{ltb}
+use lib.ListN.{length, take, drop, length-append, length-drop}
+use lib.Seq.{take_at, drop_at, drop-drop}
 use Rattle.file.specs.Answer.{Answer, refused, done, called, covered, recorded, annual, days_opened, stated, counted, batched, refused_pair}
 use Rattle.file.specs.Answer.{decide, accepted}
 use Rattle.layout.specs.Book.{Book}
 use Rattle.layout.specs.Words.{book_length, book_of_words}
 use Rattle.layout.specs.WellFormed.{WellFormed}
-use Rattle.book.specs.Call.{admit, lodge, release, settle, annual_run, Call, on, advance, statement, calls_made, batch}
-use Rattle.book.specs.Rule.{Rule, old_rule, new_rule}
+use Rattle.book.specs.Call.{Call}
+use Rattle.book.specs.Rule.{old_rule, new_rule}
 use Rattle.book.specs.Account.{fresh_book, fresh_answer, fresh_book_beside, applied, answer, step, run}
 use Rattle.book.specs.Reading.Decisions.{decision, events_of}
-use Rattle.book.specs.Reached.{Given, Reached, Begun}
-use Rattle.book.specs.InWords.{GivenWords, GivenFirstWords, BegunWords}
-use Rattle.replay.specs.Encoding.{number, letter_of_numbers, call_of_six, call_at, first_calls, since_calls, history_up_to}
+use Rattle.book.specs.Reached.{Reached, Begun}
+use Rattle.book.specs.InWords.{BegunWords}
+use Rattle.replay.specs.Encoding.{call_at, first_calls, since_calls, history_up_to}
 use Rattle.replay.specs.Encoding.{rule_of, rule_of_place, six_numbers, decided}
 use Rattle.replay.specs.Replayed.{GivenNumbers, call_count, Replayed, ReplayedFrom}
 use Rattle.book.proofs.History.Life.{life}
 use Rattle.book.proofs.History.Lift as Lift
-use Rattle.replay.proofs.Stretches.{admits, alike, admits-six, history-none, history-next}
-
--- ---- the numbers of what a public call gives
-
-gave : (l m : List ℕ) (c : Call) (x : Answer) (z : List ℤ) → GivenWords l c x m → z ≡ six_numbers x → GivenNumbers new_rule l c z m
-gave l m c x z g h = record { answered = h ∙ ap six_numbers g.given.answered; left = g.given.left; formed = g.formed }
-
-gave-first : (l m : List ℕ) (c : Call) (x : Answer) (z : List ℤ) → GivenFirstWords l c x m → z ≡ six_numbers x → GivenNumbers old_rule l c z m
-gave-first l m c x z g h = record { answered = h ∙ ap six_numbers g.given.answered; left = g.given.left; formed = g.formed }
-
--- A question leaves the words as they were.
-asked : (l : List ℕ) (c : Call) (x : Answer) (z : List ℤ) → WellFormed l → Given (book_of_words l) c x (book_of_words l) → z ≡ six_numbers x
-    → GivenNumbers new_rule l c z l
-asked l c x z w g h = record { answered = h ∙ ap six_numbers g.answered; left = g.left; formed = w }
-
--- A letter is as its words say.
-pub letter-is : (a first last x y : ℕ) → x ≡ number first → y ≡ number last
-    → Letter a (record { 0 = x }) (record { 0 = y }) ≡ letter_of_numbers a first last
-letter-is a first last x y p q = λ i. Letter a (record { 0 = p i }) (record { 0 = q i })
-
--- A part of a list whose ends are clipped to its length.
-pub part-is : {A : Type 0} (l : List A) (from count start n : ℕ) → start ≡ min from (length l) → n ≡ min count (length l - start)
-    → take (start + n - start) (drop start l) ≡ take count (drop from l)
-part-is l from count start n p q =
-    let e : start + n - start ≡ n = omega arith in
-    ap (λ (z : ℕ). take z (drop start l)) e
-    ∙ take-clipped count n (drop start l) (q ∙ ap (min count) (sym (length-drop start l)))
-    ∙ ap (take count) (drop-clipped from start l p)
-
--- ---- which call the words are
-
-module _ (figures : List ℤ) (files : List ℕ) (k a b c d e : ℕ) (l : List ℕ) (z : List ℤ) where
-  -- The call is this one.
-  is_call : (rule : Rule) (m : List ℕ) (call : Call) → call_of_six figures files k a b c d e ≡ call → GivenNumbers rule l call z m
-      → GivenNumbers rule l (call_of_six figures files k a b c d e) z m
-  is_call rule m call p g = subst (λ (y : Call). GivenNumbers rule l y z m) (sym p) g
-
-  -- A kind below 9 is the named one.
-  of-kind : (rule : Rule) (m : List ℕ) (n : ℕ) (call : Call) → k ≡ n → call_of_six figures files n a b c d e ≡ call → GivenNumbers rule l call z m
-      → GivenNumbers rule l (call_of_six figures files k a b c d e) z m
-  of-kind rule m n call p q g = is_call rule m call (ap (λ (y : ℕ). call_of_six figures files y a b c d e) p ∙ q) g
-
-  module _ (x : Answer) (m : List ℕ) (h : z ≡ six_numbers x) where
-    pub as-admit : k ≡ 0 → GivenWords l (on a (admit b)) x m → GivenNumbers new_rule l (call_of_six figures files k a b c d e) z m
-    unfolding call_of_six
-    as-admit p g = of-kind new_rule m 0 (on a (admit b)) p refl (gave l m (on a (admit b)) x z g h)
-
-    pub as-first-admit : k ≡ 0 → GivenFirstWords l (on a (admit b)) x m → GivenNumbers old_rule l (call_of_six figures files k a b c d e) z m
-    unfolding call_of_six
-    as-first-admit p g = of-kind old_rule m 0 (on a (admit b)) p refl (gave-first l m (on a (admit b)) x z g h)
-
-    pub as-cash : k ≡ 1 → GivenWords l (on a (lodge b (Cash c))) x m → GivenNumbers new_rule l (call_of_six figures files k a b c d e) z m
-    unfolding call_of_six
-    as-cash p g = of-kind new_rule m 1 (on a (lodge b (Cash c))) p refl (gave l m (on a (lodge b (Cash c))) x z g h)
-
-    pub as-letter : (held : Position) → k ≡ 2 → held ≡ letter_of_numbers c d e → GivenWords l (on a (lodge b held)) x m
-        → GivenNumbers new_rule l (call_of_six figures files k a b c d e) z m
-    unfolding call_of_six
-    as-letter held p q g =
-        of-kind new_rule m 2 (on a (lodge b held)) p (ap (λ (y : Position). on a (lodge b y)) (sym q)) (gave l m (on a (lodge b held)) x z g h)
-
-    pub as-release : k ≡ 3 → GivenWords l (on a (release b c)) x m → GivenNumbers new_rule l (call_of_six figures files k a b c d e) z m
-    unfolding call_of_six
-    as-release p g = of-kind new_rule m 3 (on a (release b c)) p refl (gave l m (on a (release b c)) x z g h)
-
-    pub as-settle : (mo : ℕ) (lent : List ℤ) → k ≡ 4 → mo ≡ number b → lent ≡ take d (drop c figures)
-        → GivenWords l (on a (settle mo lent)) x m → GivenNumbers new_rule l (call_of_six figures files k a b c d e) z m
-    unfolding call_of_six
-    as-settle mo lent p q r g =
-        of-kind new_rule m 4 (on a (settle mo lent)) p (ap₂ (λ (y : ℕ) (f : List ℤ). on a (settle y f)) (sym q) (sym r))
-        (gave l m (on a (settle mo lent)) x z g h)
-
-    pub as-annual : k ≡ 5 → GivenWords l (on a annual_run) x m → GivenNumbers new_rule l (call_of_six figures files k a b c d e) z m
-    unfolding call_of_six
-    as-annual p g = of-kind new_rule m 5 (on a annual_run) p refl (gave l m (on a annual_run) x z g h)
-
-    pub as-advance : (day : ℕ) → k ≡ 6 → day ≡ number a → GivenWords l (advance day b) x m
-        → GivenNumbers new_rule l (call_of_six figures files k a b c d e) z m
-    unfolding call_of_six
-    as-advance day p q g =
-        of-kind new_rule m 6 (advance day b) p (ap (λ (y : ℕ). advance y b) (sym q)) (gave l m (advance day b) x z g h)
-
-    pub as-batch : (file : List ℕ) → k ≡ 8 → file ≡ take b (drop a files) → GivenWords l (batch file) x m
-        → GivenNumbers new_rule l (call_of_six figures files k a b c d e) z m
-    unfolding call_of_six
-    as-batch file p q g = of-kind new_rule m 8 (batch file) p (ap batch (sym q)) (gave l m (batch file) x z g h)
-
-  module _ (x : Answer) (w : WellFormed l) (h : z ≡ six_numbers x) where
-    pub as-statement : k ≡ 7 → Given (book_of_words l) (statement a) x (book_of_words l)
-        → GivenNumbers new_rule l (call_of_six figures files k a b c d e) z l
-    unfolding call_of_six
-    as-statement p g = of-kind new_rule l 7 (statement a) p refl (asked l (statement a) x z w g h)
-
-    -- A kind above 8.
-    pub as-count : (k ≡ 0 → ⊥) → (k ≡ 1 → ⊥) → (k ≡ 2 → ⊥) → (k ≡ 3 → ⊥) → (k ≡ 4 → ⊥) → (k ≡ 5 → ⊥) → (k ≡ 6 → ⊥) → (k ≡ 7 → ⊥)
-        → (k ≡ 8 → ⊥) → Given (book_of_words l) calls_made x (book_of_words l) → GivenNumbers new_rule l (call_of_six figures files k a b c d e) z l
-    unfolding call_of_six
-    as-count n₀ n₁ n₂ n₃ n₄ n₅ n₆ n₇ n₈ g =
-        is_call new_rule l calls_made
-        (simp (
-          ne_eqb k 0 n₀,
-          ne_eqb k 1 n₁,
-          ne_eqb k 2 n₂,
-          ne_eqb k 3 n₃,
-          ne_eqb k 4 n₄,
-          ne_eqb k 5 n₅,
-          ne_eqb k 6 n₆,
-          ne_eqb k 7 n₇,
-          ne_eqb k 8 n₈,
-        ))
-        (asked l calls_made x z w g h)
+use Rattle.replay.proofs.Stretches.{admits, alike, history-none, history-next}
 
 -- ---- the rule that a call is made under
 
@@ -159,37 +44,11 @@ given-alike l m c z n g =
       formed = g.formed;
     }
 
--- A call of the first stretch: an admission, or any other; and one since.
-module _ (figures : List ℤ) (files : List ℕ) (old : Bool) (k a b c d e : ℕ) (l m : List ℕ) (z : List ℤ) where
-  pub first-admit : (x : Answer) → old ≡ true → k ≡ 0 → GivenFirstWords l (on a (admit b)) x m → z ≡ six_numbers x
-      → GivenNumbers (rule_of old) l (call_of_six figures files k a b c d e) z m
-  first-admit x p q g h = rw p (as-first-admit figures files k a b c d e l z x m h q g)
-
-  pub first-other : old ≡ true → (k ≡ 0 → ⊥) → GivenNumbers new_rule l (call_of_six figures files k a b c d e) z m
-      → GivenNumbers (rule_of old) l (call_of_six figures files k a b c d e) z m
-  first-other p n g = rw p (given-alike l m (call_of_six figures files k a b c d e) z (admits-six figures files k a b c d e n) g)
-
-  pub since-any : old ≡ false → GivenNumbers new_rule l (call_of_six figures files k a b c d e) z m
-      → GivenNumbers (rule_of old) l (call_of_six figures files k a b c d e) z m
-  since-any p g = rw p g
-
--- ---- six numbers are written
-
--- One more of them.
-pub put_next : (out₀ out numbers : List ℤ) (at i : ℕ) → at + 6 ≤ length out₀ → length numbers ≡ 6 → i < 6
-    → mag (get_or numbers i (pos 0)) < 2 ^ hbits w64 → out ≡ paste out₀ at numbers i
-    → set out (at + i) (to_z w64 (of_z w64 (get_or numbers i (pos 0)))) ≡ paste out₀ at numbers (i + 1)
-put_next out₀ out numbers at i room six low held e =
-    ap₂ (λ (l : List ℤ) (z : ℤ). set l (at + i) z) e (to_z-of_z {w = w64} {z = get_or numbers i (pos 0)} (sfits_of held))
-    ∙ paste-suc out₀ at numbers i (pos 0) (omega arith) (omega arith)
-    ∙ ap (paste out₀ at numbers) (sym (add-one i))
-
--- All of them.
-pub put_all : (out₀ out numbers : List ℤ) (at i : ℕ) → length numbers ≡ 6 → i ≤ 6 → 6 ≤ i → out ≡ paste out₀ at numbers i
-    → out ≡ take at out₀ ++ numbers ++ drop (at + 6) out₀
-put_all out₀ out numbers at i six low high e =
-    let q : i ≡ 6 = omega arith in
-    e ∙ ap (paste out₀ at numbers) q ∙ ap (λ (l : List ℤ). take at out₀ ++ l ++ drop (at + 6) out₀) (take_all 6 numbers (omega arith))
+-- A call of the first stretch that is no admission, and one since.
+pub under-either : (old : Bool) (l m : List ℕ) (c : Call) (z : List ℤ) → (old ≡ true → admits c ≡ false) → GivenNumbers new_rule l c z m
+    → GivenNumbers (rule_of old) l c z m
+under-either true l m c z other g = given-alike l m c z (other refl) g
+under-either false l m c z other g = g
 
 -- ---- the calls in turn
 
@@ -238,15 +97,24 @@ begun-today : (d : ℕ) (x : Answer) (b : Book) → d ≤ 29219 → Begun d x b 
 unfolding fresh_book
 begun-today d x b h g = ap (λ (z : Book). z.today.0) (begun-on d x b h g)
 
+-- A fresh book is refused on a later day alone.
+begun-within : (d : ℕ) → done ≡ fresh_answer d → d ≤ 29219
+unfolding fresh_answer
+begun-within d e = ltb-false 29219 d (none-holds _ done (ap accepted (sym e))).0
+
+begun-above : (d n : ℕ) → refused n ≡ fresh_answer d → 29219 < d
+unfolding fresh_answer decide
+begun-above d n e = split (ltb 29219 d) (λ t. ltb-true 29219 d t) (λ f. clash {t = true} refl (ap accepted (sym (rw f at e))))
+
 -- A refusal.
-pub turn-none : (calls : List ℕ) (figures : List ℤ) (files : List ℕ) (out : List ℤ) (d first : ℕ) (x : Answer) (m : List ℕ)
-    → 29219 < d → BegunWords d x m
-    → ReplayedFrom d first calls figures files out out x m
-turn-none calls figures files out d first x m h g =
+pub turn-none : (calls : List ℕ) (figures : List ℤ) (files : List ℕ) (out : List ℤ) (d first n : ℕ) (m : List ℕ) → BegunWords d (refused n) m
+    → ReplayedFrom d first calls figures files out out (refused n) m
+turn-none calls figures files out d first n m g =
+    let h = begun-above d n g.begun.answered in
     record {
       answered = g.begun.answered;
       replayed = λ k. absurd (omega arith);
-      late = λ k. (refl, begun-late d x (book_of_words m) h g.begun);
+      late = λ k. (refl, begun-late d (refused n) (book_of_words m) h g.begun);
       formed = g.formed;
     }
 
@@ -259,12 +127,12 @@ abbrev pub first_day : List ℕ → ℕ
 first_day m = (book_of_words m).today.0
 
 -- No call yet.
-pub turn-first : (calls : List ℕ) (figures : List ℤ) (files : List ℕ) (out : List ℤ) (d first count : ℕ) (x : Answer) (m : List ℕ)
-    → d ≤ 29219 → BegunWords d x m
+pub turn-first : (calls : List ℕ) (figures : List ℤ) (files : List ℕ) (out : List ℤ) (d first count : ℕ) (m : List ℕ) → BegunWords d done m
     → count ≡ min (length calls / 6) (length out / 6) → Turn calls figures files out (first_day m) first count 0 out m
 unfolding decided run
-turn-first calls figures files out d first count x m h g e =
-    let t = begun-today d x (book_of_words m) h g.begun in
+turn-first calls figures files out d first count m g e =
+    let h = begun-within d g.begun.answered in
+    let t = begun-today d done (book_of_words m) h g.begun in
     record {
       day = omega arith;
       all = e;
@@ -272,7 +140,7 @@ turn-first calls figures files out d first count x m h g e =
       long = refl;
       written = refl;
       left =
-          begun-on d x (book_of_words m) h g.begun
+          begun-on d done (book_of_words m) h g.begun
           ∙ ap fresh_book (sym t)
           ∙ ap (run (first_day m)) (sym (history-none first calls figures files));
       formed = g.formed;
@@ -377,16 +245,19 @@ turn-all calls figures files out₀ s first count i out m t h =
       reached = turn-reached calls figures files out₀ s first count i out m t;
     })
 
-pub turn_last : (calls : List ℕ) (figures : List ℤ) (files : List ℕ) (out₀ out : List ℤ) (d first count i : ℕ) (x : Answer) (m₀ m : List ℕ)
-    → d ≤ 29219 → BegunWords d x m₀ → Turn calls figures files out₀ (first_day m₀) first count i out m → count ≤ i
-    → ReplayedFrom d first calls figures files out₀ out x m
-turn_last calls figures files out₀ out d first count i x m₀ m h g t k =
+pub turn_last : (calls : List ℕ) (figures : List ℤ) (files : List ℕ) (out₀ out : List ℤ) (d first count i : ℕ) (m₀ m : List ℕ)
+    → BegunWords d done m₀ → Turn calls figures files out₀ (first_day m₀) first count i out m → count ≤ i
+    → ReplayedFrom d first calls figures files out₀ out done m
+turn_last calls figures files out₀ out d first count i m₀ m g t k =
+    let h = begun-within d g.begun.answered in
     record {
       answered = g.begun.answered;
       replayed = λ low.
           subst (λ (s : ℕ). Replayed s first (call_count calls out₀) calls figures files out₀ out (book_of_words m))
-          (begun-today d x (book_of_words m₀) h g.begun)
+          (begun-today d done (book_of_words m₀) h g.begun)
           (turn-all calls figures files out₀ (first_day m₀) first count i out m t k);
       late = λ high. absurd (omega arith);
       formed = t.formed;
     }
+
+pub ruleset turns = (begun-long, turn-formed, turn-long, turn-words, turn-room)

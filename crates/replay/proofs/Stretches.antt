@@ -3,17 +3,20 @@
 use Prim.Native.Nat.{ℕ, suc, ◌+◌, ◌-◌, ◌≤◌, ◌<◌, min}
 use native.Mathlib.Omega.{arith}
 use mathlib.Core.Path.{◌≡◌, refl, sym, ap, ap₂, ◌∙◌}
-use mathlib.Core.Bool.{Bool, true, false, cond}
+use mathlib.Core.Bool.{Bool, true, false}
 use mathlib.Core.List.{List, [], ◌∷◌}
-use borrow.Author.Tests.{ne_eqb, ltb-true, ltb-false}
-use lib.Dec.{ltb, eqb}
+use borrow.Author.Tests.{ltb-true, ltb-false}
+use lib.Dec.{ltb}
 use lib.IntN.{ℤ}
 use Rattle.laws.specs.Cases.{split}
 use Rattle.layout.specs.Book.{Book}
 use Rattle.book.specs.Call.{admit, lodge, release, settle, annual_run, Call, on, advance, statement, calls_made, batch}
 use Rattle.book.specs.Rule.{old_rule, new_rule, under, history}
 use Rattle.book.specs.Account.{answer}
-use Rattle.replay.specs.Encoding.{call_of_six, call_at, calls_from, history_up_to, rule_of_place}
+use Rattle.replay.specs.declared.call.Call.{Call as Case}
+use Rattle.replay.specs.declared.call.Call.TheVariants as Cases
+use Rattle.replay.specs.Said.{said}
+use Rattle.replay.specs.Encoding.{call_at, calls_from, history_up_to, rule_of_place}
 
 -- ---- only admission changes
 
@@ -42,23 +45,17 @@ alike (statement p) e b = refl
 alike calls_made e b = refl
 alike (batch file) e b = refl
 
--- Of two calls that are none the chosen one is none; so kind 0 only is an admission.
-neither : (t : Bool) (x y : Call) → admits x ≡ false → admits y ≡ false → admits (cond t x y) ≡ false
-neither true x y p q = p
-neither false x y p q = q
-
-pub admits-six : (figures : List ℤ) (files : List ℕ) (k a b c d e : ℕ) → (k ≡ 0 → ⊥) → admits (call_of_six figures files k a b c d e) ≡ false
-unfolding call_of_six
-admits-six figures files k a b c d e n =
-    rw (ne_eqb k 0 n)
-    (neither (eqb k 1) _ _ refl
-    (neither (eqb k 2) _ _ refl
-    (neither (eqb k 3) _ _ refl
-    (neither (eqb k 4) _ _ refl
-    (neither (eqb k 5) _ _ refl
-    (neither (eqb k 6) _ _ refl
-    (neither (eqb k 7) _ _ refl
-    (neither (eqb k 8) _ _ refl refl))))))))
+-- A call whose case is no admission is none.
+pub other_case : (c : Case) → ((p role : ℕ) → c ≡ Cases.Admit p role → ⊥) → admits (said c) ≡ false
+other_case (Cases.Admit p role) n = absurd (n p role refl)
+other_case (Cases.Lodge p k holding) n = refl
+other_case (Cases.Release p k amount) n = refl
+other_case (Cases.Settle p month figures) n = refl
+other_case (Cases.AnnualRun p) n = refl
+other_case (Cases.Advance day budget) n = refl
+other_case (Cases.Statement p) n = refl
+other_case (Cases.Load file) n = refl
+other_case Cases.CallsMade n = refl
 
 -- ---- the history of the calls so far
 

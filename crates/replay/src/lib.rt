@@ -2,6 +2,7 @@
 #![tactic(auto)]
 
 mod apply;
+mod call;
 mod encoded;
 mod history;
 

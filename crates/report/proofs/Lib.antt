@@ -1,4 +1,3 @@
 pub mod ColumnLaws
-pub mod DateLaws
 pub mod TableLaws
 pub mod Examples

@@ -1,32 +1,27 @@
-// Texts and numbers in columns, written into a lent slice as `printing` does.
-ghost use Rattle.std.specs.Prelude.{◌≡◌, ◌-◌, ◌^◌, length, replicate};
+// Texts and numbers in columns.
+ghost use Rattle.std.specs.Prelude.{◌≡◌, ◌-◌, ◌/◌, ◌^◌, length};
 ghost use Rattle.printing.specs.Decimals.{decimal};
-ghost use Rattle.printing.specs.Placed.{Put};
+ghost use Rattle.printing.specs.Written.{followed};
 ghost use Rattle.report.specs.Columns.{padded, digits, fixed};
 
-use printing::{last_digit, put_byte, put_number, put_text};
+use printing::{Out, Puts, last_digit};
 
-// What is left of a width behind a text of so many bytes.
-fn left_of(width: usize, taken: usize) -> usize
-    ensures { result ≡ width - taken }
-{
-    if taken < width { width - taken } else { 0 }
+// What has a text that is measured before it is written.
+pub trait Measured: Puts {
+    // How many bytes the text leaves of a width.
+    fn left_of(&self, width: usize) -> usize
+        ensures { result ≡ width - length (Self.text self.now) };
 }
 
-// So many blanks.
-fn put_blanks(out: &mut [u8], at: usize, n: usize) -> usize
-    ensures { Put (replicate n 32) out.old at result out.new }
-{
-    let mut p = at;
-    let mut i = 0;
-    while i < n {
-        p = put_byte(out, p, 32);
-        i += 1;
+impl<'a> Measured for &'a [u8] {
+    fn left_of(&self, width: usize) -> usize {
+        let bytes: &[u8] = *self;
+        width.saturating_sub(bytes.len())
     }
-    p
 }
 
 // How many digits a number has.
+#[tactic(auto, using(crate::proofs::ColumnLaws::count_small, crate::proofs::ColumnLaws::count_large, crate::proofs::ColumnLaws::count_fits))]
 fn digit_count(n: u64) -> usize
     ensures { result ≡ length (decimal n) }
 {
@@ -36,56 +31,78 @@ fn digit_count(n: u64) -> usize
     digit_count(n / 10) + 1
 }
 
-// The last so many digits of a number, with their zeros.
-pub fn put_digits(out: &mut [u8], at: usize, count: usize, n: u64) -> usize
-    ensures { Put (digits count n) out.old at result out.new }
-{
-    if count == 0 {
-        return at;
+impl Measured for u64 {
+    fn left_of(&self, width: usize) -> usize {
+        width.saturating_sub(digit_count(*self))
     }
-    let next = put_digits(out, at, count - 1, n / 10);
-    put_byte(out, next, last_digit(n))
 }
 
-// A text in a column.
-pub fn put_text_in(out: &mut [u8], at: usize, width: usize, text: &[u8]) -> usize
-    ensures { Put (padded width text.now) out.old at result out.new }
+// The last so many digits of a number, with their zeros.
+#[tactic(auto, using(crate::proofs::ColumnLaws::digits_none, crate::proofs::ColumnLaws::digits_more))]
+pub fn put_digits(out: &mut Out, count: usize, n: u64)
+    ensures { out.new ≡ followed out.old (digits count n) }
 {
-    let next = put_blanks(out, at, left_of(width, text.len()));
-    put_text(out, next, text)
+    if 0 < count {
+        put_digits(out, count - 1, n / 10);
+        out.byte(last_digit(n));
+    }
 }
 
-// A natural number in a column.
-pub fn put_number_in(out: &mut [u8], at: usize, width: usize, n: u64) -> usize
-    ensures { Put (padded width (decimal n)) out.old at result out.new }
+// A number without its last digits.
+#[tactic(auto, using(crate::proofs::ColumnLaws::all_wholes, crate::proofs::ColumnLaws::tenth_wholes))]
+fn wholes(places: usize, n: u64) -> u64
+    ensures { result ≡ n / 10 ^ places }
 {
-    let next = put_blanks(out, at, left_of(width, digit_count(n)));
-    put_number(out, next, n)
+    let mut left = n;
+    for _ in 0..places {
+        left /= 10;
+    }
+    left
 }
 
-// A number with a point: the wholes of so many parts each, and the digits behind the point.
-fn put_fixed(out: &mut [u8], at: usize, places: usize, unit: u64, n: u64) -> usize
-    requires { unit ≡ 10 ^ places }
-    ensures { Put (fixed places n) out.old at result out.new }
-{
-    let next = put_number(out, at, n / unit);
-    let after = put_byte(out, next, 46);
-    put_digits(out, after, places, n)
+// A number of parts, of which a whole has 10^PLACES.
+#[derive(Clone, Copy)]
+pub struct Fixed<const PLACES: usize> {
+    pub parts: u64,
 }
 
-// A number with a point in a column.
-pub fn put_fixed_in(
-    out: &mut [u8],
-    at: usize,
-    width: usize,
-    places: usize,
-    unit: u64,
-    n: u64,
-) -> usize
-    requires { unit ≡ 10 ^ places }
-    ensures { Put (padded width (fixed places n)) out.old at result out.new }
-{
-    let before_point = left_of(left_of(width, 1), places);
-    let next = put_blanks(out, at, left_of(before_point, digit_count(n / unit)));
-    put_fixed(out, next, places, unit, n)
+// The wholes, a point, and the digits behind it.
+impl<const PLACES: usize> Puts for Fixed<PLACES> {
+    ghost text = { λ f. fixed PLACES f.parts };
+
+    #[tactic(auto, using(printing::specs::WrittenLaws::followed_twice), unfolding(crate::specs::Columns::fixed))]
+    fn put_in(self, out: &mut Out) {
+        out.put(wholes(PLACES, self.parts));
+        out.byte(b'.');
+        put_digits(out, PLACES, self.parts)
+    }
+}
+
+impl<const PLACES: usize> Measured for Fixed<PLACES> {
+    #[tactic(auto, using(crate::proofs::ColumnLaws::fixed_count))]
+    fn left_of(&self, width: usize) -> usize {
+        let behind_wholes = width.saturating_sub(1).saturating_sub(PLACES);
+        wholes(PLACES, self.parts).left_of(behind_wholes)
+    }
+}
+
+// A column so wide, and what stands in it.
+#[derive(Clone, Copy)]
+pub struct Column<T> {
+    pub width: usize,
+    pub holds: T,
+}
+
+// The text with blanks on its left up to the width; a longer text stands in full.
+impl<T: Measured> Puts for Column<T> {
+    ghost text = { λ c. padded c.width (T.text c.holds) };
+
+    #[tactic(auto, using(printing::specs::WrittenLaws::followed_twice, crate::proofs::ColumnLaws::no_blanks, crate::proofs::ColumnLaws::blanks_more), unfolding(crate::specs::Columns::padded))]
+    fn put_in(self, out: &mut Out) {
+        let Column { width, holds } = self;
+        for _ in 0..holds.left_of(width) {
+            out.byte(b' ');
+        }
+        out.put(holds)
+    }
 }

@@ -1,37 +1,38 @@
 // A day as people write it.
-ghost use Rattle.std.specs.Prelude.{◌∷◌};
-ghost use Rattle.printing.specs.Placed.{Put};
-ghost use Rattle.calendar.specs.declared.date.Dated.{Dated as Dates-as-Dated};
-ghost use Rattle.report.specs.Columns.{digits};
+ghost use Rattle.std.specs.Prelude.{◌≡◌, Some};
+ghost use Rattle.printing.specs.Written.{followed};
 ghost use Rattle.report.specs.Dates.{dated_text, date_text};
 
 use crate::columns::put_digits;
-use calendar::{Date, Dated, Day, date_of};
-use printing::put_byte;
+use calendar::{Date, Day, date_of};
+use printing::{Out, Puts};
 
-// A stroke and two digits.
-fn put_two(out: &mut [u8], at: usize, n: u64) -> usize
-    ensures { Put (45 ∷ digits 2 n) out.old at result out.new }
+// A year, a month and a day of the month, with a stroke between each two.
+#[tactic(auto, using(printing::specs::WrittenLaws::followed_twice))]
+fn put_date(out: &mut Out, date: Date)
+    ensures { out.new ≡ followed out.old (dated_text (Some date)) }
 {
-    let next = put_byte(out, at, 45);
-    put_digits(out, next, 2, n)
+    put_digits(out, 4, date.year as u64);
+    out.byte(b'-');
+    put_digits(out, 2, date.month as u64);
+    out.byte(b'-');
+    put_digits(out, 2, date.day as u64)
 }
 
-// A year, a month and a day of the month.
-fn put_parts(out: &mut [u8], at: usize, date: Date) -> usize
-    ensures { Put (dated_text (Dates-as-Dated.Date date)) out.old at result out.new }
-{
-    let year = put_digits(out, at, 4, date.year as u64);
-    let month = put_two(out, year, date.month as u64);
-    put_two(out, month, date.day as u64)
+// A day that is written as its date.
+#[derive(Clone, Copy)]
+pub struct OnDate {
+    pub day: Day,
 }
 
-// The date of a day.
-pub fn put_date(out: &mut [u8], at: usize, day: Day) -> usize
-    ensures { Put (date_text day.0) out.old at result out.new }
-{
-    match date_of(day) {
-        Dated::Date(date) => put_parts(out, at, date),
-        Dated::NoDate => at,
+// The date; nothing for what is no day of the calendar.
+impl Puts for OnDate {
+    ghost text = { λ d. date_text d.day.0 };
+
+    #[tactic(auto, using(printing::specs::WrittenLaws::followed_none), unfolding(crate::specs::Dates::date_text))]
+    fn put_in(self, out: &mut Out) {
+        if let Some(date) = date_of(self.day) {
+            put_date(out, date);
+        }
     }
 }

@@ -2,114 +2,93 @@
 ghost use Rattle.std.specs.Prelude.{◌≡◌, [], ◌∷◌};
 ghost use Rattle.file.specs.Answer.{statement_says};
 ghost use Rattle.layout.specs.Words.{book_of_words};
-ghost use Rattle.layout.specs.WellFormed.{WellFormed};
-ghost use Rattle.printing.specs.Decimals.{decimal, spaced, joined};
-ghost use Rattle.printing.specs.Placed.{Put};
-ghost use Rattle.report.specs.Columns.{padded, fixed};
+ghost use Rattle.printing.specs.Written.{followed};
 ghost use Rattle.report.specs.Table.{role_text, line_of, row, rows, admitted_count};
 
-use crate::columns::{put_fixed_in, put_number_in, put_text_in};
-use book::Stated;
+use crate::BookWords;
+use crate::columns::{Column, Fixed};
 use file::Statement;
-use printing::put_text;
+use printing::Out;
 
-// A role's name in its column.
-fn put_role(out: &mut [u8], at: usize, role: u64) -> usize
-    ensures { Put (padded 16 (role_text role)) out.old at result out.new }
+// The names of the roles, by their numbers.
+const ROLE_NAMES: [&[u8]; 6] = [
+    b"supplier",
+    b"self-supplied",
+    b"trader",
+    b"producer",
+    b"res-aggregator",
+    b"demand-response",
+];
+
+// A role's name; nothing for a number that is no role.
+#[tactic(auto, using(crate::proofs::TableLaws::no_role), unfolding(crate::specs::Table::role_text, journal::specs::Names::role_names))]
+fn role_name(role: u64) -> &'static [u8]
+    ensures { result.now ≡ role_text role }
 {
-    match role {
-        0 => put_text_in(out, at, 16, b"supplier"),
-        1 => put_text_in(out, at, 16, b"self-supplied"),
-        2 => put_text_in(out, at, 16, b"trader"),
-        3 => put_text_in(out, at, 16, b"producer"),
-        4 => put_text_in(out, at, 16, b"res-aggregator"),
-        5 => put_text_in(out, at, 16, b"demand-response"),
-        _ => put_text_in(out, at, 16, b""),
+    ROLE_NAMES.get(role as usize).copied().unwrap_or(b"")
+}
+
+// An amount of cents in the column of euros.
+fn euros(cents: u64) -> Column<Fixed<2>>
+    ensures { result ≡ record { width = 17; holds = record { parts = cents } } }
+{
+    Column {
+        width: 17,
+        holds: Fixed { parts: cents },
     }
 }
 
-// A participant and its role.
-fn put_participant(out: &mut [u8], at: usize, participant: u64, role: u64) -> usize
-    ensures { Put (joined (padded 11 (decimal participant) ∷ padded 16 (role_text role) ∷ [])) out.old at result out.new }
-{
-    let number = put_number_in(out, at, 11, participant);
-    let blank = put_text(out, number, b" ");
-    put_role(out, blank, role)
-}
-
-// An amount of cents in euros, behind a blank.
-fn put_amount(out: &mut [u8], at: usize, cents: u64) -> usize
-    ensures { Put (spaced (padded 17 (fixed 2 cents) ∷ [])) out.old at result out.new }
-{
-    let blank = put_text(out, at, b" ");
-    put_fixed_in(out, blank, 17, 2, 100, cents)
-}
-
-// The three amounts of a statement.
-fn put_amounts(out: &mut [u8], at: usize, firm: u64, cover: u64, shortfall: u64) -> usize
-    ensures { Put (spaced (padded 17 (fixed 2 firm) ∷ padded 17 (fixed 2 cover) ∷ padded 17 (fixed 2 shortfall) ∷ []))
-        out.old at result out.new }
-{
-    let first = put_amount(out, at, firm);
-    let second = put_amount(out, first, cover);
-    put_amount(out, second, shortfall)
-}
-
-// The days charged and the accrued charge of a statement.
-fn put_charge(out: &mut [u8], at: usize, days: u64, mills: u64) -> usize
-    ensures { Put (spaced (padded 12 (decimal days) ∷ padded 21 (fixed 5 mills) ∷ [])) out.old at result out.new }
-{
-    let first = put_text(out, at, b" ");
-    let charged = put_number_in(out, first, 12, days);
-    let second = put_text(out, charged, b" ");
-    put_fixed_in(out, second, 21, 5, 100000, mills)
-}
-
 // The line of a statement.
-fn put_statement(out: &mut [u8], at: usize, participant: u64, role: u64, s: Statement) -> usize
-    ensures { Put (line_of participant role (statement_says s)) out.old at result out.new }
+fn put_statement(out: &mut Out, participant: u64, role: u64, s: Statement)
+    ensures { out.new ≡ followed out.old (line_of participant role (statement_says s)) }
 {
-    let named = put_participant(out, at, participant, role);
-    let amounts = put_amounts(out, named, s.firm, s.cover, s.shortfall);
-    let charge = put_charge(out, amounts, s.charged, s.accrued);
-    put_text(out, charge, b"\n")
+    out.put(Column {
+        width: 11,
+        holds: participant,
+    });
+    out.spaced(Column {
+        width: 16,
+        holds: role_name(role),
+    });
+    out.each_spaced(&[euros(s.firm), euros(s.cover), euros(s.shortfall)]);
+    out.spaced(Column {
+        width: 12,
+        holds: s.charged,
+    });
+    out.spaced(Column {
+        width: 21,
+        holds: Fixed::<5> { parts: s.accrued },
+    });
+    out.byte(b'\n')
 }
 
 // The line of a participant, if it is admitted.
-fn put_row(out: &mut [u8], at: usize, book: &[u64], participant: u64) -> usize
-    requires { WellFormed book.now }
-    ensures { Put (row (book_of_words book.now) participant) out.old at result out.new }
+fn put_row(out: &mut Out, book: &BookWords, participant: u64)
+    ensures { out.new ≡ followed out.old (row (book_of_words book.now) participant) }
 {
-    match book::statement(book, participant) {
-        Stated::Is(s) => put_statement(out, at, participant, book::role(book, participant), s),
-        Stated::Refused(_) => at,
+    if let Ok(s) = book::statement(book.words, participant) {
+        put_statement(out, participant, book::role(book.words, participant), s);
     }
 }
 
 // The lines of all participants.
-pub fn put_rows(out: &mut [u8], at: usize, book: &[u64]) -> usize
-    requires { WellFormed book.now }
-    ensures { Put (rows 64 (book_of_words book.now)) out.old at result out.new }
+#[tactic(auto, using(crate::proofs::TableLaws::rows_none, crate::proofs::TableLaws::rows_more))]
+pub fn put_rows(out: &mut Out, book: &BookWords)
+    ensures { out.new ≡ followed out.old (rows 64 (book_of_words book.now)) }
 {
-    let mut p = at;
-    let mut participant = 0;
-    while participant < 64 {
-        p = put_row(out, p, book, participant);
-        participant += 1;
+    for participant in 0..64 {
+        put_row(out, book, participant);
     }
-    p
 }
 
 // How many participants are admitted.
-pub fn admitted_count(book: &[u64]) -> u64
-    requires { WellFormed book.now }
+#[tactic(auto, using(crate::proofs::TableLaws::none_admitted, crate::proofs::TableLaws::one_admitted, crate::proofs::TableLaws::admitted_fits, crate::proofs::TableLaws::all_admitted))]
+pub fn admitted_count(book: &BookWords) -> u64
     ensures { result ≡ admitted_count (book_of_words book.now) }
 {
     let mut count = 0;
-    let mut participant = 0;
-    while participant < 64 {
-        count += book::is_admitted(book, participant) as u64;
-        participant += 1;
+    for participant in 0..64 {
+        count += book::is_admitted(book.words, participant) as u64;
     }
     count
 }

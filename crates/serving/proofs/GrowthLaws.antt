@@ -1,64 +1,69 @@
 -- The journal's file grows by just the bytes that the lines add.
 -- Assumes nothing.
-use Rattle.std.proofs.Common.{◌≡◌, ℕ, ◌+◌, ◌-◌, ◌%◌, ◌^◌, Bool, true, false, not, ◌||◌, eqb, List, [], ◌++◌, length, take, drop, sym, refl, ap, ◌∙◌, subst, append-nil, add_assoc, arith, length-append, take-append-drop, take-add, ne_eqb, eqb-true}
+use Rattle.std.proofs.Common.{◌≡◌, ℕ, ◌+◌, ◌-◌, ◌%◌, ◌^◌, Bool, false, eqb, List, [], ◌++◌, length, take, drop, sym, refl, ap, ◌∙◌, subst, append-nil, add_assoc, arith, length-append, take-append-drop, take-add, ne_eqb, eqb-true}
 use native.Mathlib.Nat.{mod-add-mod}
-use borrow.Author.Tests.{eqb-false, not-true}
-use Rattle.laws.specs.Cases.{split, clash}
+use borrow.Author.Tests.{eqb-false}
+use Rattle.laws.specs.Cases.{split}
 use Rattle.dialogue.specs.declared.Way.{Way}
 use Rattle.dialogue.specs.declared.Place.{Place}
 use Rattle.dialogue.specs.Split.{lines_in}
 use Rattle.dialogue.specs.Turns.{State, ended, all_journal}
-use Rattle.dialogue.specs.Answers.{Answers}
-use Rattle.dialogue.proofs.AskLaws.{rest_all}
 use Rattle.dialogue.proofs.SplitLaws.{lines-behind}
 use Rattle.dialogue.proofs.CompleteLines.{all_lines}
 use Rattle.dialogue.proofs.TurnLaws.{journal-append, ended-journal}
 use Rattle.storage.specs.declared.kept.Journal.{Journal}
-use Rattle.storage.specs.Kept.{continued_as}
-use Rattle.serving.specs.Delivery.{longer_by, Became, Grown}
+use Rattle.std.specs.Prelude.{Option, Some, None, Result, Ok}
+use Rattle.serving.specs.Delivery.{longer_by, Delivered, Became, Grown}
 use Rattle.serving.specs.Parts.{Step}
-use Rattle.serving.proofs.PartLaws.{Draining, no-journal, here, at-start}
+use Rattle.serving.proofs.PartLaws.{rest_all, Draining, no-journal, here, at-start}
 
 -- ---- longer by some bytes, and by more
 
-longer-more : (j : Journal) (a b : ℕ) → longer_by (longer_by j a) b ≡ longer_by j (a + b)
-longer-more j a b =
+longer-more : (j : Option Journal) (a b : ℕ) → longer_by (longer_by j a) b ≡ longer_by j (a + b)
+longer-more None a b = refl
+longer-more (Some j) a b =
     split (eqb a 0) (λ e. let z : a ≡ 0 = eqb-true a 0 e in let y : 0 + b ≡ b = omega arith in rw (z, y) refl)
     (λ e.
     split (eqb b 0) (λ f. let z : b ≡ 0 = eqb-true b 0 f in let y : a + 0 ≡ a = omega arith in rw (z, y, e) refl)
     (λ f.
     let g : eqb (a + b) 0 ≡ false = ne_eqb (a + b) 0 (λ q. eqb-false a 0 e (omega arith)) in
-    rw (e, f, g) (ap (continued_as j j.file) (mod-add-mod (j.end + a) (2 ^ 64) b ∙ ap (λ (k : ℕ). k % 2 ^ 64) (add_assoc j.end a b)))))
+    rw (e, f, g)
+    (ap (λ (k : ℕ). Some (record { file = j.file; lock = j.lock; end = k }))
+    (mod-add-mod (j.end + a) (2 ^ 64) b ∙ ap (λ (k : ℕ). k % 2 ^ 64) (add_assoc j.end a b)))))
 
-grown-more : (silent : Bool) (i j k : Journal) (a b n : ℕ) → Grown silent i a j → Grown silent j b k → a + b ≡ n → Grown silent i n k
+grown-more : (silent : Bool) (i j k : Option Journal) (a b n : ℕ) → Grown silent i a j → Grown silent j b k → a + b ≡ n → Grown silent i n k
 grown-more silent i j k a b n x y e =
     record {
-      well = λ q o. x.well q (y.well q o);
-      kept = λ q o.
-          y.kept q o ∙ ap (λ (z : Journal). longer_by z b) (x.kept q (y.well q o)) ∙ longer-more i a b ∙ ap (longer_by i) e;
+      kept = λ q. y.kept q ∙ ap (λ (z : Option Journal). longer_by z b) (x.kept q) ∙ longer-more i a b ∙ ap (longer_by i) e;
+      none = λ q h.
+          let none : j ≡ None = x.kept q ∙ ap (λ (z : Option Journal). longer_by z a) h in
+          omega (arith, x.none q h, y.none q none);
     }
 
-none-grown : (silent : Bool) (j : Journal) (n : ℕ) → n ≡ 0 → Grown silent j n j
-none-grown silent j n e = record { well = λ q o. o; kept = λ q o. rw e refl }
+none-grown : (silent : Bool) (j : Option Journal) (n : ℕ) → n ≡ 0 → Grown silent j n j
+none-grown silent None n e = record { kept = λ q. refl; none = λ q h. e }
+none-grown silent (Some j) n e = record { kept = λ q. rw e refl; none = λ q h. e }
 
 -- ---- the lines of some bytes of a part
 
-pub took : (way : Way) (room : ℕ) (s t : State) (input k f : List ℕ) (used j r : ℕ) (silent : Bool) (p : Place) (before after : Journal)
-    → Answers way room s input used t j k r f → Became silent p before (take j k) after
-    → Grown silent before (length (all_journal way room s (lines_in (take used input)))) after
-took way room s t input k f used j r silent p before after x y =
+pub took : {E : Type 0} (bytes kept : List ℕ) (silent : Bool) (p : Place) (before after : Option Journal) (r : Result (Option Journal) E)
+    → Became silent p before kept r → r ≡ Ok after → kept ≡ bytes → Grown silent before (length bytes) after
+took bytes kept silent p before after r y is e =
     record {
-      well = λ q o. (y.kept q).well o;
-      kept = λ q o. (y.kept q).grown o ∙ ap (λ (l : List ℕ). longer_by before (length l)) x.taken.journal;
+      kept = λ q. (delivered q).grown ∙ ap (λ (l : List ℕ). longer_by before (length l)) e;
+      none = λ q h. sym (ap length e) ∙ (delivered q).none h;
     }
+  where
+    delivered : silent ≡ false → Delivered before kept after
+    delivered q = rw is at (y.kept q)
 
 -- ---- .. and of all
 
-pub grown-none : (way : Way) (room : ℕ) (s : State) (input : List ℕ) (silent : Bool) (j : Journal)
+pub grown-none : (way : Way) (room : ℕ) (s : State) (input : List ℕ) (silent : Bool) (j : Option Journal)
     → Grown silent j (length (all_journal way room s (lines_in (take 0 input)))) j
 grown-none way room s input silent j = none-grown silent j _ (no-journal way room s [] refl)
 
-module _ (way : Way) (room room₁ : ℕ) (s t u : State) (input : List ℕ) (start used : ℕ) (silent : Bool) (i j k : Journal)
+module _ (way : Way) (room room₁ : ℕ) (s t u : State) (input : List ℕ) (start used : ℕ) (silent : Bool) (i j k : Option Journal)
     (d : Draining way room s input start t) (x : Step way room₁ t (take (length input - start) (drop start input)) used u) (same : room₁ ≡ room)
     (before : Grown silent i (length (all_journal way room s (lines_in (take start input)))) j)
     (now : Grown silent j (length (all_journal way room₁ t (lines_in (take used (take (length input - start) (drop start input)))))) k) where
@@ -99,20 +104,7 @@ module _ (way : Way) (room room₁ : ℕ) (s t u : State) (input : List ℕ) (st
         ap (all_journal way room s)
         (all_lines input start d.whole ((here way room room₁ s t u input start used d x same).none none e)))
 
-    ends-grown : Grown silent i (length (all_journal way room s (lines_in input))) k
+    pub ends-grown : Grown silent i (length (all_journal way room s (lines_in input))) k
     ends-grown =
         let z : start + used ≡ start = omega arith in
         subst (λ (l : List ℕ). Grown silent i (length l) k) (ap (λ (n : ℕ). all_journal way room s (lines_in (take n input))) z ∙ all-kept) grown-on
-
--- The end of a turn in which no line was taken, or something failed.
-pub grown-all : (way : Way) (room room₁ : ℕ) (s t u : State) (input : List ℕ) (start used : ℕ) (silent : Bool) (i j k : Journal)
-    → Draining way room s input start t → Step way room₁ t (take (length input - start) (drop start input)) used u → room₁ ≡ room
-    → Grown silent i (length (all_journal way room s (lines_in (take start input)))) j
-    → Grown silent j (length (all_journal way room₁ t (lines_in (take used (take (length input - start) (drop start input)))))) k
-    → (eqb used 0 || not k.ok) ≡ true → Grown silent i (length (all_journal way room s (lines_in input))) k
-grown-all way room room₁ s t u input start used silent i j k d x same before now e =
-    split (eqb used 0)
-    (λ z. ends-grown way room room₁ s t u input start used silent i j k d x same before now (eqb-true used 0 z))
-    (λ z.
-    let bad : k.ok ≡ false = not-true k.ok (rw z at e) in
-    record { well = λ q o. clash o bad; kept = λ q o. clash o bad })

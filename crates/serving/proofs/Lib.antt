@@ -1,10 +1,6 @@
-pub mod WayLaws
-pub mod DeliveryLaws
-pub mod InputLaws
 pub mod PartLaws
 pub mod GrowthLaws
 pub mod BufferLaws
 pub mod StreamLaws
 pub mod InputStream
-pub mod OptionLaws
 pub mod LoadLaws

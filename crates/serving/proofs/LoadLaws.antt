@@ -1,10 +1,9 @@
 -- The line that a file's bytes make: the numbers written, its length, that it is one line, and what it asks of the book.
 -- Assumes nothing.
-use Rattle.std.proofs.Common.{◌≡◌, ℕ, suc, ◌+◌, ◌*◌, ◌<◌, ◌≤◌, min, Bool, true, false, cond, not, ◌&&◌, List, [], ◌∷◌, ◌++◌, map, length, get_or, take, drop, set, ℤ, pos, sym, refl, ap, ◌∙◌, subst, append-nil, add-one, arith, length-append, drop_of_length-le, take_all, drop-cons, w8, Fits}
-use borrow.Author.Tests.{not-true, not-false}
+use Rattle.std.specs.Prelude.{Option}
+use Rattle.std.proofs.Common.{◌≡◌, ℕ, suc, ◌+◌, ◌*◌, ◌<◌, ◌≤◌, min, Bool, true, false, cond, ◌&&◌, List, [], ◌∷◌, ◌++◌, map, length, get_or, take, drop, ℤ, pos, sym, refl, ap, ◌∙◌, subst, append-nil, arith, length-append, take_all, w8, Fits}
 use lib.ListN.{length-map}
 use lib.Seq.{sets, sets-eq, length-sets, take-append_seam}
-use Rattle.laws.specs.Cases.{split, clash}
 use Rattle.laws.specs.Lists.{All, all_map}
 use Rattle.book.specs.Call.{batch}
 use Rattle.book.specs.Rule.{Rule, old_rule, new_rule}
@@ -13,8 +12,8 @@ use Rattle.journal.specs.Grammar.{Parsed, parsed}
 use Rattle.journal.specs.declared.Request.{Request}
 use Rattle.printing.specs.declared.Answer.{Answer}
 use Rattle.printing.specs.Lines.{printed, IsByte}
-use Rattle.printing.specs.Placed.{Put}
-use Rattle.printing.specs.PlacedLaws.{put-end, put-bytes}
+use Rattle.printing.specs.Written.{Sheet, lent, followed}
+use Rattle.printing.specs.WrittenLaws.{written_fits}
 use Rattle.printing.proofs.HexLaws.{batch-short}
 use Rattle.printing.proofs.RoundTrip.{round_trip}
 use Rattle.answering.specs.Asked.{call, byte_of, batch_bytes, asked, answer_to, book_after}
@@ -29,12 +28,9 @@ use Rattle.dialogue.specs.Turns.{State, next, ends_at, answer_of, is_kept, after
 use Rattle.dialogue.proofs.CompleteLines.{line_first}
 use Rattle.dialogue.proofs.KeptForm.{printed-plain, printed-text}
 use Rattle.storage.specs.declared.kept.Journal.{Journal}
-use Rattle.storage.specs.declared.whole.Contents.{Contents}
-use Rattle.storage.specs.Whole.{WholeRead}
-use Rattle.serving.specs.declared.delivery.Progress.{Progress}
 use Rattle.serving.specs.Delivery.{Grown}
 use Rattle.serving.specs.Parts.{Drained}
-use Rattle.serving.specs.Load.{AreBytes, batch_text, batch_line, MayEnter, Loads, Entered, EnteredIf}
+use Rattle.serving.specs.Load.{AreBytes, batch_text, batch_line, MayEnter, Loads, Entered}
 
 -- ---- the bytes as numbers
 
@@ -45,17 +41,6 @@ all-bytes (b ∷ l) h = (omega (arith, h 0), all-bytes l (λ i. h (suc i)))
 
 pub are-bytes : (bytes : List ℕ) → ((i : ℕ) → Fits w8 (get_or bytes i 0)) → AreBytes bytes
 are-bytes bytes h = record { all = all-bytes bytes h }
-
--- The bytes that are left, written from place i on, give what all of them give.
-module _ (bytes : List ℕ) (e f : List ℤ) (i : ℕ) (known : sets f i (map pos (drop i bytes)) ≡ sets e 0 (map pos bytes)) where
-  pub numbers_on : (v : ℤ) → i < length bytes → v ≡ pos (get_or bytes i 0)
-      → sets (set f i v) (i + 1) (map pos (drop (i + 1) bytes)) ≡ sets e 0 (map pos bytes)
-  numbers_on v h g =
-      let z : map pos (drop i bytes) ≡ v ∷ map pos (drop (suc i) bytes) = rw g (ap (map pos) (drop-cons bytes i 0 h)) in
-      rw (add-one i) (sym (ap (sets f i) z) ∙ known)
-
-  pub numbers-all : length bytes ≤ i → f ≡ sets e 0 (map pos bytes)
-  numbers-all h = sym (ap (λ (l : List ℕ). sets f i (map pos l)) (drop_of_length-le bytes h)) ∙ known
 
 -- Numbers written into a list leave its length.
 pub same-room : (e f zs : List ℤ) → f ≡ sets e 0 zs → length f ≡ length e
@@ -82,9 +67,8 @@ module _ (bytes : List ℕ) (e f : List ℤ) (h : length bytes ≤ length e) (w 
   unfolding kept_line batch_line batch_text
   kept-is = ap (λ (zs : List ℤ). printed (Request.Batch (length bytes)) zs ++ (10 ∷ [])) front-is
 
-  pub line-put : (n : ℕ) (d g : List ℕ) (r : ℕ) → n ≡ length bytes → Put (kept_line (Request.Batch n) f) d 0 r g → Put (batch_line bytes) d 0 r g
-  line-put n d g r m x =
-      subst (λ (l : List ℕ). Put l d 0 r g) (ap (λ (k : ℕ). kept_line (Request.Batch k) f) m ∙ kept-is) x
+  pub line-put : (n : ℕ) (d g : Sheet) → n ≡ length bytes → g ≡ followed d (kept_line (Request.Batch n) f) → g ≡ followed d (batch_line bytes)
+  line-put n d g m x = x ∙ ap (followed d) (ap (λ (k : ℕ). kept_line (Request.Batch k) f) m ∙ kept-is)
 
 -- ---- its length, and that it is one line
 
@@ -127,7 +111,7 @@ mark-first true false false mark line = refl
 mark-first false u t mark line = refl
 
 -- The line is read as the batch of the bytes: by the round trip of printing and parsing, and as it begins with no byte order mark.
-module _ (way : Way) (room : ℕ) (s : State) (bytes : List ℕ) (typed : way.replays ≡ false) (a : AreBytes bytes) (m : MayEnter way room s bytes) where
+module _ (way : Way) (room : ℕ) (s : State) (bytes : List ℕ) (a : AreBytes bytes) (m : MayEnter way room s bytes) where
   abbrev line : List ℕ
   line = batch_text bytes
 
@@ -159,7 +143,7 @@ module _ (way : Way) (room : ℕ) (s : State) (bytes : List ℕ) (typed : way.re
 
   -- it is typed, so under the new rule
   new-rule : rule_at way s.place ≡ new_rule
-  new-rule = ap (λ (t : Bool). cond (t && s.place.early) old_rule new_rule) typed
+  new-rule = ap (λ (t : Bool). cond (t && s.place.early) old_rule new_rule) m.typed
 
   answer-is : answer_of way room s line ≡ reply
   unfolding answer_of
@@ -199,7 +183,7 @@ module _ (way : Way) (room : ℕ) (s : State) (bytes : List ℕ) (typed : way.re
       ∙ ap
       (λ (t : Bool).
       cond (k && cond t (u && is_role_retired (request_of way room s.place line)) (u && (k && taken))) retired_line [] ++ cond (k && taken) (line ++ (10 ∷ [])) [])
-      typed
+      m.typed
       ∙ mark-first k u taken retired_line (line ++ (10 ∷ []))
       ∙ ap (λ (x : Answer). cond (k && takes x) (cond u retired_line [] ++ (line ++ (10 ∷ []))) []) answer-is
 
@@ -212,55 +196,34 @@ module _ (way : Way) (room : ℕ) (s : State) (bytes : List ℕ) (typed : way.re
   pub loads : Loads way room s bytes
   loads = record { asked = asks-batch; book = book-is; answered = bytes-are; journal = journal-is }
 
+-- ---- the line put together in lent bytes
+
+pub is-line : (bytes l room : List ℕ) (d g : Sheet) → 7 + 2 * length bytes ≤ length room → d ≡ lent room → g ≡ followed d (batch_line bytes)
+    → l ≡ g.written → l ≡ batch_line bytes
+unfolding lent
+is-line bytes l room d g h e k x =
+    let as-long : length room ≡ d.room = rw e refl in
+    let none : d.written ≡ [] = rw e refl in
+    let fits : length (batch_line bytes) ≤ d.room = omega (arith, line-length bytes) in
+    x ∙ ap (λ (s : Sheet). s.written) k ∙ written_fits d (batch_line bytes) fits ∙ ap (λ (t : List ℕ). t ++ batch_line bytes) none
+
 -- ---- the line taken
 
-module _ (way : Way) (room most : ℕ) (k : most ≡ room) (s : State) (bytes e f : List ℕ) (r : ℕ) (x : Put (batch_line bytes) e 0 r f)
-    (h : 7 + 2 * length bytes ≤ length e) where
-  within : 0 + length (batch_line bytes) ≤ length e
-  within = omega (arith, line-length bytes)
+module _ (way : Way) (room most : ℕ) (k : most ≡ room) (s : State) (bytes line : List ℕ) (is : line ≡ batch_line bytes) where
+  taken-line : lines_in line ≡ batch_text bytes ∷ []
+  taken-line = ap lines_in is ∙ line-one bytes
 
-  is-line : take r f ≡ batch_line bytes
-  is-line =
-      let n : r ≡ length (batch_line bytes) = omega (arith, put-end (batch_line bytes) e f 0 r x within) in
-      rw n (put-bytes (batch_line bytes) e f 0 r x within)
-
-  taken-line : lines_in (take r f) ≡ batch_text bytes ∷ []
-  taken-line = ap lines_in is-line ∙ line-one bytes
-
-  pub entered : way.replays ≡ false → AreBytes bytes → (t : State) (used : ℕ) (ok : Bool) → Drained way most s (take r f) used t ok → Entered way room s bytes t ok
-  entered typed a t used ok d =
+  pub entered : AreBytes bytes → (t : State) (used : ℕ) → Drained way most s line used t → Entered way room s bytes t
+  entered a t used d =
       record {
-        left = λ o. d.left o ∙ ap (after_all way most s) taken-line ∙ ap (λ (n : ℕ). after_all way n s (batch_text bytes ∷ [])) k;
-        loads = loads way room s bytes typed a;
+        left = d.left ∙ ap (after_all way most s) taken-line ∙ ap (λ (n : ℕ). after_all way n s (batch_text bytes ∷ [])) k;
+        loads = loads way room s bytes a;
       }
 
-  pub entered-grown : (silent : Bool) (j l : Journal) → Grown silent j (length (all_journal way most s (lines_in (take r f)))) l
+  pub entered-grown : (silent : Bool) (j l : Option Journal) → Grown silent j (length (all_journal way most s (lines_in line))) l
       → Grown silent j (length (all_journal way room s (batch_text bytes ∷ []))) l
   entered-grown silent j l g =
       subst (λ (n : ℕ). Grown silent j n l)
       (ap (λ (ls : List (List ℕ)). length (all_journal way most s ls)) taken-line
       ∙ ap (λ (n : ℕ). length (all_journal way n s (batch_text bytes ∷ []))) k)
       g
-
--- ---- .. where that is asked for
-
-module _ (way : Way) (room : ℕ) (s t : State) (before r : Progress) (bytes : List ℕ) (asked goes g : Bool) (e : g ≡ goes) where
-  pub was-entered : not (asked && g) ≡ false → Entered way room s bytes t r.journal.ok
-      → Grown false before.journal (length (all_journal way room s (batch_text bytes ∷ []))) r.journal
-      → EnteredIf (asked && goes) way room s before bytes t r
-  was-entered n x y =
-      let yes : (asked && goes) ≡ true = ap (λ (u : Bool). asked && u) (sym e) ∙ not-false (asked && g) n in
-      record { entered = λ o. x; grown = λ o. y; state = λ o. clash yes o; progress = λ o. clash yes o }
-
-pub not_entered : (way : Way) (room : ℕ) (s : State) (before : Progress) (bytes : List ℕ) (asked goes g : Bool) → g ≡ goes → not (asked && g) ≡ true
-    → EnteredIf (asked && goes) way room s before bytes s before
-not_entered way room s before bytes asked goes g e n =
-    let no : (asked && goes) ≡ false = ap (λ (u : Bool). asked && u) (sym e) ∙ not-true (asked && g) n in
-    record { entered = λ o. clash o no; grown = λ o. clash o no; state = λ o. refl; progress = λ o. refl }
-
--- ---- the file read
-
--- Of a file that is read into a slice with some room, fewer bytes count as read than there is room for.
-pub read-fewer : (n : ℕ) (r : Contents) → WholeRead n r → 0 < n → r.bytes < n
-read-fewer n r x h =
-    split r.ok x.within (λ t. let none : r.bytes ≡ 0 = ap (λ (z : Contents). z.bytes) (x.none t) in omega arith)

@@ -1,19 +1,22 @@
 -- All complete lines of a part, taken as often as their bytes have no room.
 -- Assumes nothing.
-use Rattle.std.proofs.Common.{◌≡◌, ℕ, ◌+◌, ◌-◌, ◌<◌, ◌≤◌, Bool, true, false, not, ◌||◌, eqb, leb, List, [], ◌++◌, length, take, drop, sym, refl, ap, ◌∙◌, subst, arith, length-drop, take-append-drop, length-take-le, take-add, eqb-true, le-leb}
-use mathlib.Core.Bool.{or-false, or-true}
-use borrow.Author.Tests.{eqb-false}
-use Rattle.laws.specs.Cases.{split, clash, or-first}
+use Rattle.std.proofs.Common.{◌≡◌, ℕ, ◌+◌, ◌-◌, ◌≤◌, true, false, leb, List, [], ◌++◌, length, take, drop, sym, refl, ap, ◌∙◌, subst, arith, length-drop, take-append-drop, take_all, take_all, take-add, le-leb}
+use mathlib.Core.Bool.{or-true}
+use Rattle.laws.specs.Cases.{split}
+use Rattle.printing.specs.Written.{Sheet}
 use Rattle.dialogue.specs.declared.Way.{Way}
 use Rattle.dialogue.specs.declared.Place.{Place}
 use Rattle.dialogue.specs.Split.{lines_in, rest_in}
 use Rattle.dialogue.specs.Turns.{State, ended, after_all, all_bytes, all_journal}
-use Rattle.dialogue.specs.Answers.{most_kept, goes_on, Answers}
-use Rattle.dialogue.proofs.AskLaws.{rest_all}
+use Rattle.dialogue.specs.Answers.{most_kept, most_said, space, goes_on, Answers}
 use Rattle.dialogue.proofs.SplitLaws.{lines-behind, rest-behind}
 use Rattle.dialogue.proofs.CompleteLines.{all_lines, none_rest}
 use Rattle.dialogue.proofs.TurnLaws.{after-append, ended-after}
 use Rattle.serving.specs.Parts.{Step, Drained}
+
+-- A part up to the end of an input is what is left of it.
+pub rest_all : (input : List ℕ) (start : ℕ) → take (length input - start) (drop start input) ≡ drop start input
+rest_all input start = take_all (length input - start) (drop start input) (omega (arith, length-drop start input))
 
 -- What the loop knows: the lines of the first bytes are taken.
 pub record Draining (way : Way) (room : ℕ) (s : State) (input : List ℕ) (start : ℕ) (t : State) : Type 0 where
@@ -35,18 +38,19 @@ unfolding lines_in all_bytes
 no_bytes way room t l e = rw e refl
 
 -- Where nothing is written yet and the lines have not ended, one more is taken.
-would-go : (way : Way) (p : Place) (j a r b : ℕ) → ended way p ≡ false → j ≡ 0 → r ≡ 0 → most_kept ≤ a → 16384 ≤ b → goes_on way p j a r b ≡ true
+would-go : (way : Way) (p : Place) (j e : Sheet) → ended way p ≡ false → length j.written ≡ 0 → most_kept ≤ j.room → most_said ≤ e.room
+    → goes_on way p j e ≡ true
 unfolding goes_on
-would-go way p j a r b e x y h k =
-    let m : leb most_kept (a - 0) ≡ true = le-leb most_kept (a - 0) (omega arith) in
-    let n : leb 16384 (b - 0) ≡ true = le-leb 16384 (b - 0) (omega arith) in
-    rw (e, x, y, m, n, or-true way.gathers) refl
+would-go way p j e x y h k =
+    let m : leb most_kept j.room ≡ true = le-leb most_kept j.room h in
+    let n : leb most_said e.room ≡ true = le-leb most_said e.room k in
+    rw (x, y, m, n, or-true way.gathers) refl
 
 -- ---- the lines of some bytes of a part
 
-pub stepped : (way : Way) (room : ℕ) (s t : State) (input k f : List ℕ) (used j r : ℕ) → Answers way room s input used t j k r f → most_kept ≤ length k
-    → 16384 ≤ length f → Step way room s input used t
-stepped way room s t input k f used j r x a b =
+pub stepped : (way : Way) (room : ℕ) (s t : State) (input : List ℕ) (k f : Sheet) (used : ℕ) → Answers way room s input used t k f
+    → most_kept ≤ space k → most_said ≤ space f → Step way room s input used t
+stepped way room s t input k f used x a b =
     let y = x.taken in
     record { within = y.within; whole = y.whole; left = y.left; none = λ z e. none_left z e }
   where
@@ -54,9 +58,9 @@ stepped way room s t input k f used j r x a b =
     none_left z e =
         let y = x.taken in
         let n : take used input ≡ [] = rw z refl in
-        let jl : j ≡ 0 = sym (length-take-le j k y.in_journal) ∙ ap length y.journal ∙ no-journal way room s (take used input) n in
-        let rl : r ≡ 0 = sym (length-take-le r f y.in_answers) ∙ ap length y.bytes ∙ no_bytes way room s (take used input) n in
-        subst (λ (m : ℕ). lines_in (drop m input) ≡ []) z (x.all (would-go way t.place j (length k) r (length f) e jl rl a b))
+        let jl : length k.written ≡ 0 = ap length y.journal ∙ no-journal way room s (take used input) n in
+        let rl : length f.written ≡ 0 = ap length y.bytes ∙ no_bytes way room s (take used input) n in
+        subst (λ (m : ℕ). lines_in (drop m input) ≡ []) z (x.all (would-go way t.place k f e jl (omega arith) (omega arith)))
 
 -- ---- .. and of all
 
@@ -88,12 +92,12 @@ module _ (way : Way) (room room₁ : ℕ) (s t u : State) (input : List ℕ) (st
     at-start = let e : start + used ≡ start = omega arith in rw e at goes-on-taken.left
 
     -- so all lines of the part are taken
-    pub ends : Drained way room s input start u true
+    pub ends : Drained way room s input start u
     ends =
         record {
           within = d.within;
-          left = λ o. split (ended way u.place) stopped going;
-          rest = λ o e. rest (here.none none e);
+          left = split (ended way u.place) stopped going;
+          rest = λ e. rest (here.none none e);
         }
       where
         whole-input : lines_in input ≡ lines_in (take start input) ++ lines_in (drop start input)
@@ -114,25 +118,3 @@ module _ (way : Way) (room room₁ : ℕ) (s t u : State) (input : List ℕ) (st
             sym
             (ap rest_in (sym (take-append-drop start input)) ∙ rest-behind (take start input) (drop start input) d.whole
             ∙ none_rest (drop start input) n)
-
--- The end of a turn in which no line was taken, or something failed.
-pub drained : (way : Way) (room room₁ : ℕ) (s t u : State) (input : List ℕ) (start used : ℕ) (ok : Bool) → Draining way room s input start t
-    → Step way room₁ t (take (length input - start) (drop start input)) used u → room₁ ≡ room → (eqb used 0 || not ok) ≡ true
-    → Drained way room s input start u ok
-drained way room room₁ s t u input start used true d x same e =
-    ends way room room₁ s t u input start used d x same (eqb-true used 0 (sym (or-false (eqb used 0)) ∙ e))
-drained way room room₁ s t u input start used false d x same e =
-    record { within = d.within; left = λ o. clash {t = false} o refl; rest = λ o. clash {t = false} o refl }
-
--- The bytes taken lie within the part; where some were taken, fewer are left.
-pub within-input : (way : Way) (room room₁ : ℕ) (s t u : State) (input : List ℕ) (start used : ℕ) → Draining way room s input start t
-    → Step way room₁ t (take (length input - start) (drop start input)) used u → start + used ≤ length input
-within-input way room room₁ s t u input start used d x =
-    let y : Step way room₁ t (drop start input) used u = subst (λ (l : List ℕ). Step way room₁ t l used u) (rest_all input start) x in
-    omega (arith, d.within, y.within, length-drop start input)
-
-pub fewer-left : (way : Way) (room room₁ : ℕ) (s t u : State) (input : List ℕ) (start used : ℕ) (t₁ : Bool) → Draining way room s input start t
-    → Step way room₁ t (take (length input - start) (drop start input)) used u → (eqb used 0 || t₁) ≡ false
-    → length input - (start + used) < length input - start
-fewer-left way room room₁ s t u input start used t₁ d x e =
-    omega (arith, within-input way room room₁ s t u input start used d x, eqb-false used 0 (or-first (eqb used 0) t₁ e))

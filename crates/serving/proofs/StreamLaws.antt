@@ -63,8 +63,8 @@ same-state t u z p q = λ i. record { book = p i; place = q i }
 -- ---- one part more
 
 -- Where the part's lines lead to the state of all bytes, and its rest is theirs.
-module _ (way : Way) (room : ℕ) (s : State) (most : ℕ) (t u : State) (ok : Bool) (used full : ℕ) (e f g : List ℕ)
-    (x : PartTaken way room t e full u ok used f) (m : length e ≡ most) (begins : s.place.long ≡ false)
+module _ (way : Way) (room : ℕ) (s : State) (most : ℕ) (t u : State) (used full : ℕ) (e f g : List ℕ)
+    (x : PartTaken way room t e full u used f) (m : length e ≡ most) (begins : s.place.long ≡ false)
     (state : after_all way room t (lines_in (take full e)) ≡ stream_after most way room s (lines_in g))
     (rest : rest_in (take full e) ≡ rest_in g) where
   abbrev end : State
@@ -73,10 +73,10 @@ module _ (way : Way) (room : ℕ) (s : State) (most : ℕ) (t u : State) (ok : B
   few : length (rest_in g) ≤ most
   few = omega (arith, ap length rest, rest-within (take full e), length-take full e, m)
 
-  module _ (o : ok ≡ true) (n : ended way u.place ≡ false) where
+  module _ (n : ended way u.place ≡ false) where
     place-joined : u.place ≡ known_place (leb most (length (rest_in g))) end.place
     place-joined =
-        x.place o n
+        x.place n
         ∙ ap (λ (z : State). known_place (is_long z.place.long (length (rest_in (take full e))) (length e)) z.place) state
         ∙ ap (λ (z : Bool). known_place (is_long z (length (rest_in (take full e))) (length e)) end.place)
         (stream-begins most way room s (lines_in g) begins)
@@ -86,27 +86,27 @@ module _ (way : Way) (room : ℕ) (s : State) (most : ℕ) (t u : State) (ok : B
 
     many-joined : used ≡ cond (leb most (length (rest_in g))) 0 (length (rest_in g))
     many-joined =
-        x.many o n ∙ ap (λ (z : State). staying z.place.long (length (rest_in (take full e))) (length e)) state
+        x.many n ∙ ap (λ (z : State). staying z.place.long (length (rest_in (take full e))) (length e)) state
         ∙ ap (λ (z : Bool). staying z (length (rest_in (take full e))) (length e)) (stream-begins most way room s (lines_in g) begins)
         ∙ ap (λ (z : List ℕ). staying false (length z) (length e)) rest
         ∙ ap (λ (z : ℕ). staying false (length (rest_in g)) z) m
         ∙ stay-test (length (rest_in g)) most
 
-  pub joined : InputTaken way room s most u ok used f
+  pub joined : InputTaken way room s most u used f
   joined =
       record {
         bytes = g;
-        book = λ o n. x.book o n ∙ ap (λ (z : State). z.book) state;
+        book = λ n. x.book n ∙ ap (λ (z : State). z.book) state;
         place = place-joined;
         many = many-joined;
         rest =
-            λ o n.
-            x.front o n ∙ ap (take used) rest ∙ front-test (leb most (length (rest_in g))) used (rest_in g) (many-joined o n);
+            λ n.
+            x.front n ∙ ap (take used) rest ∙ front-test (leb most (length (rest_in g))) used (rest_in g) (many-joined n);
       }
 
 -- Where the line that has begun is too long and the part does not end it.
-module _ (way : Way) (room : ℕ) (s : State) (most : ℕ) (t v u : State) (ok : Bool) (used full : ℕ) (e f g : List ℕ)
-    (x : PartTaken way room t e full u ok used f) (none : lines_in (take full e) ≡ []) (is : t ≡ knowing true v)
+module _ (way : Way) (room : ℕ) (s : State) (most : ℕ) (t v u : State) (used full : ℕ) (e f g : List ℕ)
+    (x : PartTaken way room t e full u used f) (none : lines_in (take full e) ≡ []) (is : t ≡ knowing true v)
     (state : stream_after most way room s (lines_in g) ≡ v) (long : most ≤ length (rest_in g)) where
   is-still : after_all way room t (lines_in (take full e)) ≡ knowing true v
   unfolding after_all
@@ -115,22 +115,22 @@ module _ (way : Way) (room : ℕ) (s : State) (most : ℕ) (t v u : State) (ok :
   is-long : leb most (length (rest_in g)) ≡ true
   is-long = le-leb most (length (rest_in g)) long
 
-  no_byte : ok ≡ true → ended way u.place ≡ false → used ≡ 0
-  no_byte o n =
-      x.many o n ∙ ap (λ (z : State). staying z.place.long (length (rest_in (take full e))) (length e)) is-still
+  no_byte : ended way u.place ≡ false → used ≡ 0
+  no_byte n =
+      x.many n ∙ ap (λ (z : State). staying z.place.long (length (rest_in (take full e))) (length e)) is-still
 
-  pub still-long : InputTaken way room s most u ok used f
+  pub still-long : InputTaken way room s most u used f
   still-long =
       record {
         bytes = g;
-        book = λ o n. x.book o n ∙ ap (λ (z : State). z.book) is-still ∙ sym (ap (λ (z : State). z.book) state);
+        book = λ n. x.book n ∙ ap (λ (z : State). z.book) is-still ∙ sym (ap (λ (z : State). z.book) state);
         place =
-            λ o n.
-            x.place o n
+            λ n.
+            x.place n
             ∙ ap (λ (z : State). known_place (is_long z.place.long (length (rest_in (take full e))) (length e)) z.place) is-still
             ∙ sym (ap (λ (z : State). known_place true z.place) state)
             ∙ sym (ap (λ (z : Bool). known_place z (stream_after most way room s (lines_in g)).place) is-long);
-        many = λ o n. no_byte o n ∙ sym (cond-true (leb most (length (rest_in g))) 0 (length (rest_in g)) is-long);
+        many = λ n. no_byte n ∙ sym (cond-true (leb most (length (rest_in g))) 0 (length (rest_in g)) is-long);
         rest =
-            λ o n. ap (λ (k : ℕ). take k f) (no_byte o n) ∙ sym (cond-true (leb most (length (rest_in g))) [] (rest_in g) is-long);
+            λ n. ap (λ (k : ℕ). take k f) (no_byte n) ∙ sym (cond-true (leb most (length (rest_in g))) [] (rest_in g) is-long);
       }

@@ -1,8 +1,9 @@
 -- The arguments of the program.
 -- Assumes nothing.
-use Rattle.std.specs.Prelude.{ℕ, Bool, false, cond, not, ◌&&◌, ◌||◌, List, [], ◌∷◌, ◌==◌, nat_eq, nat_le}
+use Rattle.std.specs.Prelude.{ℕ, Bool, false, cond, not, ◌&&◌, ◌||◌, List, [], ◌∷◌, ◌==◌, nat_eq, Some, None}
+use Rattle.std.specs.Option.{is_some, is_none}
+use lib.Pointwise.{pointwise}
 use Rattle.words.specs.Text.{text}
-use Rattle.words.specs.Words.{words, place_in}
 use Rattle.serving.specs.declared.options.Options.{Options}
 
 -- Nothing is asked for.
@@ -16,14 +17,14 @@ no_options =
       help = false;
       version = false;
       wrong = false;
-      name = 0;
+      name = None;
       awaits = false;
-      load = 0;
+      load = None;
     }
 
--- The options, in the order of their places.
-abbrev pub option_names : List (List ℕ)
-option_names = words (text "--bail --end --batch --read --help -h --version --load")
+-- Whether an argument is an option.
+abbrev pub is : List ℕ → List ℕ → Bool
+is argument option = pointwise nat_eq argument option
 
 -- Whether an argument begins as an option does.
 abbrev pub is_dashed : List ℕ → Bool
@@ -34,18 +35,25 @@ is_dashed (b ∷ l) = b == 45
 -- argument more, the i-th. Behind `--load` the name of a file is awaited.
 unfoldable pub with_option : Options → ℕ → List ℕ → Options
 with_option o i a =
-    let k = place_in a option_names in
-    let free = not (is_dashed a) && nat_eq o.name 0 in
+    let bail = is a (text "--bail") in
+    let end = is a (text "--end") in
+    let batch = is a (text "--batch") in
+    let read = is a (text "--read") in
+    let help = is a (text "--help") || is a (text "-h") in
+    let version = is a (text "--version") in
+    let load = is a (text "--load") in
+    let named = not ((((((bail || end) || batch) || read) || help) || version) || load) in
+    let free = not (is_dashed a) && is_none o.name in
     record {
-      bail = o.bail || (k == 0);
-      end = o.end || (k == 1);
-      batch = o.batch || (k == 2);
-      read = o.read || (k == 3);
-      help = (o.help || k == 4) || (k == 5);
-      version = o.version || (k == 6);
-      wrong = (o.wrong || (nat_le 8 k && not free)) || (k == 7 && not (o.load == 0));
-      name = cond (nat_le 8 k && free) i o.name;
-      awaits = (k == 7);
+      bail = o.bail || bail;
+      end = o.end || end;
+      batch = o.batch || batch;
+      read = o.read || read;
+      help = o.help || help;
+      version = o.version || version;
+      wrong = (o.wrong || (named && not free)) || (load && is_some o.load);
+      name = cond (named && free) (Some i) o.name;
+      awaits = load;
       load = o.load;
     }
 
@@ -62,7 +70,7 @@ with_load o i a =
       wrong = o.wrong || is_dashed a;
       name = o.name;
       awaits = false;
-      load = i;
+      load = Some i;
     }
 
 -- What is asked for with one argument more.
@@ -72,4 +80,4 @@ with_argument o i a = cond o.awaits (with_load o i a) (with_option o i a)
 -- Whether the arguments are none that the program takes: one of them is wrong, `--load` has no file behind it, or `--read` has no journal or stands
 -- beside `--load`.
 abbrev pub is_wrong : Options → Bool
-is_wrong o = (o.wrong || o.awaits) || (o.read && (o.name == 0 || not (o.load == 0)))
+is_wrong o = (o.wrong || o.awaits) || (o.read && (is_none o.name || is_some o.load))

@@ -1,6 +1,6 @@
 -- A part of an input, all complete lines of which are taken.
 -- Assumes nothing.
-use Rattle.std.specs.Prelude.{◌≡◌, ℕ, ◌≤◌, Bool, true, false, List, [], length, take, drop}
+use Rattle.std.specs.Prelude.{◌≡◌, ℕ, ◌≤◌, false, List, [], length, take, drop}
 use Rattle.dialogue.specs.declared.Way.{Way}
 use Rattle.dialogue.specs.Split.{lines_in, rest_in}
 use Rattle.dialogue.specs.Turns.{State, ended, after_all}
@@ -12,9 +12,8 @@ pub record Step (way : Way) (room : ℕ) (s : State) (input : List ℕ) (used : 
   pub left : t ≡ after_all way room s (lines_in (take used input))
   pub none : used ≡ 0 → ended way t.place ≡ false → lines_in input ≡ []
 
--- Where all is well, the state is that of all lines of the part, and unless they have ended before its end, what is left of it is the rest behind its
--- last newline.
-pub record Drained (way : Way) (room : ℕ) (s : State) (input : List ℕ) (used : ℕ) (t : State) (ok : Bool) : Type 0 where
+-- The state is that of all lines of the part, and unless they have ended before its end, what is left of it is the rest behind its last newline.
+pub record Drained (way : Way) (room : ℕ) (s : State) (input : List ℕ) (used : ℕ) (t : State) : Type 0 where
   pub within : used ≤ length input
-  pub left : ok ≡ true → t ≡ after_all way room s (lines_in input)
-  pub rest : ok ≡ true → ended way t.place ≡ false → drop used input ≡ rest_in input
+  pub left : t ≡ after_all way room s (lines_in input)
+  pub rest : ended way t.place ≡ false → drop used input ≡ rest_in input

@@ -1,118 +1,95 @@
 // What becomes of the bytes of lines: those for the journal are appended and forced to disk, and then the answers are written.
-ghost use Rattle.std.specs.Prelude.{◌≡◌, ◌-◌, true, nat_lt};
-ghost use Rattle.serving.specs.Delivery.{nowhere, stopped_if, Delivered, Became};
+ghost use Rattle.std.specs.Prelude.{◌≡◌, IfOk, nat_eq};
+ghost use Rattle.std.specs.Result.{is_ok};
+ghost use Rattle.serving.specs.Delivery.{Delivered, Became};
 
+use crate::session::Session;
 use dialogue::Place;
-use storage::{Handles, Journal, Stream, about_line, append, failed, write_whole};
+use std::io::Error;
+use storage::{Journal, Stopped, Stream, about_line, failed, write_whole};
 
-// How far an input is taken: the place, the bytes of complete lines, and the journal's file, with whether all is well.
-#[derive(Clone, Copy)]
-pub struct Progress {
-    pub place: Place,
-    pub bytes: u64,
-    pub journal: Journal,
-}
+// The error of a descriptor that is not open.
+const EBADF: i32 = 9;
 
-// No file is kept, and all is well.
-pub fn no_journal() -> Journal
-    ensures { result ≡ nowhere }
-{
-    Journal {
-        file: -1,
-        ok: true,
-        end: 0,
-        device: 0,
-        inode: 0,
-        lock_device: 0,
-        lock_inode: 0,
-    }
-}
-
-// Writes answers on standard output; a journal in which their calls are kept must be well.
-fn put_answers(rt: &HostRuntime, mut journal: Journal, answers: &[u8]) -> Journal
-    requires { journal.ok ≡ true }
-    ensures { result.ok ≡ true → result ≡ journal }
-{
-    match write_whole(rt, Stream::Output, answers) {
-        Ok(()) => journal,
-        Err(error) => {
-            failed(rt, b"standard output", error);
-            journal.ok = false;
-            journal
+impl<'a> Session<'a> {
+    // Writes answers on standard output. The bytes for the journal, which was as it is said first, must be on disk: it has grown by just these bytes.
+    fn put_answers(
+        self,
+        _before: Option<Journal>,
+        _kept: &[u8],
+        forced: Option<Journal>,
+        answers: &[u8],
+    ) -> Result<Option<Journal>, Stopped>
+        requires { Delivered _before _kept.now forced }
+        ensures { IfOk result (λ journal. journal ≡ forced) }
+    {
+        match write_whole(self.rt, Stream::Output, answers) {
+            Ok(()) => Ok(forced),
+            Err(error) => Err(failed(self.rt, b"standard output", error)),
         }
     }
-}
 
-// The journal with the bytes for it, if there are any, on disk.
-fn keep(rt: &HostRuntime, handles: &Handles, name: &[u8], journal: Journal, kept: &[u8]) -> Journal
-    ensures { Delivered journal kept.now result }
-{
-    if kept.len() == 0 {
-        return journal;
+    // The journal with the bytes for it, if there are any, on disk.
+    fn keep(self, journal: Option<Journal>, kept: &[u8]) -> Result<Option<Journal>, Stopped>
+        ensures { IfOk result (λ forced. Delivered journal kept.now forced) }
+    {
+        if kept.is_empty() {
+            return Ok(journal);
+        }
+        match journal {
+            Some(journal) => Ok(Some(self.handles.append(self.rt, journal, kept)?)),
+            None => Err(failed(self.rt, self.handles.name, Error::from_raw_os_error(EBADF))),
+        }
     }
-    append(rt, handles, name, journal, kept)
-}
 
-// The bytes for the journal are on disk before the answers are written; if they can't be had there, nothing is answered.
-fn keep_and_answer(
-    rt: &HostRuntime,
-    handles: &Handles,
-    name: &[u8],
-    journal: Journal,
-    kept: &[u8],
-    answers: &[u8],
-) -> Journal
-    ensures { Delivered journal kept.now result }
-{
-    let forced = keep(rt, handles, name, journal, kept);
-    if !forced.ok {
-        return forced;
+    // The bytes for the journal are on disk before the answers are written; if they can't be had there, nothing is answered.
+    fn keep_and_answer(
+        self,
+        journal: Option<Journal>,
+        kept: &[u8],
+        answers: &[u8],
+    ) -> Result<Option<Journal>, Stopped>
+        ensures { IfOk result (λ forced. Delivered journal kept.now forced) }
+    {
+        let forced = self.keep(journal, kept)?;
+        self.put_answers(journal, kept, forced, answers)
     }
-    put_answers(rt, forced, answers)
-}
 
-// One less, or none.
-fn one_less(n: usize) -> usize
-    ensures { result ≡ n - 1 }
-{
-    if n == 0 { 0 } else { n - 1 }
-}
-
-// A line of the journal that was replayed: a refusal or an error stops the replay, and is said without its newline. The
-// answers are those of one line.
-fn replayed(
-    rt: &HostRuntime,
-    name: &[u8],
-    mut journal: Journal,
-    place: Place,
-    answers: &[u8],
-) -> Journal
-    ensures { result ≡ stopped_if (nat_lt 0 place.refused) journal }
-{
-    if place.refused == 0 {
-        return journal;
+    // That the lines of a journal behind which the place is were replayed: a refusal or an error stops the replay, and is said. Its answer is the last
+    // line of the answers.
+    fn check_replayed(self, place: Place, answers: &[u8]) -> Result<(), Stopped>
+        ensures { is_ok result ≡ nat_eq place.refused 0 }
+    {
+        if place.refused == 0 {
+            return Ok(());
+        }
+        about_line(self.rt, self.handles.name, place.line, last_line(answers));
+        Err(Stopped)
     }
-    let n = one_less(answers.len());
-    about_line(rt, name, place.line, &answers[..n]);
-    journal.ok = false;
-    journal
+
+    // What becomes of the bytes of lines behind which the place is: where a journal is replayed nothing is kept or answered again.
+    pub fn deliver(
+        self,
+        journal: Option<Journal>,
+        place: Place,
+        kept: &[u8],
+        answers: &[u8],
+    ) -> Result<Option<Journal>, Stopped>
+        ensures { Became self.entry.way.replays place journal kept.now result }
+    {
+        if !self.way.replays {
+            return self.keep_and_answer(journal, kept, answers);
+        }
+        self.check_replayed(place, answers)?;
+        Ok(journal)
+    }
 }
 
-// What becomes of the bytes of lines: where a journal is replayed nothing is kept or answered again.
-pub fn deliver(
-    rt: &HostRuntime,
-    handles: &Handles,
-    name: &[u8],
-    journal: Journal,
-    silent: bool,
-    place: Place,
-    kept: &[u8],
-    answers: &[u8],
-) -> Journal
-    ensures { Became silent place journal kept.now result }
-{
-    if silent {
-        return replayed(rt, name, journal, place, answers);
+// The last line of a text, without its newline.
+fn last_line(text: &[u8]) -> &[u8] {
+    let end = text.len().saturating_sub(1);
+    match text[..end].iter().rposition(|byte| *byte == b'\n') {
+        Some(before) => &text[before + 1..end],
+        None => &text[..end],
     }
-    keep_and_answer(rt, handles, name, journal, kept, answers)
 }

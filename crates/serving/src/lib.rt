@@ -2,209 +2,176 @@
 // themselves are taken by `dialogue`, and the files and streams are those of `storage`: here the one's bytes become the other's.
 #![tactic(auto)]
 
-ghost use Rattle.std.specs.Prelude.{◌<◌, ◌≤◌, length};
-ghost use Rattle.layout.specs.WellFormed.{WellFormed};
-
-use calendar::Day;
-use dialogue::Place;
-
-mod buffers; // buffers.rt: places for lines, numbers, answers and the journal's bytes
+mod buffers; // buffers.rt: a buffer between two reads, and the bytes of a file that is entered
 mod delivery; // delivery.rt: what becomes of the bytes of lines
+mod desk; // desk.rt: the book, how far an input is taken on it, and room for what a line needs
 mod input; // input.rt: an input, read in parts
 mod load; // load.rt: a file entered as one batch
 mod options; // options.rt: the arguments
 mod parts; // parts.rt: all complete lines of a part of an input
 mod replay; // replay.rt: the replay of a journal
+mod session; // session.rt: how lines are taken, and where their bytes go
 mod usage; // usage.rt: what is printed of the program itself
 mod ways; // ways.rt: the ways to take the lines of an input
 
-use delivery::Progress;
-use input::{Sources, answer_all};
+use buffers::Entry;
+use desk::Desk;
+use input::Sources;
 use options::Options;
-use storage::{Contents, Handles, Journal, Stream};
+use session::Session;
+use storage::{Handles, Journal, Opened, Stopped, Stream, failed};
 
 // Reads the file that is to be entered, if there is one. If it can't be had, that is said.
-fn read_file(rt: &HostRuntime, options: Options, bytes: &mut [u8]) -> Contents
-    requires { 0 < length bytes.old }
-    ensures { result.bytes < length bytes.old }
-{
-    if options.load == 0 {
-        return Contents { ok: true, bytes: 0 };
-    }
+fn read_file<'a>(
+    rt: &HostRuntime,
+    options: Options,
+    bytes: &'a mut [u8; 32765],
+) -> Result<Option<Entry<'a>>, Stopped> {
+    let Some(place) = options.load else {
+        return Ok(None);
+    };
     let mut name = io::buffer();
-    match storage::argument(rt, options.load, &mut name) {
-        Ok(n) => storage::read_whole(rt, &name[..n], bytes),
-        Err(error) => {
-            storage::failed(rt, b"the file's name", error);
-            Contents {
-                ok: false,
-                bytes: 0,
-            }
+    match storage::argument(rt, place, &mut name) {
+        Ok(n) => {
+            let n = storage::read_whole(rt, &name[..n], bytes)?;
+            Ok(Some(Entry { bytes: &bytes[..n] }))
         }
+        Err(error) => Err(failed(rt, b"the file's name", error)),
     }
 }
 
 // Answers standard input to its end, with no journal, and then a file's bytes where one is to be entered.
-fn answer_alone(rt: &HostRuntime, book: &mut [u64], options: Options, bytes: &[u8])
-    requires { WellFormed book.old × (length bytes.now ≤ 32764) }
-    ensures { WellFormed book.new }
-{
-    let progress = Progress {
-        place: ways::at_start(0, true),
-        bytes: 0,
-        journal: delivery::no_journal(),
-    };
-    let from = Sources {
-        input: true,
-        load: options.load != 0,
-        says_end: options.end,
-    };
-    answer_all(
+fn answer_alone(rt: &HostRuntime, desk: &mut Desk, options: Options, file: Option<Entry>) {
+    let handles = Handles::of(b"");
+    let alone = Session {
         rt,
-        &storage::no_handles(),
-        book,
-        progress,
-        ways::filtering(options.bail),
-        from,
-        b"",
-        bytes,
-    );
+        handles: &handles,
+        way: ways::filtering(options.bail),
+    };
+    let from = file.map_or(Sources::Input, Sources::Both);
+    alone.answer_all(desk, from, options.end);
 }
 
 // The ledger with no journal. A file that is to be entered is read before anything is answered.
-fn filter(rt: &HostRuntime, book: &mut [u64], options: Options)
-    requires { WellFormed book.old }
-    ensures { WellFormed book.new }
-{
-    let mut bytes = buffers::file();
-    let file = read_file(rt, options, &mut bytes);
-    if !file.ok {
-        return;
+fn filter(rt: &HostRuntime, desk: &mut Desk, options: Options) {
+    let mut bytes = [0; 32765];
+    if let Ok(file) = read_file(rt, options, &mut bytes) {
+        answer_alone(rt, desk, options, file);
     }
-    let n = file.bytes;
-    answer_alone(rt, book, options, &bytes[..n]);
 }
 
 // Answers standard input to its end behind a replay, or in its place the file that is to be entered, and keeps the changes, or reads only.
 fn answer_behind(
     rt: &HostRuntime,
     handles: &Handles,
-    book: &mut [u64],
-    place: Place,
-    journal: Journal,
+    desk: &mut Desk,
     options: Options,
-    name: &[u8],
-    bytes: &[u8],
-)
-    requires { WellFormed book.old × (length bytes.now ≤ 32764) }
-    ensures { WellFormed book.new }
-{
-    let progress = Progress {
-        place,
-        bytes: 0,
-        journal,
+    file: Option<Entry>,
+) {
+    let behind = Session {
+        rt,
+        handles,
+        way: ways::behind_replay(options.read, options.bail, options.batch),
     };
-    let way = ways::behind_replay(options.read, options.bail, options.batch);
-    let from = Sources {
-        input: options.load == 0,
-        load: options.load != 0,
-        says_end: options.end,
+    let from = file.map_or(Sources::Input, Sources::File);
+    behind.answer_all(desk, from, options.end);
+}
+
+// Replays the open journal.
+fn replayed(
+    rt: &HostRuntime,
+    handles: &Handles,
+    desk: &mut Desk,
+    drops: bool,
+) -> Result<(), Stopped> {
+    let replaying = Session {
+        rt,
+        handles,
+        way: ways::replaying(),
     };
-    answer_all(rt, handles, book, progress, way, from, name, bytes);
+    replaying.replay(desk, drops)
+}
+
+// Replays the journal that was just opened to be kept, which is then ready to be appended to.
+fn continued(
+    rt: &HostRuntime,
+    handles: &mut Handles,
+    desk: &mut Desk,
+    opened: Opened,
+) -> Result<Journal, Stopped> {
+    replayed(rt, handles, desk, true)?;
+    handles.continue_kept(rt, opened, desk.bytes)
 }
 
 // Replays the journal with this name, and then answers standard input to its end or enters a file's bytes, keeping each accepted change.
-fn keep_behind(rt: &HostRuntime, book: &mut [u64], options: Options, name: &[u8], bytes: &[u8])
-    requires { WellFormed book.old × (length bytes.now ≤ 32764) }
-    ensures { WellFormed book.new }
-{
-    let mut handles = storage::no_handles();
-    let opened = storage::open_kept(rt, &mut handles, name);
-    if opened.file < 0 {
+fn keep_behind(
+    rt: &HostRuntime,
+    desk: &mut Desk,
+    options: Options,
+    name: &[u8],
+    file: Option<Entry>,
+) {
+    let mut handles = Handles::of(name);
+    let Ok(opened) = handles.open_kept(rt) else {
         return;
+    };
+    if let Ok(journal) = continued(rt, &mut handles, desk, opened) {
+        let place = ways::at_start(desk.place.kept, desk.place.early);
+        desk.begin(place, Some(journal));
+        answer_behind(rt, &handles, desk, options, file);
     }
-    let replayed = replay::replay(rt, &handles, book, name, true);
-    if !replayed.ok {
-        storage::close_kept(rt, &mut handles, name, opened);
-        return;
-    }
-    let journal = storage::continue_kept(rt, &mut handles, name, opened, replayed.bytes);
-    if !journal.ok {
-        storage::close_kept(rt, &mut handles, name, journal);
-        return;
-    }
-    let place = ways::at_start(replayed.kept, replayed.early);
-    answer_behind(rt, &handles, book, place, journal, options, name, bytes);
-    storage::close_kept(rt, &mut handles, name, journal);
+    handles.close_kept(rt, opened);
 }
 
 // The ledger with the journal of this name, which is kept. A file that is to be entered is read before the journal is opened.
-fn keep(rt: &HostRuntime, book: &mut [u64], options: Options, name: &[u8])
-    requires { WellFormed book.old }
-    ensures { WellFormed book.new }
-{
-    let mut bytes = buffers::file();
-    let file = read_file(rt, options, &mut bytes);
-    if !file.ok {
-        return;
+fn keep(rt: &HostRuntime, desk: &mut Desk, options: Options, name: &[u8]) {
+    let mut bytes = [0; 32765];
+    if let Ok(file) = read_file(rt, options, &mut bytes) {
+        keep_behind(rt, desk, options, name, file);
     }
-    let n = file.bytes;
-    keep_behind(rt, book, options, name, &bytes[..n]);
 }
 
 // Replays the journal with this name, and then answers the questions of standard input to its end. No call is counted as kept there, so that a
 // `fresh` is an error like every other change.
-fn read(rt: &HostRuntime, book: &mut [u64], options: Options, name: &[u8])
-    requires { WellFormed book.old }
-    ensures { WellFormed book.new }
-{
-    let mut handles = storage::no_handles();
-    if !storage::open_journal(rt, &mut handles, name) {
+fn read(rt: &HostRuntime, desk: &mut Desk, options: Options, name: &[u8]) {
+    let mut handles = Handles::of(name);
+    if handles.open_journal(rt).is_err() {
         return;
     }
-    let replayed = replay::replay(rt, &handles, book, name, false);
-    handles.journal = None;
-    if !replayed.ok {
-        return;
+    let done = replayed(rt, &handles, desk, false);
+    handles.close_journal();
+    if done.is_ok() {
+        let place = ways::at_start(0, desk.place.early);
+        desk.begin(place, None);
+        answer_behind(rt, &handles, desk, options, None);
     }
-    let place = ways::at_start(0, replayed.early);
-    answer_behind(
-        rt,
-        &handles,
-        book,
-        place,
-        delivery::no_journal(),
-        options,
-        name,
-        b"",
-    );
 }
 
-// The ledger with a journal: the standard streams must be open, or the journal's file would take the place of one.
-fn with_journal(rt: &HostRuntime, book: &mut [u64], options: Options)
-    requires { WellFormed book.old }
-    ensures { WellFormed book.new }
-{
+// The ledger with a journal, whose name stands at a place among the arguments: the standard streams must be open, or the journal's file would take the
+// place of one.
+fn with_journal(rt: &HostRuntime, desk: &mut Desk, options: Options, place: usize) {
     if !storage::are_streams_open(rt) {
         return;
     }
     let mut buffer = io::buffer();
-    match storage::argument(rt, options.name, &mut buffer) {
+    match storage::argument(rt, place, &mut buffer) {
         Ok(n) => {
             if options.read {
-                read(rt, book, options, &buffer[..n]);
-                return;
+                read(rt, desk, options, &buffer[..n]);
+            } else {
+                keep(rt, desk, options, &buffer[..n]);
             }
-            keep(rt, book, options, &buffer[..n]);
         }
-        Err(error) => storage::failed(rt, b"the journal's name", error),
+        Err(error) => {
+            let _ = failed(rt, b"the journal's name", error);
+        }
     }
 }
 
 // The ledger. The one book of the program is here, the fresh book of day 0 until a `fresh` line.
 pub fn run(rt: &HostRuntime) {
     let options = options::asked_for(rt);
-    if options::is_wrong(options) {
+    if options.is_wrong() {
         usage::put_usage(rt, Stream::Errors);
         return;
     }
@@ -216,11 +183,11 @@ pub fn run(rt: &HostRuntime) {
         usage::put_version(rt);
         return;
     }
-    let mut book = [0u64; 6147];
-    book::fresh(&mut book, Day(0));
-    if options.name == 0 {
-        filter(rt, &mut book, options);
-        return;
+    let mut kept = [0; 90112];
+    let mut out = io::large_buffer();
+    let mut desk = Desk::fresh(&mut kept, &mut out);
+    match options.name {
+        Some(place) => with_journal(rt, &mut desk, options, place),
+        None => filter(rt, &mut desk, options),
     }
-    with_journal(rt, &mut book, options);
 }

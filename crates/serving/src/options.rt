@@ -1,14 +1,13 @@
 // The arguments: options, the name of a journal, and that of a file to be entered.
-ghost use Rattle.std.specs.Prelude.{◌≡◌, if◌then◌else◌};
-ghost use Rattle.serving.specs.Options.{no_options, is_dashed, with_option, with_load, with_argument, is_wrong};
+ghost use Rattle.std.specs.Prelude.{◌≡◌};
+ghost use Rattle.serving.specs.Options.{no_options, is_dashed, is, with_option, with_load, with_argument, is_wrong};
 
 use storage::{argument, argument_count};
-use words::place_of;
 
 // What the arguments ask for: the options, whether the usage or the version is asked for, whether there is one that is none of these, the place of
-// the journal's name among the arguments, 0 if there is none, whether the next one is the name of the file to be entered, and the place of that name,
-// 0 if there is none.
-#[derive(Clone, Copy)]
+// the journal's name among the arguments, whether the next one is the name of the file to be entered, and the place of that name.
+// Kept: each flag is a choice of its own, and none says whether another field holds a value.
+#[derive(Clone, Copy, Default)]
 pub struct Options {
     pub bail: bool,
     pub end: bool,
@@ -17,118 +16,101 @@ pub struct Options {
     pub help: bool,
     pub version: bool,
     pub wrong: bool,
-    pub name: usize,
+    pub name: Option<usize>,
     pub awaits: bool,
-    pub load: usize,
-}
-
-// Nothing is asked for.
-fn none() -> Options
-    ensures { result ≡ no_options }
-{
-    Options {
-        bail: false,
-        end: false,
-        batch: false,
-        read: false,
-        help: false,
-        version: false,
-        wrong: false,
-        name: 0,
-        awaits: false,
-        load: 0,
-    }
+    pub load: Option<usize>,
 }
 
 // Whether an argument begins as an option does.
 fn is_dashed(argument: &[u8]) -> bool
     ensures { result ≡ is_dashed argument.now }
 {
-    if argument.len() == 0 {
-        return false;
+    argument.starts_with(b"-")
+}
+
+// Whether an argument is an option.
+fn is(argument: &[u8], option: &[u8]) -> bool
+    ensures { result ≡ is argument.now option.now }
+{
+    argument == option
+}
+
+impl Options {
+    // Nothing is asked for.
+    fn none() -> Options
+        ensures { result ≡ no_options }
+    {
+        Options::default()
     }
-    argument[0] == b'-'
-}
 
-// The place of the name, where one more is given or not.
-fn name_place(given: bool, place: usize, before: usize) -> usize
-    ensures { result ≡ (if given then place else before) }
-{
-    if given { place } else { before }
-}
-
-// What is asked for with one argument more, at a place: an option, or the one name of a journal, which does not begin as an option does.
-fn with_option(options: Options, place: usize, argument: &[u8]) -> Options
-    ensures { result ≡ with_option options place argument.now }
-{
-    let k = place_of(
-        argument,
-        b"--bail --end --batch --read --help -h --version --load",
-    );
-    let named = 8 <= k;
-    let free = !is_dashed(argument) & (options.name == 0);
-    Options {
-        bail: options.bail | (k == 0),
-        end: options.end | (k == 1),
-        batch: options.batch | (k == 2),
-        read: options.read | (k == 3),
-        help: options.help | (k == 4) | (k == 5),
-        version: options.version | (k == 6),
-        wrong: options.wrong | (named & !free) | ((k == 7) & (options.load != 0)),
-        name: name_place(named & free, place, options.name),
-        awaits: k == 7,
-        load: options.load,
+    // What is asked for with one argument more, at a place: an option, or the one name of a journal, which does not begin as an option does.
+    #[tactic(auto, unfolding(crate::specs::Options::with_option))]
+    fn with_option(self, place: usize, argument: &[u8]) -> Options
+        ensures { result ≡ with_option self place argument.now }
+    {
+        let bail = is(argument, b"--bail");
+        let end = is(argument, b"--end");
+        let batch = is(argument, b"--batch");
+        let read = is(argument, b"--read");
+        let help = is(argument, b"--help") | is(argument, b"-h");
+        let version = is(argument, b"--version");
+        let load = is(argument, b"--load");
+        let named = !(bail | end | batch | read | help | version | load);
+        let free = !is_dashed(argument) & self.name.is_none();
+        Options {
+            bail: self.bail | bail,
+            end: self.end | end,
+            batch: self.batch | batch,
+            read: self.read | read,
+            help: self.help | help,
+            version: self.version | version,
+            wrong: self.wrong | (named & !free) | (load & self.load.is_some()),
+            name: if named & free { Some(place) } else { self.name },
+            awaits: load,
+            load: self.load,
+        }
     }
-}
 
-// What is asked for with the name of the file to be entered, at a place, which does not begin as an option does.
-fn with_file(options: Options, place: usize, argument: &[u8]) -> Options
-    ensures { result ≡ with_load options place argument.now }
-{
-    Options {
-        bail: options.bail,
-        end: options.end,
-        batch: options.batch,
-        read: options.read,
-        help: options.help,
-        version: options.version,
-        wrong: options.wrong | is_dashed(argument),
-        name: options.name,
-        awaits: false,
-        load: place,
+    // What is asked for with the name of the file to be entered, at a place, which does not begin as an option does.
+    #[tactic(auto, unfolding(crate::specs::Options::with_load))]
+    fn with_file(self, place: usize, argument: &[u8]) -> Options
+        ensures { result ≡ with_load self place argument.now }
+    {
+        Options {
+            wrong: self.wrong | is_dashed(argument),
+            awaits: false,
+            load: Some(place),
+            ..self
+        }
     }
-}
 
-// What is asked for with one argument more, at a place.
-fn with_argument(options: Options, place: usize, argument: &[u8]) -> Options
-    ensures { result ≡ with_argument options place argument.now }
-{
-    if options.awaits {
-        return with_file(options, place, argument);
+    // What is asked for with one argument more, at a place.
+    #[tactic(auto, unfolding(crate::specs::Options::with_argument))]
+    fn with_argument(self, place: usize, argument: &[u8]) -> Options
+        ensures { result ≡ with_argument self place argument.now }
+    {
+        if self.awaits {
+            self.with_file(place, argument)
+        } else {
+            self.with_option(place, argument)
+        }
     }
-    with_option(options, place, argument)
-}
 
-// Whether the arguments are none that the program takes.
-pub fn is_wrong(options: Options) -> bool
-    ensures { result ≡ is_wrong options }
-{
-    options.wrong | options.awaits | (options.read & ((options.name == 0) | (options.load != 0)))
+    // Whether the arguments are none that the program takes.
+    pub fn is_wrong(self) -> bool
+        ensures { result ≡ is_wrong self }
+    {
+        self.wrong | self.awaits | (self.read & (self.name.is_none() | self.load.is_some()))
+    }
 }
 
 // What the program's arguments ask for.
 pub fn asked_for(rt: &HostRuntime) -> Options {
-    let mut options = none();
+    let mut options = Options::none();
     let mut buffer = io::buffer();
-    let count = argument_count(rt);
-    let mut i = 1;
-    while i < count {
-        let n = match argument(rt, i, &mut buffer) {
-            Ok(n) => n,
-            Err(_) => 0,
-        };
-        options = with_argument(options, i, &buffer[..n]);
-        i += 1;
+    for place in 1..argument_count(rt) {
+        let n = argument(rt, place, &mut buffer).unwrap_or(0);
+        options = options.with_argument(place, &buffer[..n]);
     }
     options
 }

@@ -1,11 +1,10 @@
 // What is printed of the program itself.
-ghost use Rattle.std.specs.Prelude.{◌≡◌, ◌-◌};
-ghost use Rattle.printing.specs.Placed.{Put};
+ghost use Rattle.std.specs.Prelude.{◌≡◌};
+ghost use Rattle.printing.specs.Written.{followed};
 ghost use Rattle.serving.specs.End.{end_line};
 
-use crate::buffers;
 use dialogue::Place;
-use printing::{put_number, put_text};
+use printing::Out;
 use storage::{Stream, failed, write_whole};
 
 // How the program is called.
@@ -33,38 +32,24 @@ pub fn put_version(rt: &HostRuntime) {
     let _ = write_whole(rt, Stream::Output, b"ledger 1.4\n");
 }
 
-// How many lines were neither refused nor an error.
-fn accepted(place: Place) -> u64
-    ensures { result ≡ place.line - place.refused }
-{
-    if place.refused < place.line {
-        return place.line - place.refused;
-    }
-    0
-}
-
 // The last line: all lines of the input, and those of them that were neither refused nor an error.
-fn put_end_line(out: &mut [u8], place: Place) -> usize
-    ensures { Put (end_line place) out.old 0 result out.new }
+#[tactic(auto, using(printing::specs::WrittenLaws::followed_twice), unfolding(crate::specs::End::end_line))]
+fn put_end_line(out: &mut Out, place: Place)
+    ensures { out.new ≡ followed out.old (end_line place) }
 {
-    let word = put_text(out, 0, b"end ");
-    let lines = put_number(out, word, place.line);
-    let blank = put_text(out, lines, b" ");
-    let end = put_number(out, blank, accepted(place));
-    put_text(out, end, b"\n")
-}
-
-// Writes the first bytes of a slice on standard output.
-fn write_front(rt: &HostRuntime, out: &[u8], end: usize) {
-    let n = buffers::smaller(end, out.len());
-    if let Err(error) = write_whole(rt, Stream::Output, &out[..n]) {
-        failed(rt, b"standard output", error);
-    }
+    out.text(b"end ");
+    out.put(place.line);
+    out.text(b" ");
+    out.put(place.line.saturating_sub(place.refused));
+    out.byte(b'\n')
 }
 
 // Says that all lines of an input were answered.
 pub fn put_end(rt: &HostRuntime, place: Place) {
     let mut buffer = io::buffer();
-    let end = put_end_line(&mut buffer, place);
-    write_front(rt, &buffer, end);
+    let mut line = Out::new(&mut buffer);
+    put_end_line(&mut line, place);
+    if let Err(error) = write_whole(rt, Stream::Output, line.written()) {
+        let _ = failed(rt, b"standard output", error);
+    }
 }

@@ -1,7 +1,5 @@
 // The ways to take the lines of an input, and the place before its first line.
 ghost use Rattle.std.specs.Prelude.{◌≡◌, true, false};
-ghost use Rattle.dialogue.specs.Turns.{ended};
-ghost use Rattle.dialogue.specs.Whole.{known_place, last_way};
 ghost use Rattle.dialogue.specs.Dialogue.{replaying as Dialogue·replaying};
 ghost use Rattle.serving.specs.Ways.{at_start, filter_way, behind_replay};
 
@@ -17,19 +15,6 @@ pub fn at_start(kept: u64, early: bool) -> Place
         kept,
         long: false,
         early,
-    }
-}
-
-// The same place, where the line that has begun is known to be too long, or not.
-pub fn known(place: Place, long: bool) -> Place
-    ensures { result ≡ known_place long place }
-{
-    Place {
-        line: place.line,
-        refused: place.refused,
-        kept: place.kept,
-        long,
-        early: place.early,
     }
 }
 
@@ -73,25 +58,4 @@ pub fn replaying() -> Way
         gathers: true,
         replays: true,
     }
-}
-
-// For a last line that has no newline.
-pub fn last(way: Way) -> Way
-    ensures { result ≡ last_way way }
-{
-    Way {
-        keeps: way.keeps,
-        reads: way.reads,
-        torn: way.keeps,
-        bails: way.bails,
-        gathers: way.gathers,
-        replays: way.replays,
-    }
-}
-
-// Whether the lines of an input have ended before its end.
-pub fn has_ended(way: Way, place: Place) -> bool
-    ensures { result ≡ ended way place }
-{
-    way.bails & (0 < place.refused)
 }

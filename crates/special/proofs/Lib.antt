@@ -2,9 +2,9 @@ pub mod Walks
 pub mod Kept
 pub mod Usable
 pub mod Sums
+pub mod InRange
 pub mod Rounding
 pub mod Means
 pub mod Amount
 pub mod Bounds
-pub mod InRange
 pub mod Decided

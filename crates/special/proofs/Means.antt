@@ -4,7 +4,8 @@ use Prim.Native.Nat.{ℕ, ◌+◌, ◌*◌, ◌^◌, ◌≤◌, ◌<◌}
 use native.Mathlib.Omega.{arith}
 use mathlib.Core.Path.{◌≡◌, ap, ◌∙◌}
 use mathlib.Core.Bool.{true}
-use mathlib.Core.List.{[], ◌∷◌}
+use mathlib.Core.List.{List, [], ◌∷◌}
+use lib.ListN.{length, take, length-take}
 use lib.IntN.{ℤ, pos, nat_abs, ◌+ℤ◌, ◌*ℤ◌, +ℤ_idr}
 use lib.Signed.{mag}
 use mir.Syntax.{w64}
@@ -12,9 +13,11 @@ use mir.Val.{SFits}
 use mir.Facts.{to_z-of_z}
 use Rattle.laws.specs.Integers.{sum_of, nat_abs-add, Within}
 use Rattle.laws.specs.Signed.{nearest, nat_abs_mul, floor_div-bound, fits_nat_abs}
-use Rattle.laws.specs.Largest.{mean_of_three}
+use Rattle.laws.specs.Largest.{falling, three_largest, mean_of_three}
 use Rattle.special.specs.Ranges.{rates_in_range}
 use Rattle.laws.specs.Read.{read, read_is, read-abs}
+use Rattle.special.specs.Ratio.{ratio}
+use Rattle.special.proofs.InRange.{largest-in-range}
 use Rattle.special.proofs.Sums.{all-within, sum_bound}
 
 -- the magnitude of x / n to the nearest whole
@@ -57,7 +60,12 @@ module _ (a b c : ℤ) (small : rates_in_range (a ∷ b ∷ c ∷ []) ≡ true) 
   unfolding mean_of_three
   mean-is r f e = read_is r f ∙ e ∙ ap (λ z. nearest z 3) three-read
 
-  -- the mean's bound, for the products
-  pub mean-small : nat_abs (mean_of_three (a ∷ b ∷ c ∷ [])) ≤ 100001
-  unfolding mean_of_three
-  mean-small = omega (arith, nearest-bound (sum_of (a ∷ b ∷ c ∷ [])) 3, small-sum)
+-- the bound of a ratio, for the products
+mean-small : (l : List ℤ) → length l ≤ 3 → rates_in_range l ≡ true → nat_abs (mean_of_three l) ≤ 100001
+unfolding mean_of_three
+mean-small l few e = omega (arith, nearest-bound (sum_of l) 3, sum_bound 100000 l e)
+
+pub ratio-small : (rates : List ℤ) → rates_in_range rates ≡ true → nat_abs (ratio rates) ≤ 100001
+unfolding ratio three_largest
+ratio-small rates e =
+    mean-small (take 3 (falling rates)) (omega (arith, length-take 3 (falling rates))) (largest-in-range rates e)

@@ -1,24 +1,22 @@
--- The sum of a list of amounts, from its end.
+-- The sum of a list of amounts.
 -- Assumes nothing.
-use Prim.Native.Nat.{ℕ, zero, suc, ◌-◌, ◌*◌, ◌≤◌, ◌<◌}
+use Prim.Native.Nat.{ℕ, zero, suc, ◌+◌, ◌*◌, ◌≤◌, ◌<◌}
 use native.Mathlib.Omega.{arith}
-use mathlib.Core.Path.{◌≡◌, ◌∙◌}
-use mathlib.Core.Bool.{Bool, true, false≢true}
+use mathlib.Core.Path.{◌≡◌, refl, sym, ap, ◌∙◌}
+use mathlib.Core.Bool.{true, false≢true}
 use mathlib.Core.List.{List, [], ◌∷◌}
 use borrow.Author.Tests.{leb-true}
 use lib.Dec.{leb}
-use lib.ListN.{length, get_or, drop, length-drop}
-use lib.Seq.{drop-length}
-use lib.IntN.{ℤ, pos, negsuc, neg_ℤ, nat_abs, ◌+ℤ◌}
+use lib.ListN.{length, get_or, drop, drop_of_length-le}
+use lib.IntN.{ℤ, pos, negsuc, neg_ℤ, nat_abs, ◌+ℤ◌, +ℤ_idl, +ℤ_idr}
 use mir.Syntax.{w64}
 use mir.Val.{SFits}
 use mir.Facts.{to_z-of_z}
 use Rattle.laws.specs.Cases.{and_left, and_right}
-use Rattle.laws.specs.Integers.{sum_of, Within, sum_of-bound}
+use Rattle.laws.specs.Integers.{sum_of, Within, sum_of-bound, sum_of-turn, nat_abs-add}
 use Rattle.laws.specs.Signed.{fits_nat_abs}
-use Rattle.laws.specs.Every.{every-head, every-tail}
+use Rattle.laws.specs.Every.{every-head, every-tail, every-default}
 use Rattle.laws.specs.Read.{read}
-use Rattle.special.proofs.Walks.{drop-back}
 use Rattle.special.specs.Ranges.{every, between, Amounts}
 
 -- a number within plus or minus a bound, as a bound on its magnitude
@@ -36,33 +34,33 @@ all-within bound (x ∷ l) e = (within bound x (every-head _ _ _ e), all-within 
 pub sum_bound : (bound : ℕ) (l : List ℤ) → every (between (neg_ℤ (pos bound)) (pos bound)) l ≡ true → nat_abs (sum_of l) ≤ length l * bound
 sum_bound bound l e = sum_of-bound bound l (all-within bound l e)
 
-every_drop : {A : Type 0} (test : A → Bool) (i : ℕ) (l : List A) → every test l ≡ true → every test (drop i l) ≡ true
-every_drop test zero l e = e
-every_drop test (suc i) [] e = e
-every_drop test (suc i) (x ∷ l) e = every_drop test i l (every-tail _ _ _ e)
+-- ---- the running sum of the first i amounts
 
-sum_fits : (l : List ℤ) (i : ℕ) → Amounts l → SFits w64 (sum_of (drop i l))
-sum_fits l i a =
-    fits_nat_abs (sum_of (drop i l))
-    (omega (arith, a.few, sum_bound 1000000000000 (drop i l) (every_drop _ i l a.small), length-drop i l))
+-- The loop's invariant: the sum t is at most 10^12 for each, and with the amounts left it makes the whole.
+abbrev pub Summed : List ℤ → ℤ → ℕ → Type 0
+Summed l t i = (i ≤ length l) × (nat_abs t ≤ i * 1000000000000) × (t +ℤ sum_of (drop i l) ≡ sum_of l)
 
--- a turn: t is the sum from i on, and the amount before i is added to it
-module _ (l : List ℤ) (i : ℕ) (t : ℤ) (a : Amounts l) (h : 0 < i) (k : i ≤ length l) (f : SFits w64 (get_or l (i - 1) (pos 0)))
-    (e : t ≡ sum_of (drop i l)) where
-  step : read (get_or l (i - 1) (pos 0)) +ℤ t ≡ sum_of (drop (i - 1) l)
-  unfolding sum_of
-  step = rw (to_z-of_z f, e, drop-back l i (pos 0) h k)
+pub sum-none : (l : List ℤ) → Summed l (pos 0) 0
+sum-none l = (omega arith, omega arith, +ℤ_idl (sum_of l))
 
-  pub sum-adds : SFits w64 (read (get_or l (i - 1) (pos 0)) +ℤ t)
-  sum-adds = rw step (sum_fits l (i - 1) a)
+-- a turn: the amount at i is added to the sum t
+module _ (l : List ℤ) (i : ℕ) (t : ℤ) (a : Amounts l) (h : i < length l) (f : SFits w64 (get_or l i (pos 0))) (s : Summed l t i) where
+  small : nat_abs (get_or l i (pos 0)) ≤ 1000000000000
+  small = within 1000000000000 (get_or l i (pos 0)) (every-default _ l i (pos 0) refl a.small)
 
-  pub sum-again : read (read (get_or l (i - 1) (pos 0)) +ℤ t) ≡ sum_of (drop (i - 1) l)
-  sum-again = to_z-of_z sum-adds ∙ step
+  grown : nat_abs (t +ℤ get_or l i (pos 0)) ≤ (i + 1) * 1000000000000
+  grown = omega (arith, nat_abs-add t (get_or l i (pos 0)), small, s.1)
 
--- before the first turn, and after the last
-pub sum-none : (l : List ℤ) → pos 0 ≡ sum_of (drop (length l) l)
+  pub sum-adds : SFits w64 (t +ℤ read (get_or l i (pos 0)))
+  sum-adds = rw (to_z-of_z f) (fits_nat_abs (t +ℤ get_or l i (pos 0)) (omega (arith, grown, a.few)))
+
+  stored : read (t +ℤ read (get_or l i (pos 0))) ≡ t +ℤ get_or l i (pos 0)
+  stored = to_z-of_z sum-adds ∙ ap (λ (z : ℤ). t +ℤ z) (to_z-of_z f)
+
+  pub sum-again : Summed l (read (t +ℤ read (get_or l i (pos 0)))) (i + 1)
+  sum-again =
+      (omega arith, rw stored grown, rw stored (sym (sum_of-turn t l i h) ∙ s.2))
+
+pub sum-all : (l : List ℤ) (i : ℕ) (t : ℤ) → length l ≤ i → Summed l t i → t ≡ sum_of l
 unfolding sum_of
-sum-none l = rw drop-length
-
-pub sum-all : (l : List ℤ) (i : ℕ) (t : ℤ) → i ≤ 0 → t ≡ sum_of (drop i l) → t ≡ sum_of l
-sum-all l i t h e = let z : i ≡ 0 = omega arith in rw z at e
+sum-all l i t h s = sym (+ℤ_idr t) ∙ (rw (drop_of_length-le l h) at s.2)

@@ -60,9 +60,6 @@ module _ (rates : List ℤ) (marks : List ℕ) where
   unfolding falling usable
   from-none best e n = rw drop-length (record { largest = e; number = n })
 
-  pub from_all : (i : ℕ) (best : Best) → i ≤ 0 → BestOf (from i) best → BestOf (usable rates marks) best
-  from_all i best h b = let z : i ≡ 0 = omega arith in rw z at b
-
   pub from-fits : (i : ℕ) (best : Best) → 0 < i → i ≤ length rates → length rates < 2 ^ 64 → BestOf (from i) best → best.n + 1 < 2 ^ 64
   from-fits i best h k f b = omega (arith, b.number, usable-length (drop i rates) (drop i marks), length-drop i rates)
 

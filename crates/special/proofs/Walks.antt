@@ -1,30 +1,20 @@
--- What a walk over a list has shown at an index.
+-- Tests of every element of a list, and walks over one.
 -- Assumes nothing.
-use Prim.Native.Nat.{ℕ, suc, ◌+◌, ◌-◌, ◌^◌, ◌≤◌, ◌<◌}
+use Prim.Native.Nat.{ℕ, suc, ◌-◌, ◌≤◌, ◌<◌}
 use native.Mathlib.Omega.{arith}
-use mathlib.Core.Path.{◌≡◌, sym, ap, ◌∙◌}
-use mathlib.Core.Bool.{Bool, true, false, not}
-use mathlib.Core.List.{List, ◌∷◌}
+use mathlib.Core.Path.{◌≡◌, refl, ap}
+use mathlib.Core.Bool.{Bool, ◌&&◌}
+use mathlib.Core.List.{List, [], ◌∷◌}
 use lib.ListN.{length, get_or, drop}
 use lib.Seq.{drop-cons}
-use lib.IntN.{ℤ, pos}
-use lib.Signed.{mag}
-use borrow.Author.Tests.{not-true, not-false}
-use Rattle.laws.specs.Every.{every, every-passed, every-failed}
-use Rattle.laws.specs.Read.{read, read_is}
+use Rattle.std.specs.List.{list_all}
+use Rattle.laws.specs.Every.{every}
 
--- a walk that tests each element, where the code reads it, a signed number, back from its bits, and the answer to its test is r
-module _ (test : ℤ → Bool) (l : List ℤ) where
-  answer : (i : ℕ) (r : Bool) → mag (get_or l i (pos 0)) < 2 ^ 63 → r ≡ test (read (get_or l i (pos 0))) → test (get_or l i (pos 0)) ≡ r
-  answer i r f e = sym (e ∙ ap test (read_is (get_or l i (pos 0)) f))
-
-  pub passed : (i : ℕ) (r : Bool) → every test l ≡ every test (drop i l) → i < length l → mag (get_or l i (pos 0)) < 2 ^ 63
-      → r ≡ test (read (get_or l i (pos 0))) → not r ≡ false → every test l ≡ every test (drop (i + 1) l)
-  passed i r e h f k t = every-passed test l (pos 0) i e h (answer i r f k ∙ not-false r t)
-
-  pub failed : (i : ℕ) (r : Bool) → every test l ≡ every test (drop i l) → i < length l → mag (get_or l i (pos 0)) < 2 ^ 63
-      → r ≡ test (read (get_or l i (pos 0))) → not r ≡ true → false ≡ every test l
-  failed i r e h f k t = every-failed test l (pos 0) i e h (answer i r f k ∙ not-true r t)
+-- `every` is std's `list_all`
+pub all_every : {A : Type 0} (test : A → Bool) (l : List A) → list_all test l ≡ every test l
+unfolding every
+all_every test [] = refl
+all_every test (x ∷ l) = ap (λ (t : Bool). test x && t) (all_every test l)
 
 -- a walk from the end: the element before what is passed
 pub drop-back : {A : Type 0} (l : List A) (i : ℕ) (d : A) → 0 < i → i ≤ length l → drop (i - 1) l ≡ get_or l (i - 1) d ∷ drop i l

@@ -1,9 +1,7 @@
 -- The causes of refusal of paper 01 for the special guarantee: "special 19, 11, 18".
 -- Assumes nothing.
-use Rattle.std.specs.Prelude.{ℕ, Bool, not, ◌&&◌, ◌||◌, List, [], ◌∷◌, ltb, eqb, length, ℤ}
-use Rattle.laws.specs.Causes.{Cause}
+use Rattle.std.specs.Prelude.{ℕ, Bool, not, ◌&&◌, ◌||◌, List, ltb, eqb, length, ℤ}
 use Rattle.special.specs.Ranges.{rates_in_range, marks_in_range, zeros_in_range, excesses_in_range}
-use Rattle.special.specs.Ratio.{usable}
 
 -- Cause 19, of the lists' lengths: "more than 64 rates, marks not as many as low rates, or the four lists unequal or above 16".
 unfoldable pub wrong_lengths : ℕ → ℕ → ℕ → ℕ → ℕ → ℕ → ℕ → Bool
@@ -20,16 +18,3 @@ outside_ranges medium low marks zero_medium zero_low excess_medium excess_low =
 -- Cause 18: "fewer than three usable rates in a list".
 unfoldable pub too_few : List ℤ → List ℤ → Bool
 too_few medium low = ltb (length medium) 3 || ltb (length low) 3
-
--- The causes in the paper's order: 19, 11, 18.
-unfoldable pub causes : List ℤ → List ℤ → List ℕ → List ℤ → List ℤ → List ℤ → List ℤ → List Cause
-causes medium low marks zero_medium zero_low excess_medium excess_low =
-    record {
-      number = 19;
-      holds =
-          wrong_lengths (length medium) (length low) (length marks) (length zero_medium) (length zero_low) (length excess_medium)
-          (length excess_low);
-    }
-    ∷ record { number = 11; holds = outside_ranges medium low marks zero_medium zero_low excess_medium excess_low }
-    ∷ record { number = 18; holds = too_few medium (usable low marks) }
-    ∷ []

@@ -6,69 +6,38 @@ ghost use Rattle.special.specs.Guarantee.{special_guarantee};
 
 mod amounts; // amounts.rt: the guarantee of the ratios and the sums
 mod inputs; // inputs.rt: what the lists must be
-mod quotients; // quotients.rt: quotients, rounded
+mod quotients; // quotients.rt: quotients to the nearest whole
 mod rates; // rates.rt: the ratio of a list of rates
 
 use amounts::guarantee_of;
-use inputs::{out_of_range, wrong_lengths};
-use rates::best_of;
+use rates::ratio;
+use refusal::Refusal;
 
-// The guarantee in cents, or the number of the cause that refuses the lists.
+// What a special guarantee is worked out from: the rates of the medium and of the low voltage, a mark for each of the low voltage's, and
+// by semester the zero settlements and the repaid excesses of the medium and of the low voltage.
 #[derive(Clone, Copy)]
-pub enum Special {
-    Guarantee(u64),
-    Refused(u32),
+pub struct Lists<'a> {
+    pub medium: &'a [i64],
+    pub low: &'a [i64],
+    pub marks: &'a [u64],
+    pub zero_medium: &'a [i64],
+    pub zero_low: &'a [i64],
+    pub excess_medium: &'a [i64],
+    pub excess_low: &'a [i64],
 }
 
-// The special guarantee: the rates of the medium and of the low voltage, a mark for each of the low voltage's, and by semester the
-// zero settlements and the repaid excesses of the medium and of the low voltage.
-pub fn special_guarantee(
-    medium: &[i64],
-    low: &[i64],
-    marks: &[u64],
-    zero_medium: &[i64],
-    zero_low: &[i64],
-    excess_medium: &[i64],
-    excess_low: &[i64],
-) -> Special
-    ensures { result ≡ special_guarantee medium.now low.now marks.now zero_medium.now
-        zero_low.now excess_medium.now excess_low.now }
+// The special guarantee in cents, or the first of its causes of refusal that holds.
+pub fn special_guarantee(lists: Lists) -> Result<u64, Refusal>
+    ensures { result ≡ special_guarantee lists.entry.medium.now lists.entry.low.now lists.entry.marks.now lists.entry.zero_medium.now
+        lists.entry.zero_low.now lists.entry.excess_medium.now lists.entry.excess_low.now }
 {
-    if wrong_lengths(
-        medium.len(),
-        low.len(),
-        marks.len(),
-        zero_medium.len(),
-        zero_low.len(),
-        excess_medium.len(),
-        excess_low.len(),
-    ) {
-        return Special::Refused(19);
+    if lists.wrong_lengths() {
+        return Err(Refusal::ListLengths);
     }
-    if out_of_range(
-        medium,
-        low,
-        marks,
-        zero_medium,
-        zero_low,
-        excess_medium,
-        excess_low,
-    ) {
-        return Special::Refused(11);
+    if !lists.in_range() {
+        return Err(Refusal::OutOfRange);
     }
-    let best_medium = best_of(medium, &[]);
-    let best_low = best_of(low, marks);
-    let medium_count = best_medium.n;
-    let low_count = best_low.n;
-    if (medium_count < 3) | (low_count < 3) {
-        return Special::Refused(18);
-    }
-    Special::Guarantee(guarantee_of(
-        best_medium,
-        best_low,
-        zero_medium,
-        zero_low,
-        excess_medium,
-        excess_low,
-    ))
+    let medium = ratio(lists.medium, &[])?;
+    let low = ratio(lists.low, lists.marks)?;
+    Ok(guarantee_of(lists, medium, low))
 }

@@ -2,10 +2,11 @@
 ghost use Rattle.std.specs.Prelude.{◌≡◌, true, ◌+◌, ◌^◌, ◌<◌, get_or, take};
 ghost use Rattle.laws.specs.Largest.{insert, mean_of_three};
 ghost use Rattle.special.specs.Ranges.{rates_in_range};
-ghost use Rattle.special.specs.Ratio.{usable};
+ghost use Rattle.special.specs.Ratio.{usable, ratio_of_enough};
 ghost use Rattle.special.specs.Best.{kept, BestOf};
 
 use crate::quotients::nearest_whole;
+use refusal::Refusal;
 
 // A number below every rate.
 const BELOW: i64 = -100001;
@@ -35,26 +36,24 @@ impl Best {
             }
         } else if self.b < rate {
             Best {
-                a: self.a,
                 b: rate,
                 c: self.b,
                 n,
+                ..self
             }
         } else if self.c < rate {
-            Best {
-                a: self.a,
-                b: self.b,
-                c: rate,
-                n,
-            }
+            Best { c: rate, n, ..self }
         } else {
-            Best {
-                a: self.a,
-                b: self.b,
-                c: self.c,
-                n,
-            }
+            Best { n, ..self }
         }
+    }
+
+    // The mean of the three kept rates, to the nearest whole.
+    fn mean(self) -> i64
+        requires { rates_in_range (kept self) ≡ true }
+        ensures { result ≡ mean_of_three (kept self) }
+    {
+        nearest_whole(self.a + (self.b + self.c), 3)
     }
 }
 
@@ -62,11 +61,11 @@ impl Best {
 fn mark_at(marks: &[u64], i: usize) -> u64
     ensures { result ≡ get_or marks.now i 0 }
 {
-    if i < marks.len() { marks[i] } else { 0 }
+    marks.get(i).copied().unwrap_or(0)
 }
 
 // The three largest of the rates that are not marked.
-pub fn best_of(rates: &[i64], marks: &[u64]) -> Best
+fn best_of(rates: &[i64], marks: &[u64]) -> Best
     requires { rates_in_range rates.now ≡ true }
     ensures { BestOf (usable rates.now marks.now) result }
 {
@@ -76,9 +75,7 @@ pub fn best_of(rates: &[i64], marks: &[u64]) -> Best
         c: BELOW,
         n: 0,
     };
-    let mut i = rates.len();
-    while 0 < i {
-        i -= 1;
+    for i in (0..rates.len()).rev() {
         if mark_at(marks, i) == 0 {
             best = best.with(rates[i]);
         }
@@ -86,10 +83,14 @@ pub fn best_of(rates: &[i64], marks: &[u64]) -> Best
     best
 }
 
-// The mean of the three kept rates, to the nearest whole.
-pub fn mean(best: Best) -> i64
-    requires { rates_in_range (kept best) ≡ true }
-    ensures { result ≡ mean_of_three (kept best) }
+// The ratio of the rates that are not marked, where there are three or more.
+pub fn ratio(rates: &[i64], marks: &[u64]) -> Result<i64, Refusal>
+    requires { rates_in_range rates.now ≡ true }
+    ensures { result ≡ ratio_of_enough (usable rates.now marks.now) }
 {
-    nearest_whole(best.a + (best.b + best.c), 3)
+    let best = best_of(rates, marks);
+    if best.n < 3 {
+        return Err(Refusal::TooFewRates);
+    }
+    Ok(best.mean())
 }

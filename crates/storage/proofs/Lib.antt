@@ -1,4 +1,2 @@
-pub mod Bytes
-pub mod Growth
-pub mod Journals
-pub mod WholeLaws
+pub mod Names
+pub mod Numbers

@@ -1,4 +1,3 @@
 pub mod Texts
 pub mod Known
 pub mod Kept
-pub mod Whole

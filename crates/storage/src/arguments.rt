@@ -25,19 +25,12 @@ pub fn argument(rt: &HostRuntime, at: usize, buffer: &mut [u8]) -> io::Result<us
 
 // Whether there is an argument at a place.
 fn is_argument(rt: &HostRuntime, at: usize) -> bool {
-    let mut byte = [0u8; 1];
-    match rt.arg(at, &mut byte) {
-        Err(FillError::NotPresent) => false,
-        _ => true,
-    }
+    !matches!(rt.arg(at, &mut [0u8; 1]), Err(FillError::NotPresent))
 }
 
 // How many arguments the program was started with, its own name among them.
 pub fn argument_count(rt: &HostRuntime) -> usize {
-    for at in 0..usize::MAX {
-        if !is_argument(rt, at) {
-            return at;
-        }
-    }
-    usize::MAX
+    (0..usize::MAX)
+        .find(|at| !is_argument(rt, *at))
+        .unwrap_or(usize::MAX)
 }

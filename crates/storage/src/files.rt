@@ -1,9 +1,8 @@
 // Regular files, opened, made and cut.
-ghost use Rattle.std.specs.Prelude.{◌≡◌, ◌≤◌, length, if◌then◌else◌, nat_eq};
-ghost use Rattle.storage.specs.Texts.{behind_slash};
+ghost use Rattle.std.specs.Prelude.{◌≡◌, ℕ, ◌-◌, ◌<◌, ◌≤◌, ◌≢◌, length, slice_index};
 
 use crate::known::{facts_at, facts_of};
-use crate::messages::{about, failed};
+use crate::messages::{Stopped, Trouble, said};
 use crate::texts::path_in;
 use std::fs::{File, OpenOptions, Permissions};
 use std::io::ErrorKind;
@@ -11,61 +10,37 @@ use std::os::fd::AsRawFd;
 use std::os::unix::fs::PermissionsExt;
 use std::{fs, io};
 
-// Whether a name may be opened: it leads to a regular file or to none. If not, that is said, and nothing is opened: a pipe would wait.
-pub fn may_open(rt: &HostRuntime, name: &[u8]) -> bool {
+// Whether a name may be opened: it leads to a regular file or to none. If not, nothing is opened: a pipe would wait.
+pub fn may_open(rt: &HostRuntime, name: &[u8]) -> Result<(), Trouble> {
     match facts_at(rt, name) {
         Ok(facts) => {
-            if !facts.regular {
-                about(rt, name, b"not a regular file");
+            if facts.regular {
+                Ok(())
+            } else {
+                Err(Trouble::NotRegular)
             }
-            facts.regular
         }
         Err(error) => {
-            if (name.len() == 0) | (error.kind() != ErrorKind::NotFound) {
-                failed(rt, name, error);
-                return false;
+            if error.kind() == ErrorKind::NotFound && !name.is_empty() {
+                Ok(())
+            } else {
+                Err(Trouble::System(error))
             }
-            true
         }
     }
 }
 
-// A descriptor in the place of a standard stream is closed before a word is said, or the word would stand in the file.
-fn refuse_low(rt: &HostRuntime, name: &[u8], file: File) {
-    drop(file);
-    about(rt, name, b"not opened, since a standard stream is closed");
-}
-
-// A file that was opened for a name, if it is a regular one beside the standard streams; if not, that is said.
-fn checked_file(rt: &HostRuntime, name: &[u8], file: File) -> Option<File> {
+// A file as it was opened, if it is a regular one beside the standard streams. One in the place of a standard stream is closed before a word is said,
+// or the word would stand in the file.
+pub fn checked(opened: io::Result<File>) -> Result<File, Trouble> {
+    let file = opened?;
     if file.as_raw_fd() < 3 {
-        refuse_low(rt, name, file);
-        return None;
+        return Err(Trouble::NotOpened);
     }
-    match facts_of(&file) {
-        Ok(facts) => {
-            if !facts.regular {
-                about(rt, name, b"not a regular file");
-                return None;
-            }
-            Some(file)
-        }
-        Err(error) => {
-            failed(rt, name, error);
-            None
-        }
+    if !facts_of(&file)?.regular {
+        return Err(Trouble::NotRegular);
     }
-}
-
-// A file as it was opened for a name, or none if it is not a regular one beside the standard streams, which is said.
-pub fn checked(rt: &HostRuntime, name: &[u8], opened: io::Result<File>) -> Option<File> {
-    match opened {
-        Ok(file) => checked_file(rt, name, file),
-        Err(error) => {
-            failed(rt, name, error);
-            None
-        }
-    }
+    Ok(file)
 }
 
 // The file at a name, opened for reading.
@@ -104,111 +79,69 @@ pub fn own(file: &File) -> io::Result<()> {
     file.set_permissions(Permissions::from_mode(0o600))
 }
 
-// Opens a regular file for reading; none if it can't be had, which is said.
-pub fn open_read(rt: &HostRuntime, name: &[u8]) -> Option<File> {
-    if !may_open(rt, name) {
-        return None;
-    }
-    checked(rt, name, opened_to_read(rt, name))
-}
-
-// The place behind a byte if it is a slash, else the place found before.
-fn behind_byte(byte: u8, next: usize, found: usize) -> usize
-    ensures { result ≡ (if nat_eq byte 47 then next else found) }
-{
-    if byte == b'/' { next } else { found }
+// Opens a regular file for reading.
+pub fn open_read(rt: &HostRuntime, name: &[u8]) -> Result<File, Trouble> {
+    may_open(rt, name)?;
+    checked(opened_to_read(rt, name))
 }
 
 // The place behind the last slash of a name, or 0.
 fn behind_slash(name: &[u8]) -> usize
-    ensures upper_bound { result ≤ length name.now }
-    ensures value { result ≡ behind_slash 0 0 name.now }
+    ensures within { result ≤ length name.now }
+    ensures slash { 0 < result → slice_index name.now (result - 1) ≡ 47 }
+    ensures behind { (k : ℕ) → result ≤ k → k < length name.now → slice_index name.now k ≢ 47 }
 {
-    let mut found = 0;
-    let mut i = 0;
-    while i < name.len() {
-        found = behind_byte(name[i], i + 1, found);
-        i += 1;
-    }
-    found
+    name.iter()
+        .rposition(|byte| *byte == b'/')
+        .map_or(0, |slash| slash + 1)
 }
 
 // Forces a directory to disk.
-fn force_directory(rt: &HostRuntime, directory: &[u8]) -> io::Result<()> {
-    opened_to_read(rt, directory)?.sync_all()
+fn force_directory(rt: &HostRuntime, directory: &[u8]) -> Result<(), Trouble> {
+    Ok(opened_to_read(rt, directory)?.sync_all()?)
 }
 
-// Forces a directory to disk, and answers whether that succeeded; if not, it is said.
-fn sync_open(rt: &HostRuntime, directory: &[u8]) -> bool {
-    match force_directory(rt, directory) {
-        Ok(()) => true,
-        Err(error) => {
-            failed(rt, directory, error);
-            false
-        }
-    }
-}
-
-// Forces a file's directory to disk, so that a file that was made stays.
-fn sync_directory(rt: &HostRuntime, name: &[u8]) -> bool {
-    let n = behind_slash(name);
-    if n == 0 {
-        return sync_open(rt, b".");
-    }
-    sync_open(rt, &name[..n])
+// Forces a file's directory to disk, so that a file that was made stays; if that fails, it is said.
+fn sync_directory(rt: &HostRuntime, name: &[u8]) -> Result<(), Stopped> {
+    let directory = match behind_slash(name) {
+        0 => b".".as_slice(),
+        n => &name[..n],
+    };
+    said(rt, directory, force_directory(rt, directory))
 }
 
 // Makes a new file its owner's alone and forces it to disk.
-fn own_and_force(file: &File) -> io::Result<()> {
-    own(file)?;
-    file.sync_all()
+fn own_and_force(file: File) -> Result<(), Trouble> {
+    own(&file)?;
+    Ok(file.sync_all()?)
 }
 
-// Makes a new file its owner's alone and forces it to disk, and answers whether that succeeded; if not, it is said.
-fn settle(rt: &HostRuntime, name: &[u8], file: File) -> bool {
-    match own_and_force(&file) {
-        Ok(()) => true,
-        Err(error) => {
-            failed(rt, name, error);
-            false
-        }
-    }
+// Makes a new file its owner's alone and forces it and its directory to disk; if that fails, it is said.
+fn settle(rt: &HostRuntime, name: &[u8], file: File) -> Result<(), Stopped> {
+    said(rt, name, own_and_force(file))?;
+    sync_directory(rt, name)
 }
 
-// Makes a file, empty and on disk, and answers whether that succeeded; if not, it is said, and there is no file.
-fn make(rt: &HostRuntime, name: &[u8]) -> bool {
-    match created(rt, name) {
-        Ok(file) => {
-            if settle(rt, name, file) {
-                if sync_directory(rt, name) {
-                    return true;
-                }
-            }
-            let _ = remove(rt, name);
-            false
-        }
-        Err(error) => {
-            failed(rt, name, error);
-            false
-        }
+// Makes a file, empty and on disk; if that fails, it is said, and there is no file.
+fn make(rt: &HostRuntime, name: &[u8]) -> Result<(), Stopped> {
+    let file = said(rt, name, created(rt, name).map_err(Trouble::System))?;
+    let settled = settle(rt, name, file);
+    if settled.is_err() {
+        let _ = remove(rt, name);
     }
+    settled
 }
 
-// Opens a regular file for reading and writing, making it if it is absent; none if it can't be had, which is said.
-pub fn open_or_make(rt: &HostRuntime, name: &[u8]) -> Option<File> {
-    match opened_to_update(rt, name) {
-        Ok(file) => checked_file(rt, name, file),
-        Err(error) => {
-            if error.kind() != ErrorKind::NotFound {
-                failed(rt, name, error);
-                return None;
-            }
-            if !make(rt, name) {
-                return None;
-            }
-            checked(rt, name, opened_to_update(rt, name))
+// Opens a regular file for reading and writing, making it if it is absent; if it can't be had, that is said.
+pub fn open_or_make(rt: &HostRuntime, name: &[u8]) -> Result<File, Stopped> {
+    let mut opened = opened_to_update(rt, name);
+    if let Err(error) = &opened {
+        if error.kind() == ErrorKind::NotFound {
+            make(rt, name)?;
+            opened = opened_to_update(rt, name);
         }
     }
+    said(rt, name, checked(opened))
 }
 
 // Cuts a file to its first bytes and forces it to disk.

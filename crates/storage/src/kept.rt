@@ -1,348 +1,226 @@
 // The file of a kept journal.
-ghost use Rattle.std.specs.Prelude.{◌≡◌, ◌-◌, ◌&&◌, nat_le, nat_lt};
-ghost use Rattle.storage.specs.Kept.{no_journal, opened_journal, grown_by, stopped_of, continued_as, Continued, Appended};
+ghost use Rattle.std.specs.Prelude.{◌≡◌, ◌-◌, ◌&&◌, nat_le, nat_lt, length, IfOk, IsSome, OnOk};
+ghost use Rattle.storage.specs.Kept.{grown_by, Continued};
 
 use crate::files::{checked, cut, may_open, open_or_make, opened_to_append};
-use crate::handles::{Handles, journal_in};
-use crate::known::{Facts, facts_at, facts_of, facts_on, facts_or_none, is_same, leads_to};
-use crate::locks::{Lock, drop_lock, is_lock_held, take_lock};
-use crate::messages::{about, failed};
+use crate::handles::Handles;
+use crate::known::{Facts, Identity, facts_at, facts_of, facts_on, is_same, leads_to};
+use crate::locks::{check_lock, drop_lock, take_lock};
+use crate::messages::{Stopped, Trouble, said};
 use crate::waiting::write_to;
 use std::fs::File;
 use std::io;
 use std::num::wrapping_add_u64;
-use std::os::fd::AsRawFd;
 
-// A kept journal's file: its descriptor, below zero if it can't be had; whether all is well; where it ends as this program left it; and the numbers
-// of the file and of its lock.
-#[derive(Clone, Copy)]
+// A journal that was just opened to be kept: the numbers of its file, if they could be had, and those of its lock.
+#[derive(Clone, Copy, PartialEq, Eq)]
+pub struct Opened {
+    pub file: Option<Identity>,
+    pub lock: Identity,
+}
+
+// A kept journal, which is a value only while all is well: the numbers of its file and of its lock, and where it ends as this program left it.
+#[derive(Clone, Copy, PartialEq, Eq)]
 pub struct Journal {
-    pub file: i32,
-    pub ok: bool,
+    pub file: Identity,
+    pub lock: Identity,
     pub end: u64,
-    pub device: u64,
-    pub inode: u64,
-    pub lock_device: u64,
-    pub lock_inode: u64,
 }
 
-// None was opened.
-fn no_journal() -> Journal
-    ensures { result ≡ no_journal }
-{
-    Journal {
-        file: -1,
-        ok: false,
-        end: 0,
-        device: 0,
-        inode: 0,
-        lock_device: 0,
-        lock_inode: 0,
-    }
-}
-
-// A journal that was opened.
-fn journal_of(file: i32, facts: Facts, lock: Lock) -> Journal
-    ensures { result ≡ opened_journal file facts lock }
-{
-    Journal {
-        file,
-        ok: facts.ok,
-        end: 0,
-        device: facts.device,
-        inode: facts.inode,
-        lock_device: lock.device,
-        lock_inode: lock.inode,
-    }
-}
-
-// The journal with so many bytes more.
-fn grown(mut journal: Journal, bytes: usize) -> Journal
-    ensures { result ≡ grown_by journal bytes }
-{
-    journal.ok = true;
-    journal.end = wrapping_add_u64(journal.end, bytes as u64);
-    journal
-}
-
-// The journal once something failed.
-fn stopped(mut journal: Journal) -> Journal
-    ensures { result ≡ stopped_of journal }
-{
-    journal.ok = false;
-    journal
-}
-
-// The journal with another descriptor and another end.
-fn continued(journal: Journal, file: i32, end: u64) -> Journal
-    ensures { result ≡ continued_as journal file end }
-{
-    Journal {
-        file,
-        ok: true,
-        end,
-        device: journal.device,
-        inode: journal.inode,
-        lock_device: journal.lock_device,
-        lock_inode: journal.lock_inode,
-    }
-}
-
-// Whether a stream, by the name that the system keeps for it, is the file with these facts, or that can't be told.
-fn may_be(rt: &HostRuntime, stream: &str, facts: Facts) -> bool {
-    match facts_on(rt, stream) {
-        Ok(found) => is_same(found, facts.device, facts.inode),
-        Err(_) => true,
-    }
-}
-
-// Whether a file is, or may be, that of a standard stream, which is said: what is kept would be read again, or answers would stand among the calls.
-// Where it is, or may be, standard error nothing is said, since that would stand there too.
-fn is_file_of_stream(rt: &HostRuntime, name: &[u8], facts: Facts) -> bool {
-    if may_be(rt, "/proc/self/fd/2", facts) {
-        return true;
-    }
-    if may_be(rt, "/proc/self/fd/0", facts) | may_be(rt, "/proc/self/fd/1", facts) {
-        about(
-            rt,
-            name,
-            b"is standard input or output too; nothing is kept",
-        );
-        return true;
-    }
-    false
-}
-
-// Whether a name leads to the file of a standard stream, or may lead to it.
-fn is_stream(rt: &HostRuntime, name: &[u8]) -> bool {
-    match facts_at(rt, name) {
-        Ok(facts) => is_file_of_stream(rt, name, facts),
-        Err(_) => false,
-    }
-}
-
-// The journal that was just opened with its lock, and whose file is now among the open ones.
-fn opened(rt: &HostRuntime, handles: &mut Handles, name: &[u8], file: File, lock: Lock) -> Journal {
-    let number = file.as_raw_fd();
-    let facts = facts_of(&file);
-    handles.journal = Some(file);
-    if let Err(error) = facts {
-        failed(rt, name, error);
-    }
-    journal_of(number, facts_or_none(facts), lock)
-}
-
-// Opens the journal with a name to be kept, making it if it is absent, and takes its lock. If it can't be had that is said, and there is no lock.
-pub fn open_kept(rt: &HostRuntime, handles: &mut Handles, name: &[u8]) -> Journal {
-    if !may_open(rt, name) {
-        return no_journal();
-    }
-    if is_stream(rt, name) {
-        return no_journal();
-    }
-    let lock = take_lock(rt, handles, name);
-    if !lock.taken {
-        return no_journal();
-    }
-    match open_or_make(rt, name) {
-        Some(file) => opened(rt, handles, name, file, lock),
-        None => {
-            drop_lock(rt, name, lock.device, lock.inode);
-            no_journal()
+impl Journal {
+    // The journal with so many bytes more.
+    fn grown(self, bytes: usize) -> Journal
+        ensures { result ≡ grown_by self bytes }
+    {
+        Journal {
+            file: self.file,
+            lock: self.lock,
+            end: wrapping_add_u64(self.end, bytes as u64),
         }
     }
 }
 
-// Whether the journal's name still leads to its file, and its lock is still this program's; if not, that is said.
-fn is_held(rt: &HostRuntime, name: &[u8], journal: Journal) -> bool {
-    if !leads_to(rt, name, journal.device, journal.inode) {
-        about(
-            rt,
-            name,
-            b"the name leads to another file or to none; nothing more is kept",
-        );
-        return false;
+// Whether a stream, by the name that the system keeps for it, is a file, or that can't be told.
+fn may_be(rt: &HostRuntime, stream: &str, file: Identity) -> bool {
+    facts_on(rt, stream).map_or(true, |facts| facts.identity == file)
+}
+
+// That a name does not lead to the file of a standard stream, and can't lead to it: what is kept would be read again, or answers would stand among the
+// calls.
+fn check_streams(rt: &HostRuntime, name: &[u8]) -> Result<(), Trouble> {
+    if let Ok(facts) = facts_at(rt, name) {
+        if may_be(rt, "/proc/self/fd/2", facts.identity) {
+            return Err(Trouble::IsErrors);
+        }
+        if may_be(rt, "/proc/self/fd/0", facts.identity)
+            || may_be(rt, "/proc/self/fd/1", facts.identity)
+        {
+            return Err(Trouble::IsStream);
+        }
     }
-    is_lock_held(rt, name, journal.lock_device, journal.lock_inode)
+    Ok(())
 }
 
-// The facts of the journal's file.
-fn facts_of_journal(handles: &Handles) -> io::Result<Facts> {
-    facts_of(journal_in(handles)?)
+// The file opened for appending, if it is the one that is kept.
+fn open_append(rt: &HostRuntime, name: &[u8], kept: Identity) -> Result<File, Trouble> {
+    let file = checked(opened_to_append(rt, name))?;
+    if is_same(facts_of(&file), kept) {
+        Ok(file)
+    } else {
+        Err(Trouble::Elsewhere)
+    }
 }
 
-// Cuts the journal's file to its first bytes and forces it to disk.
-fn cut_journal(handles: &Handles, bytes: u64) -> io::Result<()> {
-    cut(journal_in(handles)?, bytes)
+// Whether a file of so many bytes has grown by no more than some behind an end.
+fn has_grown(size: u64, end: u64, bytes: u64) -> bool
+    ensures { result ≡ nat_lt end size && nat_le (size - end) bytes }
+{
+    end < size && size - end <= bytes
 }
 
-// Cuts off what the file has behind its complete lines, and answers whether the file now ends there; if not, that is said.
-fn cut_rest(rt: &HostRuntime, handles: &Handles, name: &[u8], end: u64) -> bool {
-    match facts_of_journal(handles) {
-        Ok(facts) => {
-            if facts.size < end {
-                about(rt, name, b"changed by another program");
-                return false;
+impl<'a> Handles<'a> {
+    // The facts of the journal's file.
+    fn facts(&self) -> io::Result<Facts> {
+        facts_of(self.journal_file()?)
+    }
+
+    // Cuts the journal's file to its first bytes and forces it to disk.
+    fn cut(&self, bytes: u64) -> io::Result<()> {
+        cut(self.journal_file()?, bytes)
+    }
+
+    // Opens the journal to be kept, making it if it is absent, and takes its lock. If it can't be had that is said, and there is no lock.
+    pub fn open_kept(&mut self, rt: &HostRuntime) -> Result<Opened, Stopped>
+        ensures journal { OnOk result (IsSome self.new.journal) }
+        ensures lock { OnOk result (IsSome self.new.lock) }
+    {
+        said(rt, self.name, may_open(rt, self.name))?;
+        said(rt, self.name, check_streams(rt, self.name))?;
+        let lock = take_lock(rt, self)?;
+        match open_or_make(rt, self.name) {
+            Ok(file) => Ok(self.opened(rt, file, lock)),
+            Err(stopped) => {
+                drop_lock(rt, self.name, lock);
+                Err(stopped)
             }
-            if facts.size == end {
-                return true;
+        }
+    }
+
+    // The journal that was just opened with its lock, and whose file is now among the open ones.
+    fn opened(&mut self, rt: &HostRuntime, file: File, lock: Identity) -> Opened
+        ensures journal { IsSome self.new.journal }
+        ensures lock { self.new.lock ≡ self.old.lock }
+        ensures held { result.lock ≡ lock }
+    {
+        let facts = said(rt, self.name, facts_of(&file).map_err(Trouble::System));
+        self.journal = Some(file);
+        Opened {
+            file: facts.ok().map(|facts| facts.identity),
+            lock,
+        }
+    }
+
+    // That the journal's name still leads to its file, and its lock is still this program's; if not, that is said.
+    fn check_held(&self, rt: &HostRuntime, file: Identity, lock: Identity) -> Result<(), Stopped> {
+        if !leads_to(rt, self.name, file) {
+            return Err(Trouble::Elsewhere.say(rt, self.name));
+        }
+        check_lock(rt, self.name, lock)
+    }
+
+    // Cuts off what the file has behind its complete lines, so that it ends there.
+    fn cut_rest(&self, end: u64) -> Result<(), Trouble> {
+        let size = self.facts()?.size;
+        if size < end {
+            return Err(Trouble::Shorter);
+        }
+        if end < size {
+            self.cut(end)?;
+        }
+        Ok(())
+    }
+
+    // The journal ready to be appended to, after its complete lines, which are so many bytes, were replayed; what the file has behind them is cut off.
+    // If that fails it is said.
+    pub fn continue_kept(
+        &mut self,
+        rt: &HostRuntime,
+        opened: Opened,
+        end: u64,
+    ) -> Result<Journal, Stopped>
+        ensures continued { IfOk result (λ journal. Continued opened end journal) }
+        ensures journal { OnOk result (IsSome self.new.journal) }
+        ensures lock { self.new.lock ≡ self.old.lock }
+    {
+        let Some(file) = opened.file else {
+            return Err(Stopped);
+        };
+        self.check_held(rt, file, opened.lock)?;
+        said(rt, self.name, self.cut_rest(end))?;
+        let append = said(rt, self.name, open_append(rt, self.name, file))?;
+        self.journal = Some(append);
+        Ok(Journal {
+            file,
+            lock: opened.lock,
+            end,
+        })
+    }
+
+    // That the journal is as this program left it; if not, that is said.
+    fn check_left(&self, rt: &HostRuntime, journal: Journal) -> Result<(), Stopped> {
+        let facts = said(rt, self.name, self.facts().map_err(Trouble::System))?;
+        if facts.size != journal.end {
+            return Err(Trouble::Changed.say(rt, self.name));
+        }
+        self.check_held(rt, journal.file, journal.lock)
+    }
+
+    // Whether the file, to which so many bytes failed to be appended, is cut back to its end.
+    fn is_cut_back(&self, end: u64, bytes: u64) -> bool {
+        match self.facts() {
+            Ok(facts) => {
+                facts.size == end || has_grown(facts.size, end, bytes) && self.cut(end).is_ok()
             }
-            match cut_journal(handles, end) {
-                Ok(()) => true,
-                Err(error) => {
-                    failed(rt, name, error);
-                    false
+            Err(_) => false,
+        }
+    }
+
+    // Writes the bytes at the journal's end and forces them to disk.
+    fn write_forced(&self, rt: &HostRuntime, bytes: &[u8]) -> io::Result<()> {
+        let mut file = self.journal_file()?;
+        write_to(rt, &mut file, bytes)?;
+        file.sync_data()
+    }
+
+    // The journal with the bytes appended and forced to disk. If anything is not as it was left nothing is written, and if the write fails the file
+    // is cut back; either is said, and so is where it can't be told that none of the bytes is there.
+    pub fn append(
+        &self,
+        rt: &HostRuntime,
+        journal: Journal,
+        bytes: &[u8],
+    ) -> Result<Journal, Stopped>
+        ensures { IfOk result (λ forced. forced ≡ grown_by journal (length bytes.now)) }
+    {
+        self.check_left(rt, journal)?;
+        match self.write_forced(rt, bytes) {
+            Ok(()) => Ok(journal.grown(bytes.len())),
+            Err(error) => {
+                let stopped = Trouble::System(error).say(rt, self.name);
+                if self.is_cut_back(journal.end, bytes.len() as u64) {
+                    return Err(stopped);
                 }
+                Err(Trouble::MaybeKept.say(rt, self.name))
             }
         }
-        Err(error) => {
-            failed(rt, name, error);
-            false
-        }
     }
-}
 
-// The file opened for appending, if it is the journal's; else none, which is said.
-fn open_append(rt: &HostRuntime, name: &[u8], journal: Journal) -> Option<File> {
-    match checked(rt, name, opened_to_append(rt, name)) {
-        Some(file) => {
-            if !is_same(
-                facts_or_none(facts_of(&file)),
-                journal.device,
-                journal.inode,
-            ) {
-                drop(file);
-                about(
-                    rt,
-                    name,
-                    b"the name leads to another file or to none; nothing more is kept",
-                );
-                return None;
-            }
-            Some(file)
-        }
-        None => None,
+    // Closes the journal's file, and removes its lock if that is still this program's.
+    pub fn close_kept(&mut self, rt: &HostRuntime, opened: Opened)
+        ensures closed { self.new.journal ≡ None }
+        ensures lock { self.new.lock ≡ self.old.lock }
+    {
+        self.journal = None;
+        drop_lock(rt, self.name, opened.lock);
     }
-}
-
-// The journal ready to be appended to, after its complete lines, which are so many bytes, were replayed; what the file has behind them is cut off.
-// If that fails it is said.
-pub fn continue_kept(
-    rt: &HostRuntime,
-    handles: &mut Handles,
-    name: &[u8],
-    journal: Journal,
-    end: u64,
-) -> Journal
-    ensures { Continued journal end result }
-{
-    if !journal.ok {
-        return journal;
-    }
-    if !is_held(rt, name, journal) {
-        return stopped(journal);
-    }
-    if !cut_rest(rt, handles, name, end) {
-        return stopped(journal);
-    }
-    match open_append(rt, name, journal) {
-        Some(file) => {
-            let number = file.as_raw_fd();
-            handles.journal = Some(file);
-            continued(journal, number, end)
-        }
-        None => stopped(journal),
-    }
-}
-
-// Whether the journal is as this program left it; if not, that is said.
-fn is_as_left(rt: &HostRuntime, handles: &Handles, name: &[u8], journal: Journal) -> bool {
-    match facts_of_journal(handles) {
-        Ok(facts) => {
-            if facts.size != journal.end {
-                about(
-                    rt,
-                    name,
-                    b"changed by another program; nothing more is kept",
-                );
-                return false;
-            }
-            is_held(rt, name, journal)
-        }
-        Err(error) => {
-            failed(rt, name, error);
-            false
-        }
-    }
-}
-
-// Whether a file that ends here has grown by no more than so many bytes behind an end.
-fn has_grown(facts: Facts, end: u64, bytes: u64) -> bool
-    ensures { result ≡ facts.ok && (nat_lt end facts.size && nat_le (facts.size - end) bytes) }
-{
-    if facts.size <= end {
-        return false;
-    }
-    facts.ok & (facts.size - end <= bytes)
-}
-
-// Cuts the file back to its end, after so many bytes failed to be appended. If it can't be told that none of them is there, that is said.
-fn cut_back(rt: &HostRuntime, handles: &Handles, name: &[u8], journal: Journal, bytes: u64) {
-    let facts = facts_or_none(facts_of_journal(handles));
-    if facts.ok & (facts.size == journal.end) {
-        return;
-    }
-    if has_grown(facts, journal.end, bytes) {
-        if cut_journal(handles, journal.end).is_ok() {
-            return;
-        }
-    }
-    about(
-        rt,
-        name,
-        b"the last lines may be kept though they were not answered",
-    );
-}
-
-// Writes the bytes at the journal's end and forces them to disk.
-fn write_forced(rt: &HostRuntime, handles: &Handles, bytes: &[u8]) -> io::Result<()> {
-    let mut file = journal_in(handles)?;
-    write_to(rt, &mut file, bytes)?;
-    file.sync_data()
-}
-
-// Appends the bytes to the journal and forces them to disk. If anything is not as it was left nothing is written, and if the write fails the file
-// is cut back; either is said.
-pub fn append(
-    rt: &HostRuntime,
-    handles: &Handles,
-    name: &[u8],
-    journal: Journal,
-    bytes: &[u8],
-) -> Journal
-    ensures { Appended journal bytes.now result }
-{
-    if !journal.ok {
-        return journal;
-    }
-    if !is_as_left(rt, handles, name, journal) {
-        return stopped(journal);
-    }
-    match write_forced(rt, handles, bytes) {
-        Ok(()) => grown(journal, bytes.len()),
-        Err(error) => {
-            failed(rt, name, error);
-            cut_back(rt, handles, name, journal, bytes.len() as u64);
-            stopped(journal)
-        }
-    }
-}
-
-// Closes the journal's file, and removes its lock if that is still this program's.
-pub fn close_kept(rt: &HostRuntime, handles: &mut Handles, name: &[u8], journal: Journal)
-    ensures closed { handles.new.journal ≡ None }
-    ensures lock { handles.new.lock ≡ handles.old.lock }
-{
-    handles.journal = None;
-    drop_lock(rt, name, journal.lock_device, journal.lock_inode);
 }

@@ -1,33 +1,26 @@
 // What the system knows of a file, open or at a name.
-ghost use Rattle.std.specs.Prelude.{◌≡◌, ◌&&◌, ◌==◌};
-ghost use Rattle.storage.specs.Known.{no_facts, facts_in, facts_or_none};
+ghost use Rattle.std.specs.Prelude.{◌≡◌, false, ◌&&◌, ◌==◌, MatchResult};
+ghost use Rattle.storage.specs.Known.{facts_in};
 
 use crate::texts::path_in;
 use std::fs::{File, Metadata};
 use std::os::unix::fs::MetadataExt;
 use std::{fs, io};
 
-// Whether it is known, whether the file is a regular one, its size in bytes, and the numbers of its device and of itself there.
-#[derive(Clone, Copy)]
-pub struct Facts {
-    pub ok: bool,
-    pub regular: bool,
-    pub size: u64,
+// The numbers by which the system knows a file: that of its device, and its own there.
+#[derive(Clone, Copy, PartialEq, Eq)]
+pub struct Identity {
     pub device: u64,
     pub inode: u64,
 }
 
-// Nothing is known.
-fn no_facts() -> Facts
-    ensures { result ≡ no_facts }
-{
-    Facts {
-        ok: false,
-        regular: false,
-        size: 0,
-        device: 0,
-        inode: 0,
-    }
+// Whether a file is a regular one, its size in bytes, and the numbers by which the system knows it.
+// Kept: what a file is says nothing of whether the other fields hold a value.
+#[derive(Clone, Copy)]
+pub struct Facts {
+    pub regular: bool,
+    pub size: u64,
+    pub identity: Identity,
 }
 
 // The facts in what the system answered, with the numbers in it. The kind of a file stands in bits 12 to 15 of its mode, and a regular file's kind
@@ -36,21 +29,9 @@ fn facts_in(found: &Metadata, device: u64, inode: u64) -> Facts
     ensures { result ≡ facts_in found.now device inode }
 {
     Facts {
-        ok: true,
         regular: found.mode() / 4096 % 16 == 8,
         size: found.len(),
-        device,
-        inode,
-    }
-}
-
-// The facts that were asked for, or none where they can't be had.
-pub fn facts_or_none(asked: io::Result<Facts>) -> Facts
-    ensures { result ≡ facts_or_none asked }
-{
-    match asked {
-        Ok(facts) => facts,
-        Err(_) => no_facts(),
+        identity: Identity { device, inode },
     }
 }
 
@@ -71,14 +52,14 @@ pub fn facts_at(rt: &HostRuntime, name: &[u8]) -> io::Result<Facts> {
     facts_on(rt, path_in(name)?)
 }
 
-// Whether the facts are those of the file with these numbers.
-pub fn is_same(facts: Facts, device: u64, inode: u64) -> bool
-    ensures { result ≡ facts.ok && (facts.device == device && facts.inode == inode) }
+// Whether facts were had, and are those of a file.
+pub fn is_same(asked: io::Result<Facts>, file: Identity) -> bool
+    ensures { MatchResult asked (λ facts. result ≡ (facts.identity.device == file.device && facts.identity.inode == file.inode)) (λ _. result ≡ false) }
 {
-    facts.ok & ((facts.device == device) & (facts.inode == inode))
+    asked.is_ok_and(|facts| facts.identity == file)
 }
 
-// Whether a name leads to the file with these numbers.
-pub fn leads_to(rt: &HostRuntime, name: &[u8], device: u64, inode: u64) -> bool {
-    is_same(facts_or_none(facts_at(rt, name)), device, inode)
+// Whether a name leads to a file.
+pub fn leads_to(rt: &HostRuntime, name: &[u8], file: Identity) -> bool {
+    is_same(facts_at(rt, name), file)
 }

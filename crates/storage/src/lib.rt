@@ -13,8 +13,9 @@ mod waiting; // waiting.rt: reads and writes that wait
 mod whole; // whole.rt: a whole file, read at once
 
 pub use arguments::{argument, argument_count};
-pub use handles::{Handles, Input, no_handles, open_journal, read_part};
-pub use kept::{Journal, append, close_kept, continue_kept, open_kept};
-pub use messages::{about, about_line, are_streams_open, failed, show_dropped};
+pub use handles::{Handles, Input};
+pub use kept::{Journal, Opened};
+pub use known::Identity;
+pub use messages::{Stopped, about, about_line, are_streams_open, failed, show_dropped};
 pub use waiting::{Stream, write_whole};
-pub use whole::{Contents, read_whole};
+pub use whole::read_whole;

@@ -1,6 +1,6 @@
 // Reads and writes that wait where a signal interrupted them, or where nothing is there yet.
 ghost use Rattle.std.specs.Prelude.{◌≡◌, length};
-ghost use Rattle.std.specs.Io.{ReadsAtMost, WritesAtMost};
+ghost use Rattle.std.specs.Io.{ReadsAtMost};
 
 use std::io::{Error, ErrorKind, Read, Write};
 use std::time::Duration;
@@ -30,35 +30,18 @@ fn is_passing(rt: &HostRuntime, error: Error) -> bool {
     error.kind() == ErrorKind::Interrupted
 }
 
-// Whether a call that answered a number of bytes is over: it did not fail, or it is not to be made again.
-fn is_over(rt: &HostRuntime, moved: io::Result<usize>) -> bool {
-    match moved {
-        Ok(_) => true,
-        Err(error) => !is_passing(rt, error),
-    }
-}
-
 // Reads a part of an input: 0 at the end.
 pub fn read_from<R: Read>(rt: &HostRuntime, from: &mut R, buffer: &mut [u8]) -> io::Result<usize>
     ensures { ReadsAtMost result buffer.new }
 {
     for _ in 0..MOST {
-        let got = from.read(buffer);
-        if is_over(rt, got) {
-            return got;
-        }
-    }
-    Err(Error::from(ErrorKind::Interrupted))
-}
-
-// Writes a part of the bytes, from the first one on.
-fn write_part<W: Write>(rt: &HostRuntime, to: &mut W, bytes: &[u8]) -> io::Result<usize>
-    ensures { WritesAtMost result bytes.now }
-{
-    for _ in 0..MOST {
-        let put = to.write(bytes);
-        if is_over(rt, put) {
-            return put;
+        match from.read(buffer) {
+            Ok(n) => return Ok(n),
+            Err(error) => {
+                if !is_passing(rt, error) {
+                    return Err(error);
+                }
+            }
         }
     }
     Err(Error::from(ErrorKind::Interrupted))
@@ -66,15 +49,22 @@ fn write_part<W: Write>(rt: &HostRuntime, to: &mut W, bytes: &[u8]) -> io::Resul
 
 // Writes all bytes. If that fails, some may be written.
 pub fn write_to<W: Write>(rt: &HostRuntime, to: &mut W, bytes: &[u8]) -> io::Result<()> {
-    let mut done = 0;
-    while done < bytes.len() {
-        let put = write_part(rt, to, &bytes[done..])?;
-        if put == 0 {
-            return Err(Error::from(ErrorKind::WriteZero));
+    let mut rest = bytes;
+    for _ in 0..MOST {
+        if rest.is_empty() {
+            return Ok(());
         }
-        done += put;
+        match to.write(rest) {
+            Ok(0) => return Err(Error::from(ErrorKind::WriteZero)),
+            Ok(n) => rest = &rest[n..],
+            Err(error) => {
+                if !is_passing(rt, error) {
+                    return Err(error);
+                }
+            }
+        }
     }
-    Ok(())
+    Err(Error::from(ErrorKind::Interrupted))
 }
 
 // Writes all bytes on a standard stream. If that fails, some may be written.

@@ -1,84 +1,42 @@
 // A whole file, read at once.
-ghost use Rattle.std.specs.Prelude.{◌≡◌, ◌≤◌, length};
-ghost use Rattle.storage.specs.Whole.{no_contents, shorter_than, WholeRead};
+ghost use Rattle.std.specs.Prelude.{◌<◌, ◌≤◌, length, IfOk};
 
 use crate::files::open_read;
-use crate::messages::{failed, too_long};
+use crate::messages::{Stopped, Trouble, said};
 use crate::waiting::read_from;
 use std::fs::File;
+use std::io;
 
-// Whether a file was read, and how many bytes it has.
-#[derive(Clone, Copy)]
-pub struct Contents {
-    pub ok: bool,
-    pub bytes: usize,
-}
-
-// Nothing was read.
-fn no_contents() -> Contents
-    ensures { result ≡ no_contents }
-{
-    Contents {
-        ok: false,
-        bytes: 0,
-    }
-}
-
-// Reads the open file with a name until it ends, a read fails, which is said, or the slice is full.
-fn fill(rt: &HostRuntime, name: &[u8], mut file: File, buffer: &mut [u8]) -> Contents
-    ensures { result.bytes ≤ length buffer.old }
+// Reads an open file until it ends, a read fails, or the slice is full; answers how many bytes were read.
+fn fill(rt: &HostRuntime, mut file: File, buffer: &mut [u8]) -> io::Result<usize>
+    ensures { IfOk result (λ n. n ≤ length buffer.old) }
 {
     let mut done = 0;
     while done < buffer.len() {
-        match read_from(rt, &mut file, &mut buffer[done..]) {
-            Ok(more) => {
-                if more == 0 {
-                    return Contents {
-                        ok: true,
-                        bytes: done,
-                    };
-                }
-                done += more;
-            }
-            Err(error) => {
-                failed(rt, name, error);
-                return Contents {
-                    ok: false,
-                    bytes: done,
-                };
-            }
+        match read_from(rt, &mut file, &mut buffer[done..])? {
+            0 => return Ok(done),
+            more => done += more,
         }
     }
-    Contents {
-        ok: true,
-        bytes: done,
+    Ok(done)
+}
+
+// The regular file with a name, read to its end into the front of a slice, which must be longer than the file.
+fn read_shorter(rt: &HostRuntime, name: &[u8], buffer: &mut [u8]) -> Result<usize, Trouble>
+    ensures { IfOk result (λ n. n < length buffer.old) }
+{
+    let n = fill(rt, open_read(rt, name)?, buffer)?;
+    if n < buffer.len() {
+        Ok(n)
+    } else {
+        Err(Trouble::TooLong(buffer.len()))
     }
 }
 
-// What was read of a file with a name, which must be shorter than so many bytes; if it is not, that is said, and nothing counts as read.
-fn shorter_than(rt: &HostRuntime, name: &[u8], room: usize, read: Contents) -> Contents
-    ensures { result ≡ shorter_than room read }
+// Reads the regular file with a name to its end into the front of a slice, which must be longer than the file, and answers how many bytes it has. If it
+// can't be had, or is not shorter than the slice, that is said.
+pub fn read_whole(rt: &HostRuntime, name: &[u8], buffer: &mut [u8]) -> Result<usize, Stopped>
+    ensures { IfOk result (λ n. n < length buffer.old) }
 {
-    if !read.ok {
-        return no_contents();
-    }
-    if read.bytes < room {
-        return read;
-    }
-    too_long(rt, name, room as u64);
-    no_contents()
-}
-
-// Reads the regular file with a name to its end into the front of a slice, which must be longer than the file. If it can't be had, or is not shorter
-// than the slice, that is said.
-pub fn read_whole(rt: &HostRuntime, name: &[u8], buffer: &mut [u8]) -> Contents
-    ensures { WholeRead (length buffer.old) result }
-{
-    match open_read(rt, name) {
-        Some(file) => {
-            let read = fill(rt, name, file, buffer);
-            shorter_than(rt, name, buffer.len(), read)
-        }
-        None => no_contents(),
-    }
+    said(rt, name, read_shorter(rt, name, buffer))
 }

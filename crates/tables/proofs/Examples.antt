@@ -16,10 +16,9 @@ use Rattle.manual.specs.Minimum.{minimum_of}
 use Rattle.manual.specs.Annual.{larger, largest_total, annual_amount}
 use Rattle.manual.specs.Check.{exceeds_tolerance, exceeds_each, call_is_made, checked}
 use Rattle.manual.specs.Figures.{bound, summed, wrong_count, all_within, out_of_range}
-use Rattle.manual.specs.declared.Check.{Check}
-use Rattle.manual.specs.declared.Check.TheVariants.{Call, Covered}
-use Rattle.manual.specs.declared.Sum.{Sum}
-use Rattle.manual.specs.declared.Sum.TheVariants.{Total, Refused}
+use Rattle.std.specs.Prelude.{Option, Some, None, Result, Ok, Err}
+use Rattle.manual.specs.declared.Call.{Call}
+use Rattle.refusal.specs.declared.Refusal.{Refusal}
 
 -- ---- 002, 5.1: the annual amount of a supplier with the twelve totals
 
@@ -37,53 +36,59 @@ amount-of-twelve r e = e ∙ amount
 
 -- ---- the sum of one amount and four zeros
 
-one : (n : ℕ) → n < 4294967296 → summed (pos n ∷ pos 0 ∷ pos 0 ∷ pos 0 ∷ pos 0 ∷ []) ≡ Total (pos n)
+one : (n : ℕ) → n < 4294967296 → summed (pos n ∷ pos 0 ∷ pos 0 ∷ pos 0 ∷ pos 0 ∷ []) ≡ Ok (pos n)
 unfolding summed wrong_count out_of_range all_within sum_of
 one n f =
     let e : n + 0 ≡ n = omega arith in
     simp (le-leb n bound (omega arith), e)
 
-module _ (n : ℕ) (r : Sum) (f : Fits w32 n) (e : r ≡ summed (to_z w64 n ∷ pos 0 ∷ pos 0 ∷ pos 0 ∷ pos 0 ∷ [])) where
-  known : r ≡ Total (pos n)
+module _ (n : ℕ) (r : Result ℤ Refusal) (f : Fits w32 n) (e : r ≡ summed (to_z w64 n ∷ pos 0 ∷ pos 0 ∷ pos 0 ∷ pos 0 ∷ [])) where
+  known : r ≡ Ok (pos n)
   known =
       let small : n < 2 ^ 63 = omega arith in
       e ∙ ap (λ (x : ℤ). summed (x ∷ pos 0 ∷ pos 0 ∷ pos 0 ∷ pos 0 ∷ [])) (to_z_pos w64 small) ∙ one n (omega arith)
 
-  total : (x : ℤ) → r ≡ Total x → x ≡ pos n
-  total x k = let z : Total x ≡ Total (pos n) = sym k ∙ known in cc
+  total : (x : ℤ) → r ≡ Ok x → x ≡ pos n
+  total x k = let z : ◌≡◌ {A = Result ℤ Refusal} (Ok x) (Ok (pos n)) = sym k ∙ known in cc
 
-  bits : (x : ℤ) → r ≡ Total x → to_z w64 (of_z w64 x) ≡ pos n
+  bits : (x : ℤ) → r ≡ Ok x → to_z w64 (of_z w64 x) ≡ pos n
   bits x k =
       let small : n < 2 ^ 63 = omega arith in
       ap (λ (y : ℤ). to_z w64 (of_z w64 y)) (total x k) ∙ to_z_pos w64 small
 
-  pub sum-natural : (x : ℤ) → r ≡ Total x → T (non_neg (to_z w64 (of_z w64 x)))
+  pub sum-natural : (x : ℤ) → r ≡ Ok x → T (non_neg (to_z w64 (of_z w64 x)))
   sum-natural x k = rw (bits x k) tt
 
-  pub sum-magnitude : (x : ℤ) → r ≡ Total x → nat_abs (to_z w64 (of_z w64 x)) ≡ n
+  pub sum-magnitude : (x : ℤ) → r ≡ Ok x → nat_abs (to_z w64 (of_z w64 x)) ≡ n
   sum-magnitude x k = ap nat_abs (bits x k)
 
-  pub sum_fits : (x : ℤ) → r ≡ Total x → Fits w32 (nat_abs (to_z w64 (of_z w64 x)))
+  pub sum_fits : (x : ℤ) → r ≡ Ok x → Fits w32 (nat_abs (to_z w64 (of_z w64 x)))
   sum_fits x k = rw (sum-magnitude x k) f
 
-  pub sum-not-refused : (c : ℕ) → r ≡ Refused c → 0 ≡ n
-  sum-not-refused c k = let z : Refused c ≡ Total (pos n) = sym k ∙ known in let w : ◌≡◌ {A = ℕ} 0 1 = cc in absurd (omega arith)
+  pub sum-not-refused : (c : Refusal) → r ≡ Err c → 0 ≡ n
+  sum-not-refused c k = let z : ◌≡◌ {A = Result ℤ Refusal} (Err c) (Ok (pos n)) = sym k ∙ known in let w : ◌≡◌ {A = ℕ} 0 1 = cc in absurd (omega arith)
 
 -- ---- 002, 5.2: the check of August 2021 against the guarantee of example 1
 
-call : checked (pos 93679500) 77372900 77372900 [] ≡ Call 93679500 16306600
+call : checked (pos 93679500) 77372900 77372900 [] ≡ Some (record { amount = 93679500; asked = 16306600 })
 unfolding checked call_is_made exceeds_tolerance exceeds_each
 call = refl
 
-module _ (r : Check) (s d : ℕ) (e : s ≡ 93679500) (h : d ≡ 77372900) (q : r ≡ checked (to_z w64 s) d d []) where
-  called : r ≡ Call 93679500 16306600
+injected : (a b : Call) → ◌≡◌ {A = Option Call} (Some a) (Some b) → a ≡ b
+injected a b z = cc
+
+module _ (r : Option Call) (s d : ℕ) (e : s ≡ 93679500) (h : d ≡ 77372900) (q : r ≡ checked (to_z w64 s) d d []) where
+  called : r ≡ Some (record { amount = 93679500; asked = 16306600 })
   called = q ∙ ap (λ (n : ℕ). checked (to_z w64 n) d d []) e ∙ ap (λ (n : ℕ). checked (pos 93679500) n n []) h ∙ call
 
-  pub asked-known : (a b : ℕ) → r ≡ Call a b → b ≡ 16306600
-  asked-known a b k = let z : Call a b ≡ Call 93679500 16306600 = sym k ∙ called in cc
+  pub asked-known : (c : Call) → r ≡ Some c → c.asked ≡ 16306600
+  asked-known c k = ap (λ (x : Call). x.asked) (injected c (record { amount = 93679500; asked = 16306600 }) (sym k ∙ called))
 
-  pub not_covered : r ≡ Covered → ◌≡◌ {A = ℕ} 0 16306600
-  not_covered k = let z : Covered ≡ Call 93679500 16306600 = sym k ∙ called in let w : ◌≡◌ {A = ℕ} 0 1 = cc in absurd (omega arith)
+  pub not_covered : r ≡ None → ◌≡◌ {A = ℕ} 0 16306600
+  not_covered k =
+      let z : ◌≡◌ {A = Option Call} None (Some (record { amount = 93679500; asked = 16306600 })) = sym k ∙ called in
+      let w : ◌≡◌ {A = ℕ} 0 1 = cc in
+      absurd (omega arith)
 
 -- ---- 002, section 8: the guarantee by the sums of the rates and of the settlements, not rounded before
 

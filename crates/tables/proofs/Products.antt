@@ -1,7 +1,7 @@
 -- Products that fit their type: days below 2^8 times what a day costs, below 2^32, and rates' sums times settlements' sums. And 1 per mille
 -- of a shortfall is what `day_charge` gives where the least charge is not above it.
 -- Assumes nothing.
-use Prim.Native.Nat.{ℕ, ◌+◌, ◌*◌, ◌/◌, ◌≤◌, ◌<◌, max}
+use Prim.Native.Nat.{ℕ, ◌+◌, ◌*◌, ◌/◌, ◌≤◌, max}
 use native.Mathlib.Nat.{mul-le-mul}
 use native.Mathlib.Omega.{arith}
 use mathlib.Core.Path.{◌≡◌, refl, ◌∙◌, ap}
@@ -58,12 +58,8 @@ least n r e = ap (λ (x : ℕ). n * x) e
 pub least_fits : (days days' r : ℕ) → Fits w8 days → Fits w8 days' → r ≡ day_charge 1 → Fits w64 ((days + days') * r)
 least_fits days days' r f f' e = record { fits = omega (arith, least (days + days') r e) }
 
-module _ (n r s x : ℕ) (e : r ≡ day_charge 1) (h : s ≡ x) where
-  pub least-larger : s < n * r → n * r ≡ max x (n * 100000000)
-  least-larger p = omega (arith, least n r e)
-
-  pub sum-larger : n * r ≤ s → s ≡ max x (n * 100000000)
-  sum-larger p = omega (arith, least n r e)
+pub larger : (n r s x : ℕ) → r ≡ day_charge 1 → s ≡ x → max s (n * r) ≡ max x (n * 100000000)
+larger n r s x e h = omega (arith, least n r e)
 
 -- ---- a guarantee by rates' sums below 2^16 and settlements' sums below 2^32
 

@@ -1,7 +1,14 @@
 ghost use Rattle.std.specs.Prelude.{◌≡◌};
 
-use crate::print::{amount, given};
+use crate::print::{amount, listed};
 use manual::annual::annual_amount;
+use std::io;
+
+// 002, 5.1, the table: its twelve months.
+const MONTHS: [&str; 12] = [
+    "Jul-20", "Aug-20", "Sep-20", "Oct-20", "Nov-20", "Dec-20", "Jan-21", "Feb-21", "Mar-21",
+    "Apr-21", "May-21", "Jun-21",
+];
 
 // 002, 5.1, the table: the totals of participant A from July 2020 to June 2021, in cents.
 const TOTALS: [i64; 12] = [
@@ -23,20 +30,8 @@ pub fn guarantee() -> u32
 }
 
 // 002, 5.1: the twelve months, the largest of them (by a role without a minimum) and the amount of a supplier.
-pub fn annual() {
-    let totals = TOTALS;
-    given(b"example 1, Jul-20", totals[0]);
-    given(b"example 1, Aug-20", totals[1]);
-    given(b"example 1, Sep-20", totals[2]);
-    given(b"example 1, Oct-20", totals[3]);
-    given(b"example 1, Nov-20", totals[4]);
-    given(b"example 1, Dec-20", totals[5]);
-    given(b"example 1, Jan-21", totals[6]);
-    given(b"example 1, Feb-21", totals[7]);
-    given(b"example 1, Mar-21", totals[8]);
-    given(b"example 1, Apr-21", totals[9]);
-    given(b"example 1, May-21", totals[10]);
-    given(b"example 1, Jun-21", totals[11]);
-    amount(b"example 1, MMX", annual_amount(3, &totals), MMX);
-    amount(b"example 1, amount", annual_amount(0, &totals), AMOUNT);
+pub fn annual(rt: &impl Print) -> io::Result<()> {
+    listed(rt, "example 1, ", &MONTHS, &TOTALS, " euro")?;
+    amount(rt, "example 1, MMX", annual_amount(3, &TOTALS), MMX)?;
+    amount(rt, "example 1, amount", annual_amount(0, &TOTALS), AMOUNT)
 }

@@ -2,8 +2,9 @@ ghost use Rattle.std.specs.Prelude.{◌≡◌, ◌+◌, ◌*◌, max};
 ghost use Rattle.manual.specs.Charge.{day_charge};
 
 use crate::monthly_example::asked;
-use crate::print::{amount, hundredths, number, text, verdict};
+use crate::print::{Grouped, Hundredths, Verdict, amount};
 use manual::charge::day_charge;
+use std::io;
 
 // 002, section 4: the minimum payment per day, in cents.
 const LEAST: u32 = 100000;
@@ -24,16 +25,15 @@ const SUM: u32 = 51533;
 const CHARGE: u32 = 500000;
 
 // A line with a charge found, in mills, and the one that 002 states, in cents.
-fn charge(label: &[u8], found: u64, stated: u32) {
+fn charge(rt: &impl Print, label: &str, found: u64, stated: u32) -> io::Result<()> {
     let cents = stated as u64;
-    text(label);
-    text(b": ");
-    number(found);
-    text(b" mills, ");
-    hundredths(found / 1000);
-    text(b" euro, 002 says ");
-    hundredths(cents);
-    verdict(found == 1000 * cents);
+    let verdict = Verdict(found == 1000 * cents);
+    print!(rt;
+        "{label}: {} mills, {} euro",
+        Grouped(found),
+        Hundredths(found / 1000)
+    )?;
+    println!(rt; ", 002 says {}{verdict}", Hundredths(cents))
 }
 
 // The charge of some days with one shortfall and then some with another, in mills.
@@ -64,37 +64,48 @@ fn compared_once(days: u8, shortfall: u32, later_days: u8, later: u32) -> u64
     ensures { result ≡ max (days * shortfall + later_days * later) ((days + later_days) * 100000000) }
 {
     let sum = per_mille_of(days, shortfall, later_days, later);
-    let least = ((days as u64) + (later_days as u64)) * day_charge(1);
-    if sum < least { least } else { sum }
+    sum.max(((days as u64) + (later_days as u64)) * day_charge(1))
 }
 
 // 002, section 4: the least charge of a day; 5.3: the shortfalls of the days, by example 2 and what was paid.
-fn shortfalls(first: u32, rest: u32) {
-    charge(b"section 4, least charge of a day", day_charge(1), LEAST);
-    amount(b"example 3, short for 2 days", first as u64, FIRST);
-    amount(b"example 3, then short for 3 days", rest as u64, REST);
+fn shortfalls(rt: &impl Print, first: u32, rest: u32) -> io::Result<()> {
+    charge(rt, "section 4, least charge of a day", day_charge(1), LEAST)?;
+    amount(rt, "example 3, short for 2 days", first as u64, FIRST)?;
+    amount(rt, "example 3, then short for 3 days", rest as u64, REST)
+}
+
+// 002, 5.3: where its example and its formula part, each beside the other.
+fn parting(rt: &impl Print, first: u32, rest: u32) -> io::Result<()> {
+    let sum = per_mille_of(2, first, 3, rest);
+    charge(rt, "example 3, 1 per mille without the minimum", sum, SUM)?;
+    print!(rt;
+        "example 3: 002 multiplies 100,000 by 2 and 63,066 by 5, the formula the remaining amounts, "
+    )?;
+    println!(rt;
+        "163,066 by 2 and 63,066 by 3: one sum{}",
+        Verdict(sum == per_mille_of(2, PAID, 5, rest))
+    )?;
+    let charged = charge_of(2, first, 3, rest);
+    charge(rt, "example 3, charge", charged, CHARGE)?;
+    print!(rt;
+        "example 3: 002 compares the sum once with 5 x 1,000, the formula each day with 1,000: "
+    )?;
+    println!(rt;
+        "here no difference{}",
+        Verdict(charged == compared_once(2, first, 3, rest))
+    )
 }
 
 // 002, 5.3: the charge by the formula, day by day, beside the example's.
-pub fn charges() {
+pub fn charges(rt: &impl Print) -> io::Result<()> {
     let first = asked();
     let rest = first - PAID;
-    shortfalls(first, rest);
-    let sum = per_mille_of(2, first, 3, rest);
-    charge(b"example 3, 1 per mille without the minimum", sum, SUM);
-    text(
-        b"example 3: 002 multiplies 100,000 by 2 and 63,066 by 5, the formula the remaining amounts, ",
-    );
-    text(b"163,066 by 2 and 63,066 by 3: one sum");
-    verdict(sum == per_mille_of(2, PAID, 5, rest));
-    let charged = charge_of(2, first, 3, rest);
-    charge(b"example 3, charge", charged, CHARGE);
-    text(b"example 3: 002 compares the sum once with 5 x 1,000, the formula each day with 1,000: ");
-    text(b"here no difference");
-    verdict(charged == compared_once(2, first, 3, rest));
-    text(b"example 3: where 1,500,000 is short and then 500,000, ");
-    hundredths(charge_of(1, 150000000, 1, 50000000) / 1000);
-    text(b" euro by the formula; compared once, ");
-    hundredths(compared_once(1, 150000000, 1, 50000000) / 1000);
-    text(b"\n");
+    shortfalls(rt, first, rest)?;
+    parting(rt, first, rest)?;
+    print!(rt; "example 3: where 1,500,000 is short and then 500,000, ")?;
+    println!(rt;
+        "{} euro by the formula; compared once, {}",
+        Hundredths(charge_of(1, 150000000, 1, 50000000) / 1000),
+        Hundredths(compared_once(1, 150000000, 1, 50000000) / 1000)
+    )
 }

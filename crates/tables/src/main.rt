@@ -11,10 +11,18 @@ mod monthly_example;
 mod print;
 mod special_example;
 
-fn main() {
-    minimums::minimums();
-    annual_example::annual();
-    monthly_example::monthly();
-    charge_example::charges();
-    special_example::special();
+use std::io;
+
+// All tables and examples, in the order of 002's sections.
+fn tables(rt: &impl Print) -> io::Result<()> {
+    minimums::minimums(rt)?;
+    annual_example::annual(rt)?;
+    monthly_example::monthly(rt)?;
+    charge_example::charges(rt)?;
+    special_example::special(rt)
+}
+
+// A write that fails ends the tables, and changes nothing else.
+fn main(rt: HostRuntime) {
+    let _ = tables(&rt);
 }

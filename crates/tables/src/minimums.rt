@@ -1,27 +1,36 @@
-use crate::print::{amount, hundredths, text, verdict};
+use crate::print::{Hundredths, Verdict, amount};
 use manual::minimum::minimum;
+use std::io;
 
-// 002, 3.1: the minimum of Suppliers and of Self-Supplied Customers, in cents.
-const SUPPLIER: u64 = 2000000;
+// 002, 3.1: the six roles in their order, each with its minimum in cents, where 002 sets one.
+const ROLES: [(&str, Option<u64>); 6] = [
+    ("Supplier", Some(2000000)),
+    ("Self-Supplied Customer", Some(2000000)),
+    ("Trader", Some(1000000)),
+    ("Producer", None),
+    ("RES Aggregator", None),
+    ("Demand Response Aggregator", None),
+];
 
-// 002, 3.1: the minimum of Traders.
-const TRADER: u64 = 1000000;
-
-// A line with the minimum of a role for which 002 sets none.
-fn none_set(label: &[u8], found: u64) {
-    text(label);
-    text(b": ");
-    hundredths(found);
-    text(b" euro, 002 sets none");
-    verdict(found == 0);
+// A line with the minimum of a role, found and as 002 states it.
+fn role_minimum(rt: &impl Print, name: &str, found: u64, stated: Option<u64>) -> io::Result<()> {
+    print!(rt; "section 3.1, ")?;
+    match stated {
+        Some(cents) => amount(rt, name, found, cents),
+        None => {
+            let verdict = Verdict(found == 0);
+            println!(rt;
+                "{name}: {} euro, 002 sets none{verdict}",
+                Hundredths(found)
+            )
+        }
+    }
 }
 
 // 002, 3.1: the six roles' minimum guarantees.
-pub fn minimums() {
-    amount(b"section 3.1, Supplier", minimum(0), SUPPLIER);
-    amount(b"section 3.1, Self-Supplied Customer", minimum(1), SUPPLIER);
-    amount(b"section 3.1, Trader", minimum(2), TRADER);
-    none_set(b"section 3.1, Producer", minimum(3));
-    none_set(b"section 3.1, RES Aggregator", minimum(4));
-    none_set(b"section 3.1, Demand Response Aggregator", minimum(5));
+pub fn minimums(rt: &impl Print) -> io::Result<()> {
+    for (role, (name, stated)) in ROLES.iter().enumerate() {
+        role_minimum(rt, name, minimum(role as u64), *stated)?;
+    }
+    Ok(())
 }

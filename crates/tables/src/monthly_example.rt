@@ -1,11 +1,12 @@
 ghost use Rattle.std.specs.Prelude.{◌≡◌, ◌+◌, ◌*◌, ◌/◌, ◌<◌};
 
 use crate::annual_example::guarantee;
-use crate::print::{OUTPUT, amount, given, text, verdict};
+use crate::print::{Verdict, amount, given, says};
 use calendar::{Month, is_september};
+use manual::Call;
 use manual::figures::sum_figures;
 use manual::monthly::{check, exceeds_tolerance};
-use manual::{Check, Sum};
+use std::{fmt, io};
 
 // 002, 5.2, the table: the settlement amount of July 2021, month 18, which is settled in month 20.
 const JULY: u32 = 75446400;
@@ -28,13 +29,25 @@ const AUGUST_PERCENT: u64 = 121;
 // 002, 5.2, below the table: the additional guarantee.
 const ADDITIONAL: u64 = 16306600;
 
+// A percentage of a guarantee, written as its difference to the whole.
+#[derive(Clone, Copy, PartialEq)]
+struct Difference(u64);
+
+impl fmt::Display for Difference {
+    fn fmt<W: fmt::Write>(&self, f: &mut fmt::Formatter<W>) -> fmt::Result {
+        let sign = if self.0 < 100 { "-" } else { "" };
+        write!(f, "{sign}{}%", self.0.abs_diff(100))
+    }
+}
+
 // A line on the month in which a month is settled.
-fn settled(label: &[u8], month: Month) {
-    text(label);
+fn settled(rt: &impl Print, label: &str, month: Month) -> io::Result<()> {
     if is_september(month) {
-        text(b": settled in September, when no check is due; only its arithmetic is kept\n");
+        println!(rt;
+            "{label}: settled in September, when no check is due; only its arithmetic is kept"
+        )
     } else {
-        text(b": not settled in September, so the check is due\n");
+        println!(rt; "{label}: not settled in September, so the check is due")
     }
 }
 
@@ -43,31 +56,24 @@ fn sum_of(settled: u32) -> u32
     ensures { result ≡ settled }
 {
     match sum_figures(&[settled as i64, 0, 0, 0, 0]) {
-        Sum::Total(cents) => cents as u32,
-        Sum::Refused(_) => 0,
+        Ok(cents) => cents as u32,
+        Err(_) => 0,
     }
 }
 
 // A line with a check that 002 finds covered.
-fn covered(label: &[u8], found: Check) {
-    text(label);
+fn covered(rt: &impl Print, label: &str, found: Option<Call>) -> io::Result<()> {
     match found {
-        Check::Covered => text(b": covered, 002 says covered\n"),
-        Check::Call {
-            amount: _,
-            asked: _,
-        } => text(b": called, 002 says covered: DIFFERS\n"),
+        None => println!(rt; "{label}: covered, 002 says covered"),
+        Some(_) => println!(rt; "{label}: called, 002 says covered: DIFFERS"),
     }
 }
 
 // A line with what a check asks, where 002 calls, and what 002 states, in cents.
-fn called(label: &[u8], found: Check, stated: u64) {
+fn called(rt: &impl Print, label: &str, found: Option<Call>, stated: u64) -> io::Result<()> {
     match found {
-        Check::Covered => {
-            text(label);
-            text(b": covered, 002 says called: DIFFERS\n");
-        }
-        Check::Call { amount: _, asked } => amount(label, asked, stated),
+        None => println!(rt; "{label}: covered, 002 says called: DIFFERS"),
+        Some(call) => amount(rt, label, call.asked, stated),
     }
 }
 
@@ -79,96 +85,58 @@ fn percent_of(total: u32, guarantee: u32) -> u64
     (200 * (total as u64) + guarantee as u64) / (2 * (guarantee as u64))
 }
 
-// A percentage less 100.
-fn difference(percent: u64) {
-    if percent < 100 {
-        text(b"-");
-        io::print_decimal(OUTPUT, 100 - percent);
-    } else {
-        io::print_decimal(OUTPUT, percent - 100);
-    }
-    text(b"%");
-}
-
-// A line with the difference to the existing guarantee and the one that 002 states, both as percentages of that guarantee.
-fn compared(label: &[u8], found: u64, stated: u64) {
-    text(label);
-    text(b": ");
-    difference(found);
-    text(b", 002 says ");
-    difference(stated);
-    verdict(found == stated);
-}
-
-// A line on the tolerance limit, which 002 finds exceeded.
-fn beyond_limit(label: &[u8], exceeded: bool) {
-    text(label);
-    if exceeded {
-        text(b": exceeded, 002 says exceeded\n");
-    } else {
-        text(b": not exceeded, 002 says exceeded: DIFFERS\n");
-    }
-}
-
 // What the check of August 2021 asks of participant A, in cents; 0 where it asks nothing.
 pub fn asked() -> u32
     ensures { result ≡ 16306600 }
 {
     let deposited = guarantee() as u64;
     match check(sum_of(AUGUST) as i64, deposited, deposited, &[]) {
-        Check::Covered => 0,
-        Check::Call { amount: _, asked } => asked as u32,
+        None => 0,
+        Some(call) => call.asked as u32,
     }
 }
 
+// The lines on a month that July and August share: its amount, the new guarantee and the difference.
+fn month(rt: &impl Print, label: &str, total: u32, stated: u64, percent: u64) -> io::Result<()> {
+    let sum = sum_of(total);
+    given(rt, label, total as i64)?;
+    print!(rt; "{label}, ")?;
+    amount(rt, "new guarantee", sum as u64, stated)?;
+    print!(rt; "{label}, ")?;
+    let found = Difference(percent_of(sum, guarantee()));
+    says(rt, "difference", found, "", Difference(percent))
+}
+
 // 002, 5.2: the check of July 2021 against the guarantee of example 1.
-fn july() {
-    let sum = sum_of(JULY);
+fn july(rt: &impl Print) -> io::Result<()> {
+    let label = "example 2, Jul-21";
     let deposited = guarantee() as u64;
-    given(b"example 2, Jul-21", JULY as i64);
-    amount(b"example 2, Jul-21, new guarantee", sum as u64, JULY_STATED);
-    compared(
-        b"example 2, Jul-21, difference",
-        percent_of(sum, guarantee()),
-        JULY_PERCENT,
-    );
-    covered(
-        b"example 2, Jul-21",
-        check(sum as i64, deposited, deposited, &[]),
-    );
-    settled(b"example 2, Jul-21", Month(20));
+    month(rt, label, JULY, JULY_STATED, JULY_PERCENT)?;
+    let found = check(sum_of(JULY) as i64, deposited, deposited, &[]);
+    covered(rt, label, found)?;
+    settled(rt, label, Month(20))
 }
 
 // 002, 5.2: the check of August 2021 against the guarantee of example 1.
-fn august() {
-    let sum = sum_of(AUGUST);
+fn august(rt: &impl Print) -> io::Result<()> {
+    let label = "example 2, Aug-21";
+    let total = sum_of(AUGUST) as i64;
     let deposited = guarantee() as u64;
-    given(b"example 2, Aug-21", AUGUST as i64);
-    amount(
-        b"example 2, Aug-21, new guarantee",
-        sum as u64,
-        AUGUST_STATED,
-    );
-    compared(
-        b"example 2, Aug-21, difference",
-        percent_of(sum, guarantee()),
-        AUGUST_PERCENT,
-    );
-    beyond_limit(
-        b"example 2, Aug-21, tolerance limit",
-        exceeds_tolerance(sum as i64, deposited),
-    );
-    let found = check(sum as i64, deposited, deposited, &[]);
-    called(
-        b"example 2, Aug-21, additional guarantee",
-        found,
-        ADDITIONAL,
-    );
-    settled(b"example 2, Aug-21", Month(21));
+    month(rt, label, AUGUST, AUGUST_STATED, AUGUST_PERCENT)?;
+    let exceeded = exceeds_tolerance(total, deposited);
+    let limit = if exceeded { "exceeded" } else { "not exceeded" };
+    println!(rt;
+        "{label}, tolerance limit: {limit}, 002 says exceeded{}",
+        Verdict(exceeded)
+    )?;
+    let found = check(total, deposited, deposited, &[]);
+    print!(rt; "{label}, ")?;
+    called(rt, "additional guarantee", found, ADDITIONAL)?;
+    settled(rt, label, Month(21))
 }
 
 // 002, 5.2: the checks of two months.
-pub fn monthly() {
-    july();
-    august();
+pub fn monthly(rt: &impl Print) -> io::Result<()> {
+    july(rt)?;
+    august(rt)
 }

@@ -1,19 +1,18 @@
 -- The words of a text, read word by word.
 -- Assumes nothing.
-use Prim.Native.Nat.{ℕ, suc, ◌+◌, ◌-◌, ◌≤◌, ◌<◌, min}
-use mathlib.Core.Path.{◌≡◌, refl, sym, ap, ◌∙◌}
-use mathlib.Core.Bool.{Bool, true, false, not}
-use mathlib.Core.List.{List, [], ◌∷◌, ◌++◌}
+use Rattle.std.proofs.Common.{ℕ, suc, ◌-◌, ◌≤◌, ◌<◌, ◌≡◌, refl, sym, ap, ◌∙◌, Bool, true, false, not, ◌&&◌, List, [], ◌∷◌, ◌++◌, arith, length, take, drop, ltb-true, ltb-false}
+use Rattle.std.specs.List.{position, position_or_len}
+use Rattle.std.specs.Option.{unwrap_or}
+use Rattle.std.specs.Cmp.Lexicographic.{pointwise}
 use native.Mathlib.Nat.{not-suc-le-zero, pos_of_ne-zero}
-use native.Mathlib.Omega.{arith}
 use borrow.Author.Tests.{not-true}
-use lib.ListN.{length, take, drop, get_or, drop_of_length-le, length-drop, length-take, take-append-drop}
-use lib.Seq.{drop-drop, drop-length}
+use lib.Dec.{eqb, ltb}
+use lib.ListN.{drop_of_length-le, length-take, length-drop, take-append-drop}
+use lib.Seq.{take_all}
 use Rattle.laws.specs.Cases.{split, and_left, and_right}
 use Rattle.words.specs.Bytes.{blank, each, same}
-use Rattle.words.specs.Words.{apart, onto, words, blanks_in, solid_in, place_in}
-use Rattle.words.specs.Found.{found, NextWord, WordIs}
-use Rattle.words.proofs.Scans.{drop_at}
+use Rattle.words.specs.Words.{apart, onto, words, blanks_in, solid_in, place_in, place_of}
+use Rattle.words.proofs.Scans.{one_more}
 
 -- a byte that is no blank
 unfoldable pub solid : ℕ → Bool
@@ -64,50 +63,6 @@ whole_word [] t h e a = absurd (not-suc-le-zero h)
 whole_word (b ∷ w) t h e a =
     one_word b w t (solid-not b (and_left (solid b) (each solid w) e)) (and_right (solid b) (each solid w) e) a
 
--- The loops over the blanks before a word, and over its bytes: i and what is left give where they end.
-
-module _ (l : List ℕ) (from i : ℕ) (known : i + blanks_in (drop i l) ≡ from + blanks_in (drop from l)) where
-  pub blanks-more : i < length l → (t : Bool) → t ≡ blank (get_or l i 0) → t ≡ true → i + 1 + blanks_in (drop (i + 1) l) ≡ from + blanks_in (drop from l)
-  unfolding blanks_in
-  blanks-more h t f v =
-      let k : i + blanks_in (get_or l i 0 ∷ drop (i + 1) l) ≡ from + blanks_in (drop from l) = rw (drop_at l i h) at known in
-      let m : i + suc (blanks_in (drop (i + 1) l)) ≡ from + blanks_in (drop from l) = rw (sym f ∙ v) at k in
-      omega arith
-
-  pub blanks-end : i < length l → (t : Bool) → t ≡ blank (get_or l i 0) → t ≡ false → i ≡ from + blanks_in (drop from l)
-  unfolding blanks_in
-  blanks-end h t f v =
-      let k : i + blanks_in (get_or l i 0 ∷ drop (i + 1) l) ≡ from + blanks_in (drop from l) = rw (drop_at l i h) at known in
-      let m : i + 0 ≡ from + blanks_in (drop from l) = rw (sym f ∙ v) at k in
-      omega arith
-
-  pub blanks-all : length l ≤ i → i ≡ from + blanks_in (drop from l)
-  unfolding blanks_in
-  blanks-all h =
-      let m : i + 0 ≡ from + blanks_in (drop from l) = rw (drop_of_length-le l h) at known in
-      omega arith
-
-module _ (l : List ℕ) (from i : ℕ) (known : i + solid_in (drop i l) ≡ from + solid_in (drop from l)) where
-  pub word_more : i < length l → (t : Bool) → t ≡ blank (get_or l i 0) → t ≡ false → i + 1 + solid_in (drop (i + 1) l) ≡ from + solid_in (drop from l)
-  unfolding solid_in
-  word_more h t f v =
-      let k : i + solid_in (get_or l i 0 ∷ drop (i + 1) l) ≡ from + solid_in (drop from l) = rw (drop_at l i h) at known in
-      let m : i + suc (solid_in (drop (i + 1) l)) ≡ from + solid_in (drop from l) = rw (sym f ∙ v) at k in
-      omega arith
-
-  pub word_end : i < length l → (t : Bool) → t ≡ blank (get_or l i 0) → t ≡ true → i ≡ from + solid_in (drop from l)
-  unfolding solid_in
-  word_end h t f v =
-      let k : i + solid_in (get_or l i 0 ∷ drop (i + 1) l) ≡ from + solid_in (drop from l) = rw (drop_at l i h) at known in
-      let m : i + 0 ≡ from + solid_in (drop from l) = rw (sym f ∙ v) at k in
-      omega arith
-
-  pub word-all : length l ≤ i → i ≡ from + solid_in (drop from l)
-  unfolding solid_in
-  word-all h =
-      let m : i + 0 ≡ from + solid_in (drop from l) = rw (drop_of_length-le l h) at known in
-      omega arith
-
 -- The blanks that a text begins with.
 
 blanks-few : (l : List ℕ) → blanks_in l ≤ length l
@@ -157,134 +112,88 @@ solid-word l h =
     let g : 0 < length (take (solid_in l) l) = rw length-take (omega (arith, solid-few l)) in
     ap words (sym (take-append-drop (solid_in l) l)) ∙ whole_word (take (solid_in l) l) (drop (solid_in l) l) g (solid-each l) (solid-apart l)
 
-found-solid : (l : List ℕ) (ws : List (List ℕ)) → 0 < solid_in l → found (take (solid_in l) l) ws ≡ take (solid_in l) l ∷ ws
-unfolding found solid_in
-found-solid [] ws h = absurd (not-suc-le-zero h)
-found-solid (b ∷ l) ws h = split (blank b) (λ t. absurd (not-suc-le-zero (rw t at h))) (λ t. rw t)
-
 -- no word is left
 pub words-none : words [] ≡ []
 unfolding words
 words-none = refl
 
--- The first word of a text from a place on.
+-- a text has no more words than bytes
+onto-few : (b : ℕ) (ws : List (List ℕ)) → length (onto b ws) ≤ suc (length ws)
+unfolding onto
+onto-few b [] = omega arith
+onto-few b (w ∷ ws) = omega arith
 
-module _ (s : List ℕ) (from : ℕ) where
-  blanks-end-few : from ≤ length s → from + blanks_in (drop from s) ≤ length s
-  blanks-end-few h = omega (arith, blanks-few (drop from s), length-drop from s)
+pub words_few : (l : List ℕ) → length (words l) ≤ length l
+unfolding words
+words_few [] = omega arith
+words_few (b ∷ l) =
+    split (blank b) (λ t. rw t (omega (arith, words_few l)))
+    (λ t. split (apart l) (λ u. rw (t, u) (omega (arith, words_few l))) (λ u. rw (t, u) (omega (arith, words_few l, onto-few b (words l)))))
 
-  -- where there is a word
-  module _ (h : from + blanks_in (drop from s) < length s) where
-    at-word : drop (from + blanks_in (drop from s)) s ≡ drop (blanks_in (drop from s)) (drop from s)
-    at-word = sym (drop-drop (blanks_in (drop from s)) from s)
+-- The first word of a text: what stands behind its blanks, up to the next blank.
 
-    some-solid : 0 < solid_in (drop (from + blanks_in (drop from s)) s)
-    some-solid =
-        pos_of_ne-zero
-        (λ (e : solid_in (drop (from + blanks_in (drop from s)) s) ≡ 0).
-        blanks-first (drop from s) (rw length-drop (omega arith)) (ap solid_in (sym at-word) ∙ e))
+pub blanks_few : (l : List ℕ) → blanks_in l ≤ length l
+blanks_few l = blanks-few l
 
-    pub next-found : (start end : ℕ) → start ≡ from + blanks_in (drop from s) → end ≡ start + solid_in (drop start s) → NextWord s from start end
-    next-found start end e f =
-        let b : drop start s ≡ drop (blanks_in (drop from s)) (drop from s) = ap (λ (n : ℕ). drop n s) e ∙ at-word in
-        let k : end - start ≡ solid_in (drop start s) = omega arith in
-        let p : 0 < solid_in (drop start s) = rw e some-solid in
-        let d : drop (solid_in (drop start s)) (drop start s) ≡ drop end s =
-        drop-drop (solid_in (drop start s)) start s ∙ ap (λ (n : ℕ). drop n s) (sym f) in
-        record {
-          onward = λ g. omega arith;
-          ordered = omega arith;
-          within = omega (arith, solid-few (drop start s), length-drop start s);
-          first =
-              sym (blanks-skipped (drop from s)) ∙ ap words (sym b) ∙ solid-word (drop start s) p
-              ∙ sym (found-solid (drop start s) (words (drop (solid_in (drop start s)) (drop start s))) p)
-              ∙ rw (k, d);
-        }
+pub solid_few : (l : List ℕ) → solid_in l ≤ length l
+solid_few l = solid-few l
 
-  -- where there is none
-  pub next-none : length s ≤ from + blanks_in (drop from s) → NextWord s from (length s) (length s)
-  unfolding found
-  next-none h =
-      let e : length s - length s ≡ 0 = omega arith in
-      let g : length (drop from s) ≤ blanks_in (drop from s) = rw length-drop (omega arith) in
-      record {
-        onward = λ k. k;
-        ordered = omega arith;
-        within = omega arith;
-        first = rw e (sym (blanks-skipped (drop from s)) ∙ ap words (drop_of_length-le (drop from s) g) ∙ words-none);
-      }
+pub word_next : (l : List ℕ) → (solid_in (drop (blanks_in l) l) ≡ 0 → ⊥)
+    → words l
+    ≡ take (solid_in (drop (blanks_in l) l)) (drop (blanks_in l) l) ∷ words (drop (solid_in (drop (blanks_in l) l)) (drop (blanks_in l) l))
+word_next l n = sym (blanks-skipped l) ∙ solid-word (drop (blanks_in l) l) (pos_of_ne-zero n)
 
-pub word-is : (s : List ℕ) (from start end : ℕ) → start < length s → start ≡ from + blanks_in (drop from s) → end ≡ start + solid_in (drop start s)
-    → WordIs s from (record { start = start; end = end })
-word-is s from start end h e f =
-    let m : min (from + blanks_in (drop from s)) (length s) ≡ start = omega arith in
-    record { place = rw (m, f); next = next-found s from (omega arith) start end e f }
+pub word_none : (l : List ℕ) → solid_in (drop (blanks_in l) l) ≡ 0 → words l ≡ []
+word_none l e =
+    split (ltb (blanks_in l) (length l)) (λ t. absurd (blanks-first l (ltb-true (blanks_in l) (length l) t) e))
+    (λ t. sym (blanks-skipped l) ∙ ap words (drop_of_length-le l (ltb-false (blanks_in l) (length l) t)) ∙ words-none)
 
-pub no-word-is : (s : List ℕ) (from start : ℕ) → length s ≤ start → start ≡ from + blanks_in (drop from s)
-    → WordIs s from (record { start = length s; end = length s })
-unfolding solid_in
-no-word-is s from start h e =
-    let m : min (from + blanks_in (drop from s)) (length s) ≡ length s = omega arith in
-    let z : length s + 0 ≡ length s = omega arith in
-    record { place = rw (m, drop-length s, z); next = next-none s from (omega arith) }
+-- the same, as the code takes it
+module _ (s : List ℕ) (b n : ℕ) (here : b ≡ blanks_in s) (long : n ≡ solid_in (take (length s - b) (drop b s))) where
+  behind : take (length s - b) (drop b s) ≡ drop (blanks_in s) s
+  behind = take_all (length s - b) (drop b s) (omega (arith, length-drop b s)) ∙ ap (λ (k : ℕ). drop k s) here
 
-found_word : (s : List ℕ) (start end : ℕ) (ws : List (List ℕ)) → start < end → end ≤ length s
-    → found (take (end - start) (drop start s)) ws ≡ take (end - start) (drop start s) ∷ ws
-unfolding found
-found_word s start end ws h g =
-    let k : end - start ≡ suc (end - (start + 1)) = omega arith in
-    let l : start < length s = omega arith in
-    rw (k, drop_at s start l)
+  whole : n ≡ solid_in (drop (blanks_in s) s)
+  whole = long ∙ ap solid_in behind
+
+  pub word_found : (word rest : List ℕ) → word ≡ take n (take (length s - b) (drop b s)) → rest ≡ drop n (take (length s - b) (drop b s))
+      → (n ≡ 0 → ⊥) → words s ≡ word ∷ words rest
+  word_found word rest e f h =
+      let t : word ≡ take (solid_in (drop (blanks_in s) s)) (drop (blanks_in s) s) = e ∙ ap (λ (k : ℕ). take k (take (length s - b) (drop b s))) whole ∙ ap (take (solid_in (drop (blanks_in s) s))) behind in
+      let d : rest ≡ drop (solid_in (drop (blanks_in s) s)) (drop (blanks_in s) s) = f ∙ ap (λ (k : ℕ). drop k (take (length s - b) (drop b s))) whole ∙ ap (drop (solid_in (drop (blanks_in s) s))) behind in
+      word_next s (λ z. h (whole ∙ z)) ∙ rw (t, d)
+
+  pub word_ended : (rest : List ℕ) → rest ≡ drop n (take (length s - b) (drop b s)) → n ≡ 0 → (words s ≡ []) × (words rest ≡ [])
+  word_ended rest f z =
+      let none : words s ≡ [] = word_none s (sym whole ∙ z) in
+      let r : rest ≡ drop (blanks_in s) s = f ∙ ap (λ (k : ℕ). drop k (take (length s - b) (drop b s))) z ∙ behind in
+      (none, ap words r ∙ blanks-skipped s ∙ none)
 
 -- The place of a word among the words of a text.
 
-place_none : (w : List ℕ) → place_in w [] ≡ 0
+pub same_is : (w n : List ℕ) → pointwise eqb w n ≡ same w n
+unfolding same
+same_is [] [] = refl
+same_is [] (b ∷ n) = refl
+same_is (a ∷ w) [] = refl
+same_is (a ∷ w) (b ∷ n) = ap (λ (t : Bool). eqb a b && t) (same_is w n)
+
+place-is : (w : List ℕ) (ns : List (List ℕ)) → position_or_len (λ n. pointwise eqb w n) ns ≡ place_in w ns
 unfolding place_in
-place_none w = refl
+place-is w [] = refl
+place-is w (n ∷ ns) =
+    rw (same_is w n) (split (same w n) (λ t. rw t) (λ t. rw (t, one_more (position_or_len (λ n. pointwise eqb w n) ns)) (ap suc (place-is w ns))))
 
-place_here : (w n : List ℕ) (ns : List (List ℕ)) → same w n ≡ true → place_in w (n ∷ ns) ≡ 0
+pub place_found : (w : List ℕ) (ns : List (List ℕ)) → position (λ n. pointwise eqb w n) ns ≡ place_of w ns
+place_found w ns = rw (place-is w ns)
+
+-- it is below the number of the words, or there is none
+pub place_few : (w : List ℕ) (ns : List (List ℕ)) → place_in w ns ≤ length ns
 unfolding place_in
-place_here w n ns e = rw e
+place_few w [] = omega arith
+place_few w (n ∷ ns) = split (same w n) (λ t. rw t (omega arith)) (λ t. rw t (omega (arith, place_few w ns)))
 
-place-later : (w n : List ℕ) (ns : List (List ℕ)) → same w n ≡ false → place_in w (n ∷ ns) ≡ 1 + place_in w ns
-unfolding place_in
-place-later w n ns e = rw e (omega arith)
-
-pub no_words : (s : List ℕ) (from start end : ℕ) → NextWord s from start end → start ≡ end → words (drop from s) ≡ []
-unfolding found
-no_words s from start end x e = let k : end - start ≡ 0 = omega arith in x.first ∙ rw k
-
-pub a_word : (s : List ℕ) (from start end : ℕ) → NextWord s from start end → (start ≡ end → ⊥)
-    → words (drop from s) ≡ take (end - start) (drop start s) ∷ words (drop end s)
-a_word s from start end x n =
-    let o = x.ordered in
-    x.first ∙ found_word s start end (words (drop end s)) (omega arith) x.within
-
-module _ (w s : List ℕ) (at k start end : ℕ) (known : k + place_in w (words (drop at s)) ≡ place_in w (words s)) (x : NextWord s at start end) where
-  pub none_left : start ≡ end → k ≡ place_in w (words s)
-  none_left e = omega (arith, ap (place_in w) (no_words s at start end x e), place_none w)
-
-  pub place_found : (start ≡ end → ⊥) → (t : Bool) → t ≡ same w (take (end - start) (drop start s)) → t ≡ true → k ≡ place_in w (words s)
-  place_found n t f v =
-      omega (
-        arith,
-        ap (place_in w) (a_word s at start end x n),
-        place_here w (take (end - start) (drop start s)) (words (drop end s)) (sym f ∙ v),
-      )
-
-  pub place_after : (start ≡ end → ⊥) → (t : Bool) → t ≡ same w (take (end - start) (drop start s)) → t ≡ false
-      → k + 1 + place_in w (words (drop end s)) ≡ place_in w (words s)
-  place_after n t f v =
-      omega (
-        arith,
-        ap (place_in w) (a_word s at start end x n),
-        place-later w (take (end - start) (drop start s)) (words (drop end s)) (sym f ∙ v),
-      )
-
--- a word moves the place on
-module _ (s : List ℕ) (at k start end : ℕ) (x : NextWord s at start end) (h : at ≤ length s) (n : start ≡ end → ⊥) where
-  pub fewer_bytes : length s - end < length s - at
-  fewer_bytes = omega (arith, x.onward h)
-
-  pub further-on : k ≤ at → k + 1 ≤ end
-  further-on g = omega (arith, x.onward h)
+pub place_or : (w : List ℕ) (ns : List (List ℕ)) → unwrap_or (place_of w ns) (length ns) ≡ place_in w ns
+place_or w ns =
+    split (ltb (place_in w ns) (length ns)) (λ t. rw t)
+    (λ t. rw t (omega (arith, place_few w ns, ltb-false (place_in w ns) (length ns) t)))

@@ -1,9 +1,7 @@
 -- Numbers as words of a line.
 -- Assumes nothing.
-use Rattle.std.specs.Prelude.{ℕ, ◌+◌, ◌-◌, ◌*◌, min, Bool, false, cond, List, [], ◌∷◌, eqb, pos, neg_ℤ}
+use Rattle.std.specs.Prelude.{ℕ, ◌+◌, ◌-◌, ◌*◌, min, Bool, false, cond, List, [], ◌∷◌, eqb, ℤ, pos, neg_ℤ, Option, Some, None}
 use Rattle.words.specs.Bytes.{digit, each}
-use Rattle.words.specs.declared.numbers.Number.{Number}
-use Rattle.words.specs.declared.numbers.Signed.{Signed}
 
 -- Whether a word is a natural number: one digit or more, "any number of digits", with no sign.
 unfoldable pub natural : List ℕ → Bool
@@ -20,18 +18,18 @@ abbrev pub value : List ℕ → ℕ
 value w = value_from 0 w
 
 -- A natural number of 64 bits: "one too large for its type counts as the type's largest", 2^64 - 1.
-unfoldable pub natural_of : List ℕ → Number
-natural_of w = cond (natural w) (Number.Value (min (value w) 18446744073709551615)) Number.NoNumber
+unfoldable pub natural_of : List ℕ → Option ℕ
+natural_of w = cond (natural w) (Some (min (value w) 18446744073709551615)) None
 
 -- The same held as a signed number of 64 bits, whose largest is 2^63 - 1.
-unfoldable pub unsigned_of : List ℕ → Signed
-unsigned_of w = cond (natural w) (Signed.Value (pos (min (value w) 9223372036854775807))) Signed.NoNumber
+unfoldable pub unsigned_of : List ℕ → Option ℤ
+unsigned_of w = cond (natural w) (Some (pos (min (value w) 9223372036854775807))) None
 
 -- What a minus stands before: the least signed number of 64 bits is - 2^63.
-unfoldable pub negative_of : List ℕ → Signed
-negative_of w = cond (natural w) (Signed.Value (neg_ℤ (pos (min (value w) 9223372036854775808)))) Signed.NoNumber
+unfoldable pub negative_of : List ℕ → Option ℤ
+negative_of w = cond (natural w) (Some (neg_ℤ (pos (min (value w) 9223372036854775808)))) None
 
 -- A number that "may have a minus".
-unfoldable pub signed_of : List ℕ → Signed
-signed_of [] = Signed.NoNumber
+unfoldable pub signed_of : List ℕ → Option ℤ
+signed_of [] = None
 signed_of (b ∷ w) = cond (eqb b 45) (negative_of w) (unsigned_of (b ∷ w))

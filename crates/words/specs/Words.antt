@@ -1,8 +1,8 @@
 -- The words of a journal's line. 'The journal': "words and numbers separated by blanks".
 -- Assumes nothing.
-use Rattle.std.specs.Prelude.{ℕ, zero, suc, ◌+◌, min, Bool, true, cond, List, [], ◌∷◌, length, drop}
+use Rattle.std.specs.Prelude.{ℕ, zero, suc, Bool, true, cond, List, [], ◌∷◌, ltb, length, Option, Some, None}
 use Rattle.words.specs.Bytes.{blank, same}
-use Rattle.words.specs.declared.line.Word.{Word}
+use Rattle.words.specs.declared.line.Words.{Words}
 
 -- Whether no word goes on here: the text ends, or a blank stands first.
 unfoldable pub apart : List ℕ → Bool
@@ -30,14 +30,15 @@ unfoldable pub solid_in : List ℕ → ℕ
 solid_in [] = zero
 solid_in (b ∷ l) = cond (blank b) zero (suc (solid_in l))
 
--- Where the first word of a text from a place on begins, and where it ends; both are the text's end where there is none.
-abbrev pub start_at : List ℕ → ℕ → ℕ
-start_at s from = min (from + blanks_in (drop from s)) (length s)
-
-abbrev pub word_at : List ℕ → ℕ → Word
-word_at s from = record { start = start_at s from; end = start_at s from + solid_in (drop (start_at s from) s) }
+-- The words that are left of a text.
+abbrev pub left : Words → List (List ℕ)
+left s = words s.text.now
 
 -- The place of a word in a list of names, from 0; the number of names where it is none of them.
 unfoldable pub place_in : List ℕ → List (List ℕ) → ℕ
 place_in w [] = zero
 place_in w (n ∷ ns) = cond (same w n) zero (suc (place_in w ns))
+
+-- The same, where it is one of them.
+abbrev pub place_of : List ℕ → List (List ℕ) → Option ℕ
+place_of w ns = cond (ltb (place_in w ns) (length ns)) (Some (place_in w ns)) None

@@ -8,5 +8,5 @@ mod hex; // hex.rt: bytes as hexadecimal digits
 
 pub use dates::{day_in, month_in, small};
 pub use hex::{is_hexadecimal, write_bytes};
-pub use line::{Word, content_end, has_control, place_of, word_at};
-pub use numbers::{Number, Signed, natural_of, signed_of, unsigned_of};
+pub use line::{Words, content, has_control, place_of};
+pub use numbers::{natural_of, signed_of, unsigned_of};

@@ -25,7 +25,7 @@ use Rattle.book.specs.Account.{file_at, with_file, if_numbered, if_admitted, adm
 use Rattle.book.specs.Left.{file_left}
 use Rattle.book.specs.Reached.{Given}
 use Rattle.book.proofs.Participant.Decide.{decide_true, decide-false, decide-accepted}
-use Rattle.book.proofs.Functions.OnFile.{above-answer, refused-left, known-first, known-answer, not-admitted, is-admitted}
+use Rattle.book.proofs.Functions.OnFile.{refused-left, known-first, known-answer, is-admitted}
 use Rattle.book.proofs.Functions.OnFile.{admitted-left, none_left, settle-left}
 use Rattle.book.proofs.Functions.SoundBook.{sound-made}
 use Rattle.book.proofs.History.Life.{given}
@@ -33,9 +33,6 @@ use Rattle.book.proofs.History.Life.{given}
 -- A refused call: its number, and the book as it was.
 refusal : (b : Book) (c : Call) (n : ℕ) → refused n ≡ answer new_rule b c → Given b c (refused n) b
 refusal b c n e = given b c (refused n) b e (refused-left b c n e)
-
-pub above : (b : Book) (p : ℕ) (a : Act) → 63 < p → Given b (on p a) (refused 1) b
-above b p a h = refusal b (on p a) 1 (above-answer new_rule b p a (lt-ltb 63 p h))
 
 -- A book with another file for a participant, and the calls that were made besides.
 abbrev pub stored_in : Book → ℕ → File → ℕ → Book
@@ -104,9 +101,6 @@ module _ (b : Book) (p : ℕ) (low : p ≤ 63) where
   unfolding answer if_numbered decide
   stated-by x e = e ∙ sym (decide-false (record { number = 1; holds = ltb 63 p }) [] _ numbered)
 
-  pub unknown-statement : (file_at b p).admitted ≡ false → Given b (statement p) (refused 2) b
-  unknown-statement e = refusal b (statement p) 2 (stated-by (refused 2) (not-admitted f _ e))
-
   same-book : b ≡ step new_rule b (statement p)
   unfolding step applied
   same-book = split (accepted (answer new_rule b (statement p))) (λ e. rw e) (λ e. rw e)
@@ -132,9 +126,9 @@ pub left-admit : (rule : Rule) (b : Book) (p role : ℕ) (g : File) → accepted
 unfolding with_file admitted_file
 left-admit rule b p role g e file = ap (λ (z : File). with_file b p z z.count) file ∙ admitted-left rule b p role e
 
-pub above-statement : (b : Book) (p : ℕ) → 63 < p → Given b (statement p) (refused 1) b
-unfolding answer if_numbered
-above-statement b p h = refusal b (statement p) 1 (sym (decide_true (record { number = 1; holds = ltb 63 p }) [] _ (lt-ltb 63 p h)))
+-- A statement that is refused.
+pub refused-statement : (b : Book) (p n : ℕ) → refused n ≡ answer new_rule b (statement p) → Given b (statement p) (refused n) b
+refused-statement b p n e = refusal b (statement p) n e
 
 -- The count of calls made.
 pub gave_count : (b : Book) (n : ℕ) → n ≡ b.made → Given b calls_made (counted n) b

@@ -8,7 +8,7 @@ use mathlib.Core.Path.{◌≡◌, refl, sym, ap, subst, ◌∙◌}
 use mathlib.Core.Bool.{Bool, true, false, cond, ◌||◌}
 use mathlib.Core.List.{List, [], map}
 use lib.Dec.{ltb}
-use lib.ListN.{length, get_or, set}
+use lib.ListN.{length, get_or, set, length-map}
 use Rattle.laws.specs.Lists.{All, all-at, all_map}
 use Rattle.laws.specs.Places.{up_to, up_to-none, up_to-next, up_to-all, up_to-long, up_to-turn}
 use Rattle.file.specs.declared.File.{File}
@@ -72,6 +72,10 @@ pass-next d i z f before files s h e =
       sofar = up_to-turn (opened_if_admitted d) files before i 64 (get_or files i z) f z s.long h s.sofar refl e;
     }
 
+-- all are opened
+pub pass-all : (d i : ℕ) (before files : List File) → Pass d i before files → 64 ≤ i → files ≡ map (opened_if_admitted d) before
+pass-all d i before files s h = s.sofar ∙ up_to-all (opened_if_admitted d) i before (let e = s.long in omega arith)
+
 -- ---- the days in turn
 
 -- Of the days after day t, `past` have been opened, and the others will lead to what all of them lead to.
@@ -92,27 +96,25 @@ turn-first t days files long sound =
       rest = ap (λ (k : ℕ). files_opened k (t + 0) files) n ∙ ap (λ (k : ℕ). files_opened days k files) e;
     }
 
--- the day that is opened next, and its first pass
-pub turn-pass : (t days past : ℕ) (before files : List File) → Turn t days past before files → Pass (t + past + 1) 0 files files
-turn-pass t days past before files s =
+-- the files are sound on the day before the one that is opened next
+pub turn-sound : (t days past : ℕ) (before files : List File) → Turn t days past before files → All (Sound (t + past + 1 - 1)) files
+turn-sound t days past before files s =
     let e : t + past ≡ t + past + 1 - 1 = omega arith in
-    pass-first (t + past + 1) files s.long (subst (λ (k : ℕ). All (Sound k) files) e s.sound)
+    subst (λ (k : ℕ). All (Sound k) files) e s.sound
 
 -- a day after which all files are opened
-pub turn-next : (t days past i : ℕ) (before files after : List File) → Turn t days past before files → past < days
-    → t + days ≤ 29219 → Pass (t + past + 1) i files after → 64 ≤ i → Turn t days (past + 1) before after
+pub turn-next : (t days past : ℕ) (before files after : List File) → Turn t days past before files → past < days
+    → t + days ≤ 29219 → after ≡ map (opened_if_admitted (t + past + 1)) files → Turn t days (past + 1) before after
 unfolding files_opened
-turn-next t days past i before files after s h le pass all =
+turn-next t days past before files after s h le opened =
     let day : t + past + 1 ≡ suc (t + past) = add-one (t + past) in
     let next : t + (past + 1) ≡ suc (t + past) = omega arith in
     let left : days - past ≡ suc (days - (past + 1)) = omega arith in
     let done : after ≡ map (opened_if_admitted (suc (t + past))) files
-    = pass.sofar
-    ∙ up_to-all (opened_if_admitted (t + past + 1)) i files (let e = pass.long in omega arith)
-    ∙ ap (λ (d : ℕ). map (opened_if_admitted d) files) day in
+    = opened ∙ ap (λ (d : ℕ). map (opened_if_admitted d) files) day in
     record {
       few = omega arith;
-      long = pass-long (t + past + 1) i files after pass;
+      long = ap length done ∙ length-map files (opened_if_admitted (suc (t + past))) ∙ s.long;
       sound = subst (λ (k : ℕ). All (Sound k) after) (sym next)
           (subst (All (Sound (suc (t + past)))) (sym done)
           (all_map (Sound (t + past)) (Sound (suc (t + past))) (opened_if_admitted (suc (t + past))) files
@@ -190,3 +192,7 @@ module _ (day t : ℕ) (outside : Bool) (test : outside ≡ (ltb 29219 day || lt
 
   pub days-within : (budget n : ℕ) → n ≡ min budget (day - t) → t + n ≤ 29219
   days-within budget n e = subst (λ (k : ℕ). t + k ≤ 29219) (sym e) (days-fit day t budget (sym test ∙ h))
+
+pub ruleset passes = (pass-first, pass-sound, pass-next, pass-all)
+
+pub ruleset turns = (turn-first, turn-sound, turn-next, turn_last)

@@ -10,7 +10,7 @@ use mathlib.Core.List.{List}
 use lib.Dec.{ltb}
 use lib.ListN.{length, get_or, set, length-set}
 use Rattle.laws.specs.Lists.{All}
-use Rattle.laws.specs.Places.{over, over_none, over-more, over-all, Filling, filling-first, filling-next}
+use Rattle.laws.specs.Places.{over, over_none, over-more, over-all, Filling, filling-first, filling-next, filling-all}
 use Rattle.file.specs.declared.File.{File}
 use Rattle.file.specs.Answer.{refused, days_opened}
 use Rattle.file.specs.Admit.{no_file}
@@ -24,7 +24,7 @@ use Rattle.book.specs.Call.{advance}
 use Rattle.book.specs.Opened.{files_opened, FilesStored}
 use Rattle.book.specs.InWords.{GivenWords}
 use Rattle.book.specs.Reached.{Given}
-use Rattle.book.proofs.Functions.DaysOpened.{refused-outside, days-within, gave-days}
+use Rattle.book.proofs.Functions.DaysOpened.{refused-outside, not-before, days-within, gave-days}
 use Rattle.book.proofs.Functions.OnWords.{in_words, nothing_written}
 
 -- ---- the files are read
@@ -57,9 +57,10 @@ store-first files l many =
       long = refl;
     }
 
-pub store-next : (i : ℕ) (files : List File) (l m m' : List ℕ) (d : File) → Stored i files l m → i < 64
-    → Put m (place i) (get_or files i d) m' → Stored (i + 1) files l m'
-store-next i files l m m' d s h put =
+pub store-next : (i at : ℕ) (files : List File) (l m m' : List ℕ) (d : File) → Stored i files l m → i < 64 → at ≡ place i
+    → Put m at (get_or files i d) m' → Stored (i + 1) files l m'
+store-next i at files l m m' d s h here there =
+    let put : Put m (place i) (get_or files i d) m' = rw here at there in
     let f = get_or files i d in
     let low : i ≤ 63 = omega arith in
     let turned : set (book_of_words m).files i f ≡ over (i + 1) files (book_of_words l).files =
@@ -112,15 +113,14 @@ module _ (l : List ℕ) (day budget t : ℕ) (outside : Bool) (w : WellFormed l)
       (refused-outside (book_of_words l) day budget outside (rw today-is at test) h)
 
   -- no day
-  pub none-given : (n : ℕ) → outside ≡ false → n ≡ min budget (day - t) → n ≡ 0 → GivenWords l (advance day budget) (days_opened n) l
+  pub none-given : (n : ℕ) → outside ≡ false → n ≡ min budget (day - t) → n ≡ 0 → GivenWords l (advance day budget) (days_opened 0) l
   unfolding files_opened
   none-given n h number none =
       let b = book_of_words l in
-      nothing_written l (advance day budget) (days_opened n) w
-      (subst (Given b (advance day budget) (days_opened n))
-      (λ i. record { files = b.files; today = record { 0 = (ap (λ (k : ℕ). b.today.0 + k) none ∙ add-zero b.today.0) i }; made = b.made })
-      (gave-days b day budget n outside b.files (rw today-is at test) h (number ∙ ap (λ (k : ℕ). min budget (day - k)) today-is)
-      (ap (λ (k : ℕ). files_opened k b.today.0 b.files) (sym none))))
+      nothing_written l (advance day budget) (days_opened 0) w
+      (subst (Given b (advance day budget) (days_opened 0))
+      (λ i. record { files = b.files; today = record { 0 = add-zero b.today.0 i }; made = b.made })
+      (gave-days b day budget 0 outside b.files (rw today-is at test) h (sym none ∙ number ∙ ap (λ (k : ℕ). min budget (day - k)) today-is) refl))
 
   pub days-given : (m : List ℕ) (n : ℕ) → outside ≡ false → n ≡ min budget (day - t)
       → FilesStored l (files_opened n t (book_of_words l).files) m → GivenWords l (advance day budget) (days_opened n) (set m 1 (t + n))
@@ -136,3 +136,11 @@ module _ (l : List ℕ) (day budget t : ℕ) (outside : Bool) (w : WellFormed l)
       (ap (λ (k : ℕ). files_opened n k (book_of_words l).files) today-is)))
       (length-set m 1 (t + n) ∙ stored.long)
       (canonical-today m (t + n) (stored.canonical w.canonical) long (omega arith))
+
+pub ruleset reads = (read_first, read_next, filling-all)
+
+pub ruleset stores = (store-first, store-next, store-all)
+
+pub ruleset opens = (files-sound, open-stored)
+
+pub ruleset advances = (outside-given, none-given, days-given, not-before, days-within)

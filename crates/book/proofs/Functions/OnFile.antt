@@ -19,9 +19,8 @@ use Rattle.file.specs.CheckLaws.{settled-answer}
 use Rattle.file.specs.Settle.{settle_answer, settled_answer, settlement_calls, check_due}
 use Rattle.calendar.specs.Civil.{month_of}
 use Rattle.manual.specs.Figures.{sum_of}
-use Rattle.file.specs.Annual.{annual_answer, annual_file}
 use Rattle.layout.specs.Book.{Book}
-use Rattle.book.specs.Call.{Act, admit, settle, annual_run, Call, on, is_called}
+use Rattle.book.specs.Call.{Act, admit, settle, Call, on, is_called}
 use Rattle.book.specs.Rule.{Rule, old_rule, new_rule}
 use Rattle.book.specs.Account.{file_at, with_file, if_numbered, if_admitted, file_answer, file_after, calls_added}
 use Rattle.book.specs.Account.{admits_retired, unless_retired, answer, applied, step}
@@ -46,7 +45,7 @@ unfolding answer if_numbered decide
 known-first b p a x e h = h ∙ sym (decide-false (record { number = 1; holds = ltb 63 p }) [] (file_answer (file_at b p) b.today.0 a) e)
 
 -- .. and under the new one, where it doesn't admit the retired role.
-unretired : (a : Act) (x : Answer) → admits_retired a ≡ false → x ≡ unless_retired new_rule a x
+pub unretired : (a : Act) (x : Answer) → admits_retired a ≡ false → x ≡ unless_retired new_rule a x
 unretired a x e = rw e refl
 
 pub known-answer : (b : Book) (p : ℕ) (a : Act) (x : Answer) → ltb 63 p ≡ false → admits_retired a ≡ false
@@ -147,43 +146,7 @@ settled-called f t m figures =
     either true z = refl
     either false z = refl
 
--- A refused call leaves the file as it was.
-annual-refused : (f : File) (t : ℕ) → accepted (annual_answer f t) ≡ false → annual_file f t ≡ f
-unfolding annual_file
-annual-refused f t e = rw e
-
--- A call on a file, after cause 2: what it answers, and the file that it leaves.
-module _ (f : File) (t : ℕ) (a : Act) (x : Answer) (judged : file_answer f t a ≡ if_admitted f x) where
-  -- Not admitted: refused with 2, and the file as it was.
-  unknown : f.admitted ≡ false → (refused 2 ≡ file_answer f t a) × (f ≡ file_left f t a)
-  unfolding file_left
-  unknown e =
-      let two : refused 2 ≡ file_answer f t a = not-admitted f x e ∙ sym judged in
-      (two, sym (cond-false (accepted (file_answer f t a)) (file_after f t a) f (ap accepted (sym two))))
-
-  -- Admitted: what the file's method answers and leaves, where its refusal leaves the file as it was.
-  known : f.admitted ≡ true → (accepted x ≡ false → file_after f t a ≡ f) → (y : Answer) (g : File) → (y ≡ x) × (g ≡ file_after f t a)
-      → (y ≡ file_answer f t a) × (g ≡ file_left f t a)
-  unfolding file_left
-  known e kept y g both =
-      let same : x ≡ file_answer f t a = is-admitted f x x e refl ∙ sym judged in (
-        both.0 ∙ same,
-        both.1
-            ∙ split (accepted x)
-            (λ h. sym (cond-true (accepted (file_answer f t a)) (file_after f t a) f (ap accepted (sym same) ∙ h)))
-            (λ h. kept h ∙ sym (cond-false (accepted (file_answer f t a)) (file_after f t a) f (ap accepted (sym same) ∙ h))),
-      )
-
 module _ (f : File) (t : ℕ) where
-  pub unknown-annual : f.admitted ≡ false → (refused 2 ≡ file_answer f t annual_run) × (f ≡ file_left f t annual_run)
-  unfolding file_answer
-  unknown-annual = unknown f t annual_run (annual_answer f t) refl
-
-  pub known-annual : (x : Answer) (g : File) → f.admitted ≡ true → (x ≡ annual_answer f t) × (g ≡ annual_file f t)
-      → (x ≡ file_answer f t annual_run) × (g ≡ file_left f t annual_run)
-  unfolding file_answer file_after
-  known-annual x g e = known f t annual_run (annual_answer f t) refl e (annual-refused f t) x g
-
   -- A settlement that isn't refused called where the manual's check calls.
   pub called_is : (m : ℕ) (figures : List ℤ) → accepted (file_answer f t (settle m figures)) ≡ true
       → is_called (file_answer f t (settle m figures)) ≡ settlement_calls f t m figures

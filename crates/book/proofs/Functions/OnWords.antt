@@ -1,50 +1,53 @@
 -- What each public call gives on words, from what it did: the participant's file taken out, its method's answer, and the file put back.
 -- Assumes nothing.
-use Prim.Native.Nat.{ℕ, zero, suc, ◌+◌, ◌-◌, ◌≤◌, ◌<◌}
+use Prim.Native.Nat.{ℕ, suc, ◌+◌, ◌-◌, ◌≤◌, ◌<◌}
 use native.Mathlib.Nat.{add-zero}
 use native.Mathlib.Omega.{arith}
-use native.Mathlib.Numerals.{add-one}
 use mathlib.Core.Path.{◌≡◌, refl, sym, ap, subst, ◌∙◌}
-use mathlib.Core.Bool.{Bool, true, false, cond, not}
-use mathlib.Core.List.{List, [], ◌∷◌, ◌++◌, append-nil}
+use mathlib.Core.Bool.{Bool, true, false, cond}
+use mathlib.Core.List.{List, [], ◌∷◌}
 use borrow.Author.Tests.{lt-ltb, le-ltb, eq-eqb, ne_eqb}
 use lib.IntN.{ℤ}
-use lib.ListN.{length, get_or, set, drop, replicate, length-set, length-replicate, drop_of_length-le, get_or-eq_default}
+use lib.ListN.{length, get_or, set, replicate, length-set, length-replicate, get_or-eq_default}
 use Rattle.laws.specs.Cases.{cond-true, cond-false}
-use Rattle.laws.specs.Lists.{All}
 use Rattle.file.specs.declared.File.{File}
-use Rattle.file.specs.declared.AnnualRun.{AnnualRun}
-use Rattle.file.specs.declared.Slot.{Slot}
+use Rattle.refusal.specs.declared.Refusal.{Refusal}
+use Rattle.refusal.specs.declared.Refusal.TheVariants.{NoSuchParticipant}
+use Rattle.refusal.specs.Numbers.{number_of}
 use Rattle.file.specs.declared.Statement.{Statement}
 use Rattle.file.specs.Answer.{Answer, refused, done, called, covered, recorded, annual, days_opened, stated, counted, batched, refused_pair}
-use Rattle.file.specs.Answer.{accepted, annual_says, statement_says}
+use Rattle.file.specs.Answer.{accepted}
 use Rattle.file.specs.Admit.{no_file, admitted_file}
 use Rattle.file.specs.Annual.{annual_amount_of, annual_answer, annual_file}
+use Rattle.file.specs.declared.AnnualRun.{AnnualRun}
+use Rattle.file.specs.Lodge.{lodge_answer}
+use Rattle.file.specs.Release.{release_answer}
+use Rattle.file.specs.Settle.{settle_answer}
 use Rattle.file.specs.Fields.{cover_of, shortfall_of, with_next, set_to}
 use Rattle.file.specs.Position.{cover_through, cover_on}
-use Rattle.file.specs.Sound.{Sound, SoundPosition}
+use Rattle.file.specs.Sound.{Sound}
 use Rattle.file.specs.Statement.{file_statement}
-use Rattle.layout.specs.Parts.{flag_of, written}
-use Rattle.layout.specs.Files.{file_of_words, slots_of_words, words_at, Put}
+use Rattle.layout.specs.Parts.{written}
+use Rattle.layout.specs.Files.{Put}
 use Rattle.layout.specs.Words.{book_length, place, file_in_words, today_in, book_of_words, book_words}
 use Rattle.layout.specs.WellFormed.{SoundBook, WellFormed}
 use Rattle.layout.proofs.BookLaws.{book-long, book-file, put-book, put-length, made-book, canonical-put, canonical-made, fresh_words, fresh-words}
 use Rattle.layout.proofs.BookLaws.{canonical-fresh}
 use Rattle.layout.proofs.PartLaws.{next-put}
-use Rattle.book.specs.Call.{Act, admit, settle, annual_run, Call, on, statement, calls_made, is_called}
+use Rattle.book.specs.Call.{Act, admit, lodge, release, settle, annual_run, Call, on, statement, calls_made, is_called}
 use Rattle.book.specs.Rule.{Rule, old_rule, new_rule}
-use Rattle.book.specs.Account.{file_at, fresh_book, if_admitted, admits_retired, file_answer, file_after, calls_added, answer, step, applied}
-use Rattle.book.specs.Reading.Decisions.{cause}
+use Rattle.book.specs.Account.{file_at, fresh_book, if_numbered, if_admitted, admits_retired, file_answer, file_after, calls_added, answer, step, applied}
 use Rattle.book.specs.Left.{file_left}
 use Rattle.book.specs.Reached.{Given, GivenFirst, Begun}
 use Rattle.book.specs.InWords.{GivenWords, GivenFirstWords, BegunWords}
 use Rattle.book.specs.Admissions.{PutsAdmission}
-use Rattle.book.proofs.Functions.Answers.{stored_in, above, left-none, left-settle, left-admit}
+use Rattle.book.specs.View.{RefusesAll}
+use Rattle.book.proofs.Functions.Answers.{stored_in, left-none, left-settle, left-admit}
 use Rattle.book.proofs.Functions.Answers.{first-already, first-no-role, first_done, accepted-done, admission-few, count_fits}
-use Rattle.book.proofs.Functions.Answers.{above-statement, unknown-statement, gave-statement, gave_count}
+use Rattle.book.proofs.Functions.Answers.{refused-statement, gave-statement, gave_count}
 use Rattle.book.proofs.Functions.Begins.{begun-refused, begun-done}
-use Rattle.book.proofs.Functions.OnFile.{above-answer, known-answer, refused-first, accepted-first, retired-first}
-use Rattle.book.proofs.Functions.SoundBook.{sound-file, step-sound, fresh-sound, numbered, behind-admitted}
+use Rattle.book.proofs.Functions.OnFile.{above-answer, known-answer, unretired, is-admitted, refused-first, accepted-first, retired-first}
+use Rattle.book.proofs.Functions.SoundBook.{sound-file, step-sound, fresh-sound, numbered}
 use Rattle.book.proofs.Participant.Decide.{decide-accepted}
 use Rattle.book.proofs.History.Life.{given, given-first}
 
@@ -113,27 +116,34 @@ pub file-there : (l : List ℕ) (p : ℕ) → p ≤ 63 → file_at (book_of_word
 unfolding file_at
 file-there l p h = book-file l p h
 
--- Whether it is admitted, and its role.
-pub there-admitted : (l : List ℕ) (p : ℕ) (r : Bool) → p ≤ 63 → r ≡ flag_of (get_or l (place p + 1) 0) → r ≡ (file_at (book_of_words l) p).admitted
-unfolding file_of_words
-there-admitted l p r h e = e ∙ sym (ap (λ (z : File). z.admitted) (file-there l p h))
+-- What is read of the view of a participant's file.
+module _ (l l' : List ℕ) (p p' : ℕ) (words : l' ≡ l) (same : p' ≡ p) where
+  pub seen : {X : Type 0} (F : File → ℕ → X) (x : X) → x ≡ F (file_in_words l' p') (today_in l') → x ≡ F (file_in_words l p) (today_in l)
+  seen F x e = e ∙ (λ i. F (file_in_words (words i) (same i)) (today_in (words i)))
 
+-- Whether it is admitted, and its role.
 pub none-admitted : (l : List ℕ) (p : ℕ) → 63 < p → false ≡ (file_at (book_of_words l) p).admitted
 none-admitted l p h = sym (ap (λ (z : File). z.admitted) (none-there l p h))
+
+pub there-admitted : (l : List ℕ) (p : ℕ) (r : Bool) → p ≤ 63 → r ≡ (file_in_words l p).admitted → r ≡ (file_at (book_of_words l) p).admitted
+there-admitted l p r h e = e ∙ sym (ap (λ (z : File). z.admitted) (file-there l p h))
 
 pub none-role : (l : List ℕ) (p : ℕ) → 63 < p → 0 ≡ (file_at (book_of_words l) p).role
 none-role l p h = sym (ap (λ (z : File). z.role) (none-there l p h))
 
-pub there-role : (l : List ℕ) (p : ℕ) → p ≤ 63 → get_or l (place p + 2) 0 ≡ (file_at (book_of_words l) p).role
-unfolding file_of_words
-there-role l p h = sym (ap (λ (z : File). z.role) (file-there l p h))
+pub there-role : (l l' : List ℕ) (p p' r : ℕ) → l' ≡ l → p' ≡ p → p ≤ 63 → r ≡ (file_in_words l' p').role → r ≡ (file_at (book_of_words l) p).role
+there-role l l' p p' r words same h e =
+    seen l l' p p' words same (λ f t. f.role) r e ∙ sym (ap (λ (z : File). z.role) (file-there l p h))
+
+-- Behind cause 2 an admitted participant's call is answered, and an accepted one leaves the file after it.
+pub answered : (f : File) (x y : Answer) → f.admitted ≡ true → y ≡ x → y ≡ if_admitted f x
+answered f x y e h = is-admitted f x y e h
+
+pub left-after : (f : File) (t : ℕ) (a : Act) {x : Answer} → x ≡ file_answer f t a → accepted x ≡ true → file_left f t a ≡ file_after f t a
+unfolding file_left
+left-after f t a b good = cond-true (accepted (file_answer f t a)) (file_after f t a) f (ap accepted (sym b) ∙ good)
 
 -- ---- the calls on a participant's file
-
--- What stands behind cause 2 is the answer.
-pub is-behind : (f : File) (x : Answer) → accepted (if_admitted f x) ≡ true → if_admitted f x ≡ x
-unfolding if_admitted
-is-behind f x e = decide-accepted (cause 2 (not f.admitted) ∷ []) x e
 
 -- The amount that an annual run answers.
 abbrev amount_in : Answer → ℕ
@@ -148,9 +158,6 @@ amount_in (stated f c s d a) = 0
 amount_in (counted n) = 0
 amount_in (batched n) = 0
 amount_in (refused_pair n i) = 0
-
-pub above-given : (l : List ℕ) (p : ℕ) (a : Act) → WellFormed l → 63 < p → GivenWords l (on p a) (refused 1) l
-above-given l p a w h = nothing_written l (on p a) (refused 1) w (above (book_of_words l) p a h)
 
 -- The file of participant p and another count, put back.
 stored-book : (l m : List ℕ) (p : ℕ) (g : File) → p ≤ 63 → Put l (place p) g m → (n : ℕ) → length l ≡ book_length
@@ -210,31 +217,13 @@ module _ (l : List ℕ) (p : ℕ) (w : WellFormed l) (low : p ≤ 63) where
         (subst (λ (n : ℕ). Given (book_of_words l) (on p (settle mo figures)) x (stored_in (book_of_words l) p g n)) (add-zero (get_or l 2 0))
         (settle-stored mo figures x 0 a b (sym c)))
 
-  -- a refused call writes nothing, and an accepted one what it changed
+  -- a settlement, and the file that it leaves
   module _ where
     abbrev f : File
     f = file_in_words l p
 
     abbrev t : ℕ
     t = today_in l
-
-    pub given-refused : (a : Act) (x : Answer) (ok : Bool) → admits_retired a ≡ false → x ≡ file_answer f t a → ok ≡ accepted x → ok ≡ false → GivenWords l (on p a) x l
-    unfolding book_of_words step
-    given-refused a x ok other b r bad =
-        let is : x ≡ answer new_rule (book_of_words l) (on p a) =
-        known-answer (book_of_words l) p a x (le-ltb 63 p low) other (b ∙ ap (λ (z : File). file_answer z t a) (sym (file-there l p low))) in
-        nothing_written l (on p a) x w
-        (given (book_of_words l) (on p a) x (book_of_words l) is
-        (sym (cond-false (accepted (answer new_rule (book_of_words l) (on p a))) (applied (book_of_words l) (on p a)) (book_of_words l)
-        (ap accepted (sym is) ∙ sym r ∙ bad))))
-
-    -- the file that an accepted call leaves
-    pub after : (a : Act) (x : Answer) (ok : Bool) → x ≡ file_answer f t a → ok ≡ accepted x → ok ≡ true
-        → (accepted (file_answer f t a) ≡ true) × (file_left f t a ≡ file_after f t a)
-    unfolding file_left
-    after a x ok b r good =
-        let go : accepted (file_answer f t a) ≡ true = ap accepted (sym b) ∙ sym r ∙ good in
-        (go, cond-true (accepted (file_answer f t a)) (file_after f t a) f go)
 
     -- a settlement that called leaves its file, and the count
     pub given-called : (m : List ℕ) (mo : ℕ) (figures : List ℤ) (x : Answer) (g : File) (k : ℕ)
@@ -243,120 +232,140 @@ module _ (l : List ℕ) (p : ℕ) (w : WellFormed l) (low : p ≤ 63) where
     given-called m mo figures x g k b c number put =
         both m g put (settle mo figures) x (get_or l 2 0 + k) (settle-stored m g put mo figures x k b c number)
 
-    -- an annual run leaves the next amount
-    pub given-no-run : (r : AnnualRun) (n : ℕ) → annual_says r ≡ file_answer f t annual_run → r ≡ AnnualRun.Refused n
-        → GivenWords l (on p annual_run) (refused n) l
-    given-no-run r n b e = given-refused annual_run (refused n) false refl (ap annual_says (sym e) ∙ b) refl refl
+-- What a call on an admitted participant's file answers, behind cause 2; an admission asks for none.
+abbrev pub own_answer : File → ℕ → Act → Answer
+own_answer f t (admit role) = done
+own_answer f t (lodge k h) = lodge_answer f t k h
+own_answer f t (release k n) = release_answer f t k n
+own_answer f t (settle m figures) = settle_answer f t m figures
+own_answer f t annual_run = annual_answer f t
 
-    pub given-run : (m : List ℕ) (r : AnnualRun) (a n : ℕ) → annual_says r ≡ file_answer f t annual_run → r ≡ AnnualRun.Amount a n
-        → m ≡ written l (place p + 5) (1 ∷ a ∷ []) → GivenWords l (on p annual_run) (annual a n) m
-    unfolding file_answer file_after calls_added annual_answer annual_file
-    given-run m r a n said e stored =
-        let b : annual a n ≡ file_answer f t annual_run = ap annual_says (sym e) ∙ said in
-        let go = after annual_run (annual a n) true b refl refl in
-        let own = behind-admitted f (annual_answer f t) go.0 in
-        let amount : a ≡ annual_amount_of f t = ap amount_in (b ∙ is-behind f (annual_answer f t) go.0 ∙ decide-accepted _ _ own) in
-        given-none m (with_next f (set_to a)) (next-put l m p w.canonical w.long low a stored) annual_run (annual a n) refl (λ f t. refl) b
-        (ap (λ (y : ℕ). with_next f (set_to y)) amount
-        ∙ sym (go.1 ∙ cond-true (accepted (annual_answer f t)) (with_next f (set_to (annual_amount_of f t))) f own))
+abbrev pub asks_admitted : Act → Bool
+asks_admitted (admit role) = false
+asks_admitted (lodge k h) = true
+asks_admitted (release k n) = true
+asks_admitted (settle m figures) = true
+asks_admitted annual_run = true
 
-  -- whether it is admitted, by its word
-  module _ (a : Bool) (ea : a ≡ flag_of (get_or l (place p + 1) 0)) where
-    flag_is : a ≡ (file_at (book_of_words l) p).admitted
-    flag_is = there-admitted l p a low ea
+behind : (f : File) (t : ℕ) (a : Act) → asks_admitted a ≡ true → (file_answer f t a ≡ if_admitted f (own_answer f t a)) × (admits_retired a ≡ false)
+unfolding file_answer
+behind f t (admit role) e = (cc, cc)
+behind f t (lodge k h) e = (refl, refl)
+behind f t (release k n) e = (refl, refl)
+behind f t (settle m figures) e = (refl, refl)
+behind f t annual_run e = (refl, refl)
 
-    -- an admission's answer by the causes that both rules have
-    pub already-admitted : (role : ℕ) → a ≡ true → refused 3 ≡ answer old_rule (book_of_words l) (on p (admit role))
-    already-admitted role h = first-already (book_of_words l) p low role (sym flag_is ∙ h)
+module _ (l l' : List ℕ) (p p' : ℕ) (a : Act) (x : Answer) (words : l' ≡ l) (same : p' ≡ p) (known : (file_in_words l p).admitted ≡ true)
+    (asks : asks_admitted a ≡ true) (e : x ≡ own_answer (file_in_words l' p') (today_in l') a) where
+  -- It is the answer of the file in the words.
+  pub own-answered : x ≡ file_answer (file_in_words l p) (today_in l) a
+  own-answered =
+      answered (file_in_words l p) (own_answer (file_in_words l p) (today_in l) a) x known (seen l l' p p' words same (λ f t. own_answer f t a) x e)
+      ∙ sym (behind (file_in_words l p) (today_in l) a asks).0
 
-    pub no-such-role : (role : ℕ) → a ≡ false → 5 < role → refused 4 ≡ answer old_rule (book_of_words l) (on p (admit role))
-    no-such-role role h k = first-no-role (book_of_words l) p low role (sym flag_is ∙ h) k
+  -- Where its own causes refuse it, nothing is written.
+  pub given-refused : WellFormed l → p ≤ 63 → accepted x ≡ false → GivenWords l (on p a) x l
+  unfolding book_of_words step
+  given-refused w low bad =
+      let is : x ≡ answer new_rule (book_of_words l) (on p a) =
+      known-answer (book_of_words l) p a x (le-ltb 63 p low) (behind (file_in_words l p) (today_in l) a asks).1
+      (own-answered ∙ ap (λ (z : File). file_answer z (today_in l) a) (sym (file-there l p low))) in
+      nothing_written l (on p a) x w
+      (given (book_of_words l) (on p a) x (book_of_words l) is
+      (sym (cond-false (accepted (answer new_rule (book_of_words l) (on p a))) (applied (book_of_words l) (on p a)) (book_of_words l)
+      (ap accepted (sym is) ∙ bad))))
 
-    pub may-be-admitted : (role : ℕ) → a ≡ false → role ≤ 5 → done ≡ answer old_rule (book_of_words l) (on p (admit role))
-    may-be-admitted role h k = first_done (book_of_words l) p low role (sym flag_is ∙ h) k
+-- Nor where cause 1 or 2 refuses it.
+pub given-unknown : (l : List ℕ) (p : ℕ) (a : Act) (r : Refusal) → WellFormed l → asks_admitted a ≡ true → RefusesAll l p r
+    → GivenWords l (on p a) (refused (number_of r)) l
+unfolding book_of_words step answer
+given-unknown l p a r w asks e =
+    let f = file_at (book_of_words l) p in
+    let x = refused (number_of r) in
+    let is : x ≡ answer new_rule (book_of_words l) (on p a) =
+    e (own_answer f (today_in l) a)
+    ∙ sym (ap (if_numbered p) (behind f (today_in l) a asks).0)
+    ∙ ap (if_numbered p) (unretired a (file_answer f (today_in l) a) (behind f (today_in l) a asks).1) in
+    nothing_written l (on p a) x w
+    (given (book_of_words l) (on p a) x (book_of_words l) is
+    (sym (cond-false (accepted (answer new_rule (book_of_words l) (on p a))) (applied (book_of_words l) (on p a)) (book_of_words l)
+    (ap accepted (sym is)))))
 
-    -- the statement
-    pub given-unknown : a ≡ false → Given (book_of_words l) (statement p) (refused 2) (book_of_words l)
-    given-unknown h = unknown-statement (book_of_words l) p low (sym flag_is ∙ h)
-
-    pub given-statement : a ≡ true → (t c n : ℕ) → t ≡ today_in l → c ≡ cover_through t t (slots_of_words (words_at l (place p))) → n ≡ get_or l (place p + 3) 0 - c
-        → Given (book_of_words l) (statement p)
-        (statement_says (record {
-          firm = get_or l (place p + 3) 0;
-          cover = c;
-          shortfall = n;
-          charged = get_or l (place p + 7) 0;
-          accrued = get_or l (place p + 8) 0;
-        }))
-        (book_of_words l)
-    unfolding book_of_words file_of_words file_statement cover_of cover_on shortfall_of
-    given-statement h t c n q ec en =
-        let slots = slots_of_words (words_at l (place p)) in
-        let covered : c ≡ cover_through (today_in l) (today_in l) slots = ec ∙ ap (λ (d : ℕ). cover_through d d slots) q in
-        let st : Statement =
-        record {
-          firm = get_or l (place p + 3) 0;
-          cover = c;
-          shortfall = n;
-          charged = get_or l (place p + 7) 0;
-          accrued = get_or l (place p + 8) 0;
-        } in
-        gave-statement (book_of_words l) p low st (sym flag_is ∙ h)
-        ((λ i. record {
-          firm = get_or l (place p + 3) 0;
-          cover = covered i;
-          shortfall = (en ∙ ap (λ (z : ℕ). get_or l (place p + 3) 0 - z) covered) i;
-          charged = get_or l (place p + 7) 0;
-          accrued = get_or l (place p + 8) 0;
-        })
-        ∙ ap (λ (z : File). file_statement z (today_in l)) (sym (file-there l p low)))
-
-  -- its positions are sound
-  pub slots-sound : All (λ (z : Slot). SoundPosition z.position) (slots_of_words (words_at l (place p)))
-  unfolding file_of_words
-  slots-sound = (file-sound (file_in_words l p) (today_in l) refl refl).slots
+-- An annual run leaves the next amount.
+pub given-run : (l l' m : List ℕ) (p p' : ℕ) (run : AnnualRun) → WellFormed l → l' ≡ l → p' ≡ p → p ≤ 63 → (file_in_words l p).admitted ≡ true
+    → annual run.amount run.months ≡ annual_answer (file_in_words l' p') (today_in l') → m ≡ written l (place p + 5) (1 ∷ run.amount ∷ [])
+    → GivenWords l (on p annual_run) (annual run.amount run.months) m
+unfolding file_after calls_added annual_answer annual_file
+given-run l l' m p p' run w words same low known e stored =
+    let f = file_in_words l p in
+    let t = today_in l in
+    let a = run.amount in
+    let x = annual a run.months in
+    let own : x ≡ annual_answer f t = seen l l' p p' words same annual_answer x e in
+    let is : x ≡ file_answer f t annual_run = own-answered l l' p p' annual_run x words same known refl e in
+    let amount : a ≡ annual_amount_of f t = ap amount_in (own ∙ decide-accepted _ _ (ap accepted (sym own))) in
+    given-none l p w low m (with_next f (set_to a)) (next-put l m p w.canonical w.long low a stored) annual_run x refl (λ f t. refl) is
+    (ap (λ (y : ℕ). with_next f (set_to y)) amount
+    ∙ sym (left-after f t annual_run is refl ∙ cond-true (accepted (annual_answer f t)) (with_next f (set_to (annual_amount_of f t))) f (ap accepted (sym own))))
 
 -- ---- admissions
 
-pub no-participant : (l : List ℕ) (p role : ℕ) → 63 < p → refused 1 ≡ answer old_rule (book_of_words l) (on p (admit role))
-no-participant l p role h = above-answer old_rule (book_of_words l) p (admit role) (lt-ltb 63 p h)
+-- An admission's answer by the causes that both rules have.
+pub no-participant : (l : List ℕ) (p role : ℕ) (r : Refusal) → (r ≡ NoSuchParticipant) × (63 < p)
+    → refused (number_of r) ≡ answer old_rule (book_of_words l) (on p (admit role))
+no-participant l p role r h = ap (λ (z : Refusal). refused (number_of z)) h.0 ∙ above-answer old_rule (book_of_words l) p (admit role) (lt-ltb 63 p h.1)
+
+module _ (l l' : List ℕ) (p p' role : ℕ) (words : l' ≡ l) (same : p' ≡ p) (low : p ≤ 63) (a : Bool) (ea : a ≡ (file_in_words l' p').admitted) where
+  flag_is : a ≡ (file_at (book_of_words l) p).admitted
+  flag_is = there-admitted l p a low (seen l l' p p' words same (λ f t. f.admitted) a ea)
+
+  pub already-admitted : a ≡ true → refused 3 ≡ answer old_rule (book_of_words l) (on p (admit role))
+  already-admitted h = first-already (book_of_words l) p low role (sym flag_is ∙ h)
+
+  pub no-such-role : a ≡ false → 5 < role → refused 4 ≡ answer old_rule (book_of_words l) (on p (admit role))
+  no-such-role h k = first-no-role (book_of_words l) p low role (sym flag_is ∙ h) k
+
+  pub may-be-admitted : a ≡ false → role ≤ 5 → done ≡ answer old_rule (book_of_words l) (on p (admit role))
+  may-be-admitted h k = first_done (book_of_words l) p low role (sym flag_is ∙ h) k
 
 -- By the answer x that the old rule gives: where it refuses, both do; where it accepts role 1, the new one refuses with 23.
 module _ (l : List ℕ) (p role : ℕ) (x : Answer) (w : WellFormed l) (e : x ≡ answer old_rule (book_of_words l) (on p (admit role))) where
-  pub refused-alike : (ok : Bool) → ok ≡ accepted x → ok ≡ false → GivenWords l (on p (admit role)) x l
+  pub refused-alike : accepted x ≡ false → GivenWords l (on p (admit role)) x l
   unfolding step
-  refused-alike ok r bad =
-      let is = refused-first (book_of_words l) p (admit role) x e (sym r ∙ bad) in
+  refused-alike bad =
+      let is = refused-first (book_of_words l) p (admit role) x e bad in
       nothing_written l (on p (admit role)) x w
       (given (book_of_words l) (on p (admit role)) x (book_of_words l) is
       (sym (cond-false (accepted (answer new_rule (book_of_words l) (on p (admit role)))) (applied (book_of_words l) (on p (admit role))) (book_of_words l)
-      (ap accepted (sym is) ∙ sym r ∙ bad))))
+      (ap accepted (sym is) ∙ bad))))
 
-  pub refused-by-old-rule : (ok : Bool) → ok ≡ accepted x → ok ≡ false → GivenFirstWords l (on p (admit role)) x l
+  pub refused-by-old-rule : accepted x ≡ false → GivenFirstWords l (on p (admit role)) x l
   unfolding step
-  refused-by-old-rule ok r bad =
+  refused-by-old-rule bad =
       first-in-words l l (on p (admit role)) x w
       (given-first (book_of_words l) (on p (admit role)) x (book_of_words l) e
       (sym (cond-false (accepted (answer old_rule (book_of_words l) (on p (admit role)))) (applied (book_of_words l) (on p (admit role))) (book_of_words l)
-      (ap accepted (sym e) ∙ sym r ∙ bad))))
+      (ap accepted (sym e) ∙ bad))))
       refl
       w.canonical
 
-  pub retired-role : (ok : Bool) → ok ≡ accepted x → ok ≡ true → role ≡ 1 → GivenWords l (on p (admit role)) (refused 23) l
+-- An admission that the old rule accepts.
+module _ (l : List ℕ) (p role : ℕ) (e : done ≡ answer old_rule (book_of_words l) (on p (admit role))) where
+  pub retired-role : WellFormed l → role ≡ 1 → GivenWords l (on p (admit role)) (refused 23) l
   unfolding step
-  retired-role ok r good is_one =
-      let is = retired-first (book_of_words l) p role (ap accepted (sym e) ∙ sym r ∙ good) (eq-eqb role 1 is_one) in
+  retired-role w is_one =
+      let is = retired-first (book_of_words l) p role (ap accepted (sym e)) (eq-eqb role 1 is_one) in
       nothing_written l (on p (admit role)) (refused 23) w
       (given (book_of_words l) (on p (admit role)) (refused 23) (book_of_words l) is
       (sym (cond-false (accepted (answer new_rule (book_of_words l) (on p (admit role)))) (applied (book_of_words l) (on p (admit role))) (book_of_words l)
       (ap accepted (sym is)))))
 
-  pub is-accepted : (ok : Bool) → ok ≡ accepted x → ok ≡ true → accepted (answer old_rule (book_of_words l) (on p (admit role))) ≡ true
-  is-accepted ok r good = ap accepted (sym e) ∙ sym r ∙ good
+  pub is-accepted : accepted (answer old_rule (book_of_words l) (on p (admit role))) ≡ true
+  is-accepted = ap accepted (sym e)
 
-  pub is-numbered : (ok : Bool) → ok ≡ accepted x → ok ≡ true → p ≤ 63
+  pub is-numbered : p ≤ 63
   unfolding answer
-  is-numbered ok r good = numbered p _ (is-accepted ok r good)
+  is-numbered = numbered p _ is-accepted
 
 -- What an accepted admission writes.
 module _ (l m : List ℕ) (p role : ℕ) (w : WellFormed l) (low : p ≤ 63) (g : File) (put : Put l (place p) g m) where
@@ -389,61 +398,34 @@ module _ (l m : List ℕ) (p role : ℕ) (w : WellFormed l) (low : p ≤ 63) (g 
 pub other-role : (l m : List ℕ) (p role : ℕ) → PutsAdmission l p role m → (role ≡ 1 → ⊥) → GivenWords l (on p (admit role)) done m
 other-role l m p role x ne = x.given (ne_eqb role 1 ne)
 
-pub above-stated : (l : List ℕ) (p : ℕ) → 63 < p → Given (book_of_words l) (statement p) (refused 1) (book_of_words l)
-above-stated l p h = above-statement (book_of_words l) p h
+-- The statement.
+pub unknown-stated : (l : List ℕ) (p : ℕ) (r : Refusal) → RefusesAll l p r → Given (book_of_words l) (statement p) (refused (number_of r)) (book_of_words l)
+unfolding answer step
+unknown-stated l p r e = refused-statement (book_of_words l) p (number_of r) (e _)
 
-pub given-count : (l : List ℕ) (n : ℕ) → n ≡ get_or l 2 0 → Given (book_of_words l) calls_made (counted n) (book_of_words l)
+pub given-statement : (l l' : List ℕ) (p p' : ℕ) → l' ≡ l → p' ≡ p → p ≤ 63 → (file_in_words l p).admitted ≡ true → (a c s d u t n : ℕ)
+    → a ≡ (file_in_words l' p').firm → d ≡ today_in l' → u ≡ today_in l' → c ≡ cover_through d u (file_in_words l' p').slots
+    → t ≡ (file_in_words l' p').charged → n ≡ (file_in_words l' p').accrued → s ≡ a - c
+    → Given (book_of_words l) (statement p) (stated a c s t n) (book_of_words l)
+unfolding book_of_words file_statement cover_of cover_on shortfall_of
+given-statement l l' p p' words same low known a c s d u t n ea ed eu ec et en es =
+    let day = today_in l in
+    let firm = seen l l' p p' words same (λ f t. f.firm) a ea in
+    let covered = seen l l' p p' words same (λ f t. cover_through t t f.slots) c (ec ∙ (λ i. cover_through (ed i) (eu i) (file_in_words l' p').slots)) in
+    let charged = seen l l' p p' words same (λ f t. f.charged) t et in
+    let accrued = seen l l' p p' words same (λ f t. f.accrued) n en in
+    let short : s ≡ (file_in_words l p).firm - cover_through day day (file_in_words l p).slots = es ∙ (λ i. firm i - covered i) in
+    let st : Statement = record { firm = a; cover = c; shortfall = s; charged = t; accrued = n } in
+    gave-statement (book_of_words l) p low st (ap (λ (z : File). z.admitted) (file-there l p low) ∙ known)
+    ((λ i. record { firm = firm i; cover = covered i; shortfall = short i; charged = charged i; accrued = accrued i })
+    ∙ ap (λ (z : File). file_statement z day) (sym (file-there l p low)))
+
+-- The count of calls made.
+pub given-count : (l : List ℕ) → Given (book_of_words l) calls_made (counted (get_or l 2 0)) (book_of_words l)
 unfolding book_of_words
-given-count l n e = gave_count (book_of_words l) n e
-
-pub today-there : (l : List ℕ) (t : ℕ) → t ≡ today_in l → record { 0 = t } ≡ (book_of_words l).today
-unfolding book_of_words
-today-there l t e = λ i. record { 0 = e i }
-
--- ---- a file's method on the file read
-
--- What is answered of the file taken out and its day is answered of the words.
-pub answer-read : (l : List ℕ) (p : ℕ) (a : Act) (f : File) (t : ℕ) (x : Answer) → f ≡ file_in_words l p → t ≡ today_in l → x ≡ file_answer f t a
-    → x ≡ file_answer (file_in_words l p) (today_in l) a
-answer-read l p a f t x e q h = h ∙ (λ i. file_answer (e i) (q i) a)
+given-count l = gave_count (book_of_words l) (get_or l 2 0) refl
 
 -- ---- a fresh book
-
--- The first i words are zeros.
-pub record Cleared (i : ℕ) (l m : List ℕ) : Type 0 where
-  pub few : i ≤ length l
-  pub long : length m ≡ length l
-  pub zeros : m ≡ replicate i 0 ++ drop i l
-
-pub clear_first : (l : List ℕ) → Cleared 0 l l
-clear_first l = record { few = omega arith; long = refl; zeros = refl }
-
-pub clear_next : (i : ℕ) (l m : List ℕ) → Cleared i l m → i < length m → Cleared (i + 1) l (set m i 0)
-clear_next i l m s h =
-    record {
-      few = omega (arith, s.long);
-      long = length-set m i 0 ∙ s.long;
-      zeros =
-          ap (λ (z : List ℕ). set z i 0) s.zeros
-          ∙ front i l (omega (arith, s.long))
-          ∙ ap (λ (k : ℕ). replicate k 0 ++ drop k l) (sym (add-one i));
-    }
-  where
-    front : (i : ℕ) (l : List ℕ) → i < length l → set (replicate i 0 ++ drop i l) i 0 ≡ replicate (suc i) 0 ++ drop (suc i) l
-    front i [] h = absurd (omega arith)
-    front zero (x ∷ l) h = refl
-    front (suc i) (x ∷ l) h = ap (λ (z : List ℕ). 0 ∷ z) (front i l (omega arith))
-
-pub clear-less : (i : ℕ) (l m : List ℕ) → Cleared i l m → i < length m → length l - (i + 1) < length l - i
-clear-less i l m s h = omega (arith, s.long)
-
-pub clear-all : (i : ℕ) (l m : List ℕ) → Cleared i l m → length m ≤ i → m ≡ replicate (length l) 0
-clear-all i l m s h =
-    let e : i ≡ length l = omega (arith, s.few, s.long) in
-    s.zeros
-    ∙ ap (λ (z : List ℕ). replicate i 0 ++ z) (drop_of_length-le l {i = i} (omega (arith, s.long)))
-    ∙ append-nil (replicate i 0)
-    ∙ ap (λ (k : ℕ). replicate k 0) e
 
 -- The words of a fresh book on day d.
 begun-words : (d day : ℕ) (x : Answer) → d ≤ 29219 → Begun day x (fresh_book d) → BegunWords day x (fresh_words d)
@@ -469,3 +451,15 @@ pub fresh-done : (l m : List ℕ) (day : ℕ) → length l ≡ book_length → m
 fresh-done l m day long e h =
     subst (λ (z : List ℕ). BegunWords day done (set (set z 0 1) 1 day)) (sym (e ∙ ap (λ (n : ℕ). replicate n 0) long))
     (begun-words day day done h (begun-done day (fresh_book day) h refl))
+
+pub ruleset begins = (fresh-late, fresh-done)
+
+pub ruleset questions = (given-count, none-admitted, there-admitted, none-role, there-role, unknown-stated, given-statement)
+
+pub ruleset admissions = (no-participant, already-admitted, no-such-role, may-be-admitted)
+
+pub ruleset admitted = (day-within, admit-room, put-admission)
+
+pub ruleset by_both_rules = (refused-alike, refused-by-old-rule, retired-role, is-accepted, is-numbered, other-role)
+
+pub ruleset runs = (given-unknown, given-refused, given-run)

@@ -20,12 +20,12 @@ use Rattle.calendar.specs.declared.Day.{Day}
 use Rattle.calendar.specs.declared.Month.{Month}
 use Rattle.calendar.specs.Civil.{month_of}
 use Rattle.manual.specs.Check.{exceeds_tolerance, call_is_made}
-use Rattle.manual.specs.Figures.{sum_of}
+use Rattle.manual.specs.Figures.{sum_of, summed}
 use Rattle.manual.specs.Laws.{call_is_made-tolerance, summed-total}
 use Rattle.file.specs.declared.File.{File}
 use Rattle.file.specs.declared.Settled.{Settled}
 use Rattle.file.specs.declared.Settled.TheVariants as Settlements
-use Rattle.file.specs.Answer.{Answer, refused, called, covered, recorded, accepted, settled_says}
+use Rattle.file.specs.Answer.{Answer, called, covered, recorded, accepted, settlement_says}
 use Rattle.file.specs.Calls.{call_of, in_places}
 use Rattle.file.specs.CallLaws.{in_places-next}
 use Rattle.file.specs.CheckLaws.{settled-answer}
@@ -45,9 +45,10 @@ use Rattle.book.specs.Call.{settle, on, is_called}
 use Rattle.book.specs.Account.{file_answer, file_after}
 use Rattle.book.specs.Left.{file_left}
 use Rattle.book.specs.InWords.{GivenWords}
-use Rattle.book.specs.Settlements.{PutsSettlement}
-use Rattle.book.proofs.Functions.OnWords.{file-sound, is-behind, after, given-refused, given-settled, given-called}
-use Rattle.book.proofs.Functions.SoundBook.{behind-admitted}
+use Rattle.book.specs.Settlements.{due_on, AnswersSettlement, PutsSettlement}
+use Rattle.book.proofs.Functions.OnWords.{file-sound, seen, answered, left-after, given-refused, given-unknown, given-settled, given-called}
+use Rattle.std.specs.Prelude.{Result}
+use Rattle.refusal.specs.declared.Refusal.{Refusal}
 use Rattle.book.proofs.Participant.Decide.{decide-accepted}
 
 -- ---- what is written
@@ -101,17 +102,19 @@ module _ (l : List ℕ) (p : ℕ) (w : WellFormed l) (low : p ≤ 63) where
     pub record Accepts (x : Answer) : Type 0 where
       pub own : accepted (settle_answer f t mo figures) ≡ true
       pub says : x ≡ settled_answer f t mo figures
+      pub answers : x ≡ file_answer f t (settle mo figures)
       pub left : file_left f t (settle mo figures) ≡ with_totals f (with_total f.totals mo e) (calls_settled f t mo figures)
 
-    accepts : (x : Answer) → x ≡ file_answer f t (settle mo figures) → accepted x ≡ true → Accepts x
+    accepts : (x : Answer) → f.admitted ≡ true → x ≡ settle_answer f t mo figures → accepted x ≡ true → Accepts x
     unfolding file_answer file_after settled_file settle_answer
-    accepts x b good =
-        let go = after l p w low (settle mo figures) x true b (sym good) refl in
-        let own = behind-admitted f (settle_answer f t mo figures) go.0 in
+    accepts x known b good =
+        let own : accepted (settle_answer f t mo figures) ≡ true = ap accepted (sym b) ∙ good in
+        let is : x ≡ file_answer f t (settle mo figures) = answered f (settle_answer f t mo figures) x known b in
         record {
           own = own;
-          says = b ∙ is-behind f (settle_answer f t mo figures) go.0 ∙ decide-accepted _ (settled_answer f t mo figures) own;
-          left = go.1 ∙ cond-true (accepted (settle_answer f t mo figures)) _ f own;
+          says = b ∙ decide-accepted _ (settled_answer f t mo figures) own;
+          answers = is;
+          left = left-after f t (settle mo figures) is good ∙ cond-true (accepted (settle_answer f t mo figures)) _ f own;
         }
 
     -- ---- one that keeps a total
@@ -148,17 +151,17 @@ module _ (l : List ℕ) (p : ℕ) (w : WellFormed l) (low : p ≤ 63) where
           accrued = f.accrued;
         }
 
-    pub given-kept : (m : List ℕ) (due : Bool) (z : ℤ) → keeps_total due z ≡ file_answer f t (settle mo figures)
+    pub given-kept : (m : List ℕ) (due : Bool) (z : ℤ) → f.admitted ≡ true → keeps_total due z ≡ settle_answer f t mo figures
         → (m ≡ written l (place p + (49 + 3 * (mo % 16))) (total_words (total_of mo z))) × TotalBack (total_of mo z)
         → GivenWords l (on p (settle mo figures)) (keeps_total due z) m
-    given-kept m due z b put =
-        let a = accepts (keeps_total due z) b (keeps due) in
+    given-kept m due z known b put =
+        let a = accepts (keeps_total due z) known b (keeps due) in
         let is : (settlement_calls f t mo figures ≡ false) × (z ≡ e) =
         kept-total due (settlement_calls f t mo figures) (check_due (month_of t) mo) (nat_abs e) (nat_abs e - deposited f t) (t + 10) z
         (a.says ∙ settled-answer f t mo figures) in
         given-settled l p w low m (with_months f (set f.totals (mo % 16) (total_of mo z)))
         (total-put l m p w.canonical w.long low (mo % 16) (total_of mo z) (omega arith) put.1 put.0)
-        mo figures (keeps_total due z) b
+        mo figures (keeps_total due z) a.answers
         (kept-left z is.0 is.1 ∙ sym a.left)
         (none due)
       where
@@ -245,10 +248,10 @@ module _ (l : List ℕ) (p : ℕ) (w : WellFormed l) (low : p ≤ 63) where
         → (m ≡ written l (place p + (49 + 3 * (mo % 16))) (total_words (total_of mo z))) × TotalBack (total_of mo z)
         → (n ≡ set (written m (place p + (41 + 2 * get_or l (place p + 4) 0)) (open_call_words (call_of x last))) (place p + 4) (get_or l (place p + 4) 0 + 1))
         × CallBack (call_of x last)
-        → called x asked last ≡ file_answer f t (settle mo figures)
+        → f.admitted ≡ true → called x asked last ≡ settle_answer f t mo figures
         → GivenWords l (on p (settle mo figures)) (called x asked last) (set n 2 (get_or l 2 0 + 1))
-    given-open m n x asked last z z-is one two b =
-        let a = accepts (called x asked last) b refl in
+    given-open m n x asked last z z-is one two known b =
+        let a = accepts (called x asked last) known b refl in
         let k = calls-of x asked last a in
         let number = get_or l (place p + 4) 0 in
         let c = call_of x last in
@@ -272,7 +275,7 @@ module _ (l : List ℕ) (p : ℕ) (w : WellFormed l) (low : p ≤ 63) where
         let is : f₃ ≡ with_places f₁ (set f.calls number c) (number + 1) =
         ap (λ (y : File). with_places y y.calls (number + 1)) put₂.back
         ∙ ap (λ (y : File). with_places y (set y.calls number c) (number + 1)) put₁.back in
-        given-called l p w low n mo figures (called x asked last) f₃ 1 b
+        given-called l p w low n mo figures (called x asked last) f₃ 1 a.answers
         (is ∙ called-left x last number z k refl (z-is ∙ k.total) ∙ sym a.left)
         refl
         (put-again l o n (place p) f₂ f₃ room (put-again l m o (place p) f₁ f₂ room put₁ put₂) put₃)
@@ -281,24 +284,39 @@ module _ (l : List ℕ) (p : ℕ) (w : WellFormed l) (low : p ≤ 63) where
 
 module _ (l : List ℕ) (p mo : ℕ) (w : WellFormed l) (low : p ≤ 63) (r : Settled) where
   pub puts-called : (m : List ℕ) (x asked : ℕ) (last : Day) → r ≡ Settlements.Called x asked last
-      → ((y : ℕ) → PutsSettlement l p mo (called x y last.0) m) → PutsSettlement l p mo (settled_says r) m
-  puts-called m x asked last e put = subst (λ (z : Settled). PutsSettlement l p mo (settled_says z) m) (sym e) (put asked)
+      → ((y : ℕ) → PutsSettlement l p mo (called x y last.0) m) → PutsSettlement l p mo (settlement_says r) m
+  puts-called m x asked last e put = subst (λ (z : Settled). PutsSettlement l p mo (settlement_says z) m) (sym e) (put asked)
 
   pub puts-covered : (m : List ℕ) (z y : ℤ) → r ≡ Settlements.Covered z → y ≡ z
       → (m ≡ written l (place p + (49 + 3 * (mo % 16))) (total_words (total_of mo y))) × TotalBack (total_of mo y)
-      → PutsSettlement l p mo (settled_says r) m
+      → PutsSettlement l p mo (settlement_says r) m
   puts-covered m z y e same put =
-      subst (λ (s : Settled). PutsSettlement l p mo (settled_says s) m) (sym (e ∙ ap Settlements.Covered (sym same)))
-      (λ figures b. given-kept l p w low mo figures m true y b put)
+      subst (λ (s : Settled). PutsSettlement l p mo (settlement_says s) m) (sym (e ∙ ap Settlements.Covered (sym same)))
+      (λ figures known b. given-kept l p w low mo figures m true y known b put)
 
   pub puts-recorded : (m : List ℕ) (z y : ℤ) → r ≡ Settlements.Recorded z → y ≡ z
       → (m ≡ written l (place p + (49 + 3 * (mo % 16))) (total_words (total_of mo y))) × TotalBack (total_of mo y)
-      → PutsSettlement l p mo (settled_says r) m
+      → PutsSettlement l p mo (settlement_says r) m
   puts-recorded m z y e same put =
-      subst (λ (s : Settled). PutsSettlement l p mo (settled_says s) m) (sym (e ∙ ap Settlements.Recorded (sym same)))
-      (λ figures b. given-kept l p w low mo figures m false y b put)
+      subst (λ (s : Settled). PutsSettlement l p mo (settlement_says s) m) (sym (e ∙ ap Settlements.Recorded (sym same)))
+      (λ figures known b. given-kept l p w low mo figures m false y known b put)
 
-  pub puts-nothing : (n : ℕ) → r ≡ Settlements.Refused n → PutsSettlement l p mo (settled_says r) l
-  puts-nothing n e =
-      subst (λ (y : Settled). PutsSettlement l p mo (settled_says y) l) (sym e)
-      (λ figures b. given-refused l p w low (settle mo figures) (refused n) false refl b refl refl)
+-- ---- the whole settlement
+
+-- What a settlement of an admitted participant's file gives, from the view of it ..
+module _ (l l' : List ℕ) (p p' mo d : ℕ) (figures : List ℤ) (due : Result Bool Refusal) (sum : Result ℤ Refusal) (x : Answer)
+    (words : l' ≡ l) (same : p' ≡ p) (known : (file_in_words l p).admitted ≡ true) (now : d ≡ today_in l') (e : due ≡ due_on d mo) (s : sum ≡ summed figures)
+    (answers : AnswersSettlement (file_in_words l' p') (today_in l') due sum x) where
+  own : x ≡ settle_answer (file_in_words l' p') (today_in l') mo figures
+  own = answers mo figures (e ∙ ap (λ (t : ℕ). due_on t mo) now) s
+
+  pub settlement-given : (m : List ℕ) → PutsSettlement l p mo x m → GivenWords l (on p (settle mo figures)) x m
+  settlement-given m puts = puts figures known (seen l l' p p' words same (λ f t. settle_answer f t mo figures) x own)
+
+  -- .. and where it is refused.
+  pub settlement-refused : WellFormed l → p ≤ 63 → accepted x ≡ false → GivenWords l (on p (settle mo figures)) x l
+  settlement-refused w low bad = given-refused l l' p p' (settle mo figures) x words same known refl own w low bad
+
+pub ruleset puts = (puts-called, puts-covered, puts-recorded)
+
+pub ruleset settlements = (given-unknown, settlement-given, settlement-refused)

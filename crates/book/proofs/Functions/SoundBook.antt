@@ -135,6 +135,11 @@ pub behind-admitted : (f : File) (x : Answer) → accepted (if_admitted f x) ≡
 unfolding if_admitted
 behind-admitted f x e = through (cause 2 (not f.admitted) ∷ []) x e
 
+-- .. and it is what stands behind cause 2.
+pub accepted-behind : (f : File) (x : Answer) → accepted (if_admitted f x) ≡ true → (f.admitted ≡ true) × (if_admitted f x ≡ x)
+unfolding if_admitted
+accepted-behind f x e = (is-admitted f x e, decide-accepted (cause 2 (not f.admitted) ∷ []) x e)
+
 -- The file that an accepted call leaves is admitted, and has as many more open calls as were made.
 module _ (f : File) (t : ℕ) (s : Sound t f) (blank : BlankUnlessAdmitted f) where
   abbrev Grown : ℕ → File → Type 0

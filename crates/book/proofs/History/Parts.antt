@@ -10,8 +10,8 @@ use lib.Dec.{ltb}
 use lib.Seq.{get_or-set_other}
 use Rattle.laws.specs.Cases.{split, clash, cond-true, cond-false}
 use Rattle.laws.specs.Least.{least, least-agree, none_below}
-use Rattle.batch.specs.declared.Form.{Form}
-use Rattle.batch.specs.declared.Form.TheVariants.{Parts, Refused}
+use Rattle.std.specs.Prelude.{Result, Ok, Err}
+use Rattle.batch.specs.declared.Misfit.{Misfit}
 use Rattle.batch.specs.Batch.{count_in, participant_at, form_of}
 use Rattle.batch.specs.FormLaws.{is_batch, Whole, whole, participants-differ}
 use Rattle.file.specs.Admit.{no_file}
@@ -24,15 +24,15 @@ use Rattle.book.specs.Account.{file_at, with_file, if_numbered, unless_retired, 
 -- ---- what a batch answers
 
 -- How many parts a form has.
-abbrev pub parts_in : Form → ℕ
-parts_in (Parts n) = n
-parts_in (Refused n i) = 0
+abbrev pub parts_in : Result ℕ Misfit → ℕ
+parts_in (Ok n) = n
+parts_in (Err m) = 0
 
 -- An accepted batch is of a file with parts.
-accepted-form : (form : Form) (x : ℕ → Answer) → accepted (batch_says form x) ≡ true → is_batch form ≡ true
+accepted-form : (form : Result ℕ Misfit) (x : ℕ → Answer) → accepted (batch_says form x) ≡ true → is_batch form ≡ true
 unfolding batch_says
-accepted-form (Parts n) x e = refl
-accepted-form (Refused n i) x e = e
+accepted-form (Ok n) x e = refl
+accepted-form (Err m) x e = e
 
 -- A test that does not hold, from its negation.
 not-false : (t : Bool) → not t ≡ false → t ≡ true
@@ -40,7 +40,7 @@ not-false true e = refl
 not-false false e = sym e
 
 -- An accepted batch has no settlement that is refused.
-accepted-each : (n : ℕ) (x : ℕ → Answer) → accepted (batch_says (Parts n) x) ≡ true → (k : ℕ) → k < n → accepted (x k) ≡ true
+accepted-each : (n : ℕ) (x : ℕ → Answer) → accepted (batch_says (Ok n) x) ≡ true → (k : ℕ) → k < n → accepted (x k) ≡ true
 unfolding batch_says first_refused
 accepted-each n x e k h =
     let refuses : ℕ → Bool = λ j. not (accepted (x j)) in
@@ -57,10 +57,10 @@ pub record Accepted (file : List ℕ) (x : ℕ → Answer) : Type 0 where
 pub batch-accepted : (file : List ℕ) (x : ℕ → Answer) → accepted (batch_says (form_of file) x) ≡ true → Accepted file x
 batch-accepted file x e =
     let w = whole file (accepted-form (form_of file) x e) in
-    record { whole = w; each = accepted-each (count_in file) x (ap (λ (f : Form). accepted (batch_says f x)) (sym w.form) ∙ e) }
+    record { whole = w; each = accepted-each (count_in file) x (ap (λ (f : Result ℕ Misfit). accepted (batch_says f x)) (sym w.form) ∙ e) }
 
 -- Settlements that answer alike below the count of parts make one answer.
-says-agree : (n : ℕ) (x y : ℕ → Answer) → ((k : ℕ) → k < n → x k ≡ y k) → batch_says (Parts n) x ≡ batch_says (Parts n) y
+says-agree : (n : ℕ) (x y : ℕ → Answer) → ((k : ℕ) → k < n → x k ≡ y k) → batch_says (Ok n) x ≡ batch_says (Ok n) y
 unfolding batch_says first_refused
 says-agree n x y same =
     let first = least (λ k. not (accepted (x k))) n in
@@ -84,14 +84,14 @@ batch-agree file x y same =
     split (is_batch (form_of file))
     (λ t.
     let w = whole file t in
-    ap (λ (f : Form). batch_says f x) w.form
+    ap (λ (f : Result ℕ Misfit). batch_says f x) w.form
     ∙ says-agree (count_in file) x y (same w)
-    ∙ ap (λ (f : Form). batch_says f y) (sym w.form))
+    ∙ ap (λ (f : Result ℕ Misfit). batch_says f y) (sym w.form))
     (λ f. no-batch (form_of file) f)
   where
-    no-batch : (form : Form) → is_batch form ≡ false → batch_says form x ≡ batch_says form y
-    no-batch (Parts n) e = clash {t = true} refl e
-    no-batch (Refused n i) e = refl
+    no-batch : (form : Result ℕ Misfit) → is_batch form ≡ false → batch_says form x ≡ batch_says form y
+    no-batch (Ok n) e = clash {t = true} refl e
+    no-batch (Err m) e = refl
 
 -- ---- the account
 

@@ -11,8 +11,8 @@ use lib.ListN.{length, length-append}
 use Rattle.laws.specs.Lists.{table}
 use Rattle.laws.specs.Tabulated.{set-table}
 use Rattle.calendar.specs.Civil.{month_of}
-use Rattle.manual.specs.declared.Check.{Check}
-use Rattle.manual.specs.declared.Check.TheVariants as Checks
+use Rattle.std.specs.Prelude.{Option, Some, None}
+use Rattle.manual.specs.declared.Call.{Call}
 use Rattle.manual.specs.Check.{checked}
 use Rattle.manual.specs.Figures.{sum_of, wrong_count, out_of_range}
 use Rattle.file.specs.declared.OpenCall.{OpenCall}
@@ -41,9 +41,9 @@ length-behind made true c = omega (arith, length-append made (c ∷ []))
 length-behind made false c = omega (arith, length-append made [])
 
 -- A settlement's answer is no refusal.
-no-refusal : (due : Bool) (x : ℤ) (last : ℕ) (c : Check) → accepted (cond due (check_says x last c) (recorded x)) ≡ true
-no-refusal true x last (Checks.Call e asked) = refl
-no-refusal true x last Checks.Covered = refl
+no-refusal : (due : Bool) (x : ℤ) (last : ℕ) (c : Option Call) → accepted (cond due (check_says x last c) (recorded x)) ≡ true
+no-refusal true x last (Some call) = refl
+no-refusal true x last None = refl
 no-refusal false x last c = refl
 
 module _ (s : ℕ) (own : List Own) (m : ℕ) (figures : List ℤ) (lw : Lawful s own) where

@@ -1,12 +1,9 @@
--- `formed::open_calls` meets its contract: the sum so far is that of the files that were passed, at most four for each.
+-- `formed::open_calls` meets its contract. The invariant: the calls of the files that were passed are counted, at most four of each.
 -- Assumes nothing.
-use Prim.Native.Nat.{◌*◌, ◌≤◌, ◌-◌}
+use Prim.Native.Nat.{◌*◌, ◌≤◌}
 use mathlib.Core.Path.{◌≡◌}
 use Rattle.formed.specs.Checks.{open_below}
 use Rattle.formed.proofs.open_calls.Given as goal
 
-abbrev pub invariant-loop-i : goal.invariant-loop-i
-invariant-loop-i l = (l.i ≤ 64) × (l.count ≡ open_below l.words l.i) × (l.count ≤ 4 * l.i)
-
-abbrev pub decreases-loop-i : goal.decreases-loop-i
-decreases-loop-i l = 64 - l.i
+abbrev pub invariant-loop-p : goal.invariant-loop-p
+invariant-loop-p l = (l.count ≡ open_below l.words l.p) × (l.count ≤ 4 * l.p)

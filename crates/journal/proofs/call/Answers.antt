@@ -1,62 +1,197 @@
--- `journal::call` meets its contract: the place of the first word among the names decides.
+-- `journal::call` meets its contract: the first of the names that the word is.
 -- Assumes nothing.
-use Rattle.journal.specs.Grammar.{calls_of, named_call}
-use Rattle.journal.proofs.LineLaws.{call_at, none-of-them}
-use borrow.Author.Rules.{rules}
+use Rattle.std.proofs.Common.{ap, ◌∙◌}
+use Rattle.std.specs.Cmp.Lexicographic.{pointwise}
+use lib.Dec.{eqb}
+use Rattle.journal.specs.Names.{call_names}
+use Rattle.journal.specs.Grammar.{named_call, calls_of}
+use Rattle.journal.proofs.LineLaws.{here, later, no_more, call_at, no_call, plain_is}
 use Rattle.journal.proofs.call.Goals as goal
 
-pub returns-in-0 : goal.returns-in-0
-unfolding named_call calls_of
-returns-in-0 c = search (call_at, rules)
+pub returns-then-eq-clause-whole : goal.returns-then-eq-clause-whole
+unfolding named_call calls_of call_names
+returns-then-eq-clause-whole c =
+    call_at 0 _ _ _ _ _
+    (here _ _ _ _ (c.eq.ensures ∙ ap (pointwise eqb c.args.name.now) c.as_slice.ensures) c.if-eq.true)
+    (plain_is _ _ _ c.fresh.ensures.whole)
 
-pub returns-in-1 : goal.returns-in-1
-unfolding named_call calls_of
-returns-in-1 c = search (call_at, rules)
+pub returns-then-eq-2-clause-whole : goal.returns-then-eq-2-clause-whole
+unfolding named_call calls_of call_names
+returns-then-eq-2-clause-whole c =
+    call_at 1 _ _ _ _ _
+    (later _ _ _ _ _ (c.eq.ensures ∙ ap (pointwise eqb c.args.name.now) c.as_slice.ensures) c.if-eq.false
+    (here _ _ _ _ (c.eq-else-eq.ensures ∙ ap (pointwise eqb c.args.name.now) c.as_slice-else-eq.ensures) c.if-eq-2.true))
+    (plain_is _ _ _ c.admit.ensures.whole)
 
-pub returns-in-2 : goal.returns-in-2
-unfolding named_call calls_of
-returns-in-2 c = search (call_at, rules)
+pub returns-then-eq-3-clause-whole : goal.returns-then-eq-3-clause-whole
+unfolding named_call calls_of call_names
+returns-then-eq-3-clause-whole c =
+    call_at 2 _ _ _ _ _
+    (later _ _ _ _ _ (c.eq.ensures ∙ ap (pointwise eqb c.args.name.now) c.as_slice.ensures) c.if-eq.false
+    (later _ _ _ _ _ (c.eq-else-eq.ensures ∙ ap (pointwise eqb c.args.name.now) c.as_slice-else-eq.ensures) c.if-eq-2.false
+    (here _ _ _ _ (c.eq-else-eq-2.ensures ∙ ap (pointwise eqb c.args.name.now) c.as_slice-else-eq-2.ensures) c.if-eq-3.true)))
+    (plain_is _ _ _ c.lodge.ensures.whole)
 
-pub returns-in-3 : goal.returns-in-3
-unfolding named_call calls_of
-returns-in-3 c = search (call_at, rules)
+pub returns-then-eq-4-clause-whole : goal.returns-then-eq-4-clause-whole
+unfolding named_call calls_of call_names
+returns-then-eq-4-clause-whole c =
+    call_at 3 _ _ _ _ _
+    (later _ _ _ _ _ (c.eq.ensures ∙ ap (pointwise eqb c.args.name.now) c.as_slice.ensures) c.if-eq.false
+    (later _ _ _ _ _ (c.eq-else-eq.ensures ∙ ap (pointwise eqb c.args.name.now) c.as_slice-else-eq.ensures) c.if-eq-2.false
+    (later _ _ _ _ _ (c.eq-else-eq-2.ensures ∙ ap (pointwise eqb c.args.name.now) c.as_slice-else-eq-2.ensures) c.if-eq-3.false
+    (here _ _ _ _ (c.eq-else-eq-3.ensures ∙ ap (pointwise eqb c.args.name.now) c.as_slice-else-eq-3.ensures) c.if-eq-4.true))))
+    (plain_is _ _ _ c.release.ensures.whole)
 
-pub returns-in-4 : goal.returns-in-4
-unfolding named_call calls_of
-returns-in-4 c = search rules
+pub returns-then-eq-5-clause-whole : goal.returns-then-eq-5-clause-whole
+unfolding named_call calls_of call_names
+returns-then-eq-5-clause-whole c =
+    call_at 4 _ _ _ _ _
+    (later _ _ _ _ _ (c.eq.ensures ∙ ap (pointwise eqb c.args.name.now) c.as_slice.ensures) c.if-eq.false
+    (later _ _ _ _ _ (c.eq-else-eq.ensures ∙ ap (pointwise eqb c.args.name.now) c.as_slice-else-eq.ensures) c.if-eq-2.false
+    (later _ _ _ _ _ (c.eq-else-eq-2.ensures ∙ ap (pointwise eqb c.args.name.now) c.as_slice-else-eq-2.ensures) c.if-eq-3.false
+    (later _ _ _ _ _ (c.eq-else-eq-3.ensures ∙ ap (pointwise eqb c.args.name.now) c.as_slice-else-eq-3.ensures) c.if-eq-4.false
+    (here _ _ _ _ (c.eq-else-eq-4.ensures ∙ ap (pointwise eqb c.args.name.now) c.as_slice-else-eq-4.ensures) c.if-eq-5.true)))))
+    c.settle.ensures.whole
 
-pub returns-in-5 : goal.returns-in-5
-unfolding named_call calls_of
-returns-in-5 c = search (call_at, rules)
+pub returns-then-eq-6-clause-whole : goal.returns-then-eq-6-clause-whole
+unfolding named_call calls_of call_names
+returns-then-eq-6-clause-whole c =
+    call_at 5 _ _ _ _ _
+    (later _ _ _ _ _ (c.eq.ensures ∙ ap (pointwise eqb c.args.name.now) c.as_slice.ensures) c.if-eq.false
+    (later _ _ _ _ _ (c.eq-else-eq.ensures ∙ ap (pointwise eqb c.args.name.now) c.as_slice-else-eq.ensures) c.if-eq-2.false
+    (later _ _ _ _ _ (c.eq-else-eq-2.ensures ∙ ap (pointwise eqb c.args.name.now) c.as_slice-else-eq-2.ensures) c.if-eq-3.false
+    (later _ _ _ _ _ (c.eq-else-eq-3.ensures ∙ ap (pointwise eqb c.args.name.now) c.as_slice-else-eq-3.ensures) c.if-eq-4.false
+    (later _ _ _ _ _ (c.eq-else-eq-4.ensures ∙ ap (pointwise eqb c.args.name.now) c.as_slice-else-eq-4.ensures) c.if-eq-5.false
+    (here _ _ _ _ (c.eq-else-eq-5.ensures ∙ ap (pointwise eqb c.args.name.now) c.as_slice-else-eq-5.ensures) c.if-eq-6.true))))))
+    (plain_is _ _ _ c.annual.ensures.whole)
 
-pub returns-in-6 : goal.returns-in-6
-unfolding named_call calls_of
-returns-in-6 c = search (call_at, rules)
+pub returns-then-eq-7-clause-whole : goal.returns-then-eq-7-clause-whole
+unfolding named_call calls_of call_names
+returns-then-eq-7-clause-whole c =
+    call_at 6 _ _ _ _ _
+    (later _ _ _ _ _ (c.eq.ensures ∙ ap (pointwise eqb c.args.name.now) c.as_slice.ensures) c.if-eq.false
+    (later _ _ _ _ _ (c.eq-else-eq.ensures ∙ ap (pointwise eqb c.args.name.now) c.as_slice-else-eq.ensures) c.if-eq-2.false
+    (later _ _ _ _ _ (c.eq-else-eq-2.ensures ∙ ap (pointwise eqb c.args.name.now) c.as_slice-else-eq-2.ensures) c.if-eq-3.false
+    (later _ _ _ _ _ (c.eq-else-eq-3.ensures ∙ ap (pointwise eqb c.args.name.now) c.as_slice-else-eq-3.ensures) c.if-eq-4.false
+    (later _ _ _ _ _ (c.eq-else-eq-4.ensures ∙ ap (pointwise eqb c.args.name.now) c.as_slice-else-eq-4.ensures) c.if-eq-5.false
+    (later _ _ _ _ _ (c.eq-else-eq-5.ensures ∙ ap (pointwise eqb c.args.name.now) c.as_slice-else-eq-5.ensures) c.if-eq-6.false
+    (here _ _ _ _ (c.eq-else-eq-6.ensures ∙ ap (pointwise eqb c.args.name.now) c.as_slice-else-eq-6.ensures) c.if-eq-7.true)))))))
+    (plain_is _ _ _ c.advance.ensures.whole)
 
-pub returns-in-7 : goal.returns-in-7
-unfolding named_call calls_of
-returns-in-7 c = search (call_at, rules)
+pub returns-then-eq-8-clause-whole : goal.returns-then-eq-8-clause-whole
+unfolding named_call calls_of call_names
+returns-then-eq-8-clause-whole c =
+    call_at 7 _ _ _ _ _
+    (later _ _ _ _ _ (c.eq.ensures ∙ ap (pointwise eqb c.args.name.now) c.as_slice.ensures) c.if-eq.false
+    (later _ _ _ _ _ (c.eq-else-eq.ensures ∙ ap (pointwise eqb c.args.name.now) c.as_slice-else-eq.ensures) c.if-eq-2.false
+    (later _ _ _ _ _ (c.eq-else-eq-2.ensures ∙ ap (pointwise eqb c.args.name.now) c.as_slice-else-eq-2.ensures) c.if-eq-3.false
+    (later _ _ _ _ _ (c.eq-else-eq-3.ensures ∙ ap (pointwise eqb c.args.name.now) c.as_slice-else-eq-3.ensures) c.if-eq-4.false
+    (later _ _ _ _ _ (c.eq-else-eq-4.ensures ∙ ap (pointwise eqb c.args.name.now) c.as_slice-else-eq-4.ensures) c.if-eq-5.false
+    (later _ _ _ _ _ (c.eq-else-eq-5.ensures ∙ ap (pointwise eqb c.args.name.now) c.as_slice-else-eq-5.ensures) c.if-eq-6.false
+    (later _ _ _ _ _ (c.eq-else-eq-6.ensures ∙ ap (pointwise eqb c.args.name.now) c.as_slice-else-eq-6.ensures) c.if-eq-7.false
+    (here _ _ _ _ (c.eq-else-eq-7.ensures ∙ ap (pointwise eqb c.args.name.now) c.as_slice-else-eq-7.ensures) c.if-eq-8.true))))))))
+    (plain_is _ _ _ c.statement.ensures.whole)
 
-pub returns-in-8 : goal.returns-in-8
-unfolding named_call calls_of
-returns-in-8 c = search (call_at, rules)
+pub returns-then-eq-9-clause-whole : goal.returns-then-eq-9-clause-whole
+unfolding named_call calls_of call_names
+returns-then-eq-9-clause-whole c =
+    call_at 8 _ _ _ _ _
+    (later _ _ _ _ _ (c.eq.ensures ∙ ap (pointwise eqb c.args.name.now) c.as_slice.ensures) c.if-eq.false
+    (later _ _ _ _ _ (c.eq-else-eq.ensures ∙ ap (pointwise eqb c.args.name.now) c.as_slice-else-eq.ensures) c.if-eq-2.false
+    (later _ _ _ _ _ (c.eq-else-eq-2.ensures ∙ ap (pointwise eqb c.args.name.now) c.as_slice-else-eq-2.ensures) c.if-eq-3.false
+    (later _ _ _ _ _ (c.eq-else-eq-3.ensures ∙ ap (pointwise eqb c.args.name.now) c.as_slice-else-eq-3.ensures) c.if-eq-4.false
+    (later _ _ _ _ _ (c.eq-else-eq-4.ensures ∙ ap (pointwise eqb c.args.name.now) c.as_slice-else-eq-4.ensures) c.if-eq-5.false
+    (later _ _ _ _ _ (c.eq-else-eq-5.ensures ∙ ap (pointwise eqb c.args.name.now) c.as_slice-else-eq-5.ensures) c.if-eq-6.false
+    (later _ _ _ _ _ (c.eq-else-eq-6.ensures ∙ ap (pointwise eqb c.args.name.now) c.as_slice-else-eq-6.ensures) c.if-eq-7.false
+    (later _ _ _ _ _ (c.eq-else-eq-7.ensures ∙ ap (pointwise eqb c.args.name.now) c.as_slice-else-eq-7.ensures) c.if-eq-8.false
+    (here _ _ _ _ (c.eq-else-eq-8.ensures ∙ ap (pointwise eqb c.args.name.now) c.as_slice-else-eq-8.ensures) c.if-eq-9.true)))))))))
+    (plain_is _ _ _ c.closed.ensures.whole)
 
-pub returns-in-9 : goal.returns-in-9
-unfolding named_call calls_of
-returns-in-9 c = search rules
+pub returns-then-eq-10-clause-whole : goal.returns-then-eq-10-clause-whole
+unfolding named_call calls_of call_names
+returns-then-eq-10-clause-whole c =
+    call_at 9 _ _ _ _ _
+    (later _ _ _ _ _ (c.eq.ensures ∙ ap (pointwise eqb c.args.name.now) c.as_slice.ensures) c.if-eq.false
+    (later _ _ _ _ _ (c.eq-else-eq.ensures ∙ ap (pointwise eqb c.args.name.now) c.as_slice-else-eq.ensures) c.if-eq-2.false
+    (later _ _ _ _ _ (c.eq-else-eq-2.ensures ∙ ap (pointwise eqb c.args.name.now) c.as_slice-else-eq-2.ensures) c.if-eq-3.false
+    (later _ _ _ _ _ (c.eq-else-eq-3.ensures ∙ ap (pointwise eqb c.args.name.now) c.as_slice-else-eq-3.ensures) c.if-eq-4.false
+    (later _ _ _ _ _ (c.eq-else-eq-4.ensures ∙ ap (pointwise eqb c.args.name.now) c.as_slice-else-eq-4.ensures) c.if-eq-5.false
+    (later _ _ _ _ _ (c.eq-else-eq-5.ensures ∙ ap (pointwise eqb c.args.name.now) c.as_slice-else-eq-5.ensures) c.if-eq-6.false
+    (later _ _ _ _ _ (c.eq-else-eq-6.ensures ∙ ap (pointwise eqb c.args.name.now) c.as_slice-else-eq-6.ensures) c.if-eq-7.false
+    (later _ _ _ _ _ (c.eq-else-eq-7.ensures ∙ ap (pointwise eqb c.args.name.now) c.as_slice-else-eq-7.ensures) c.if-eq-8.false
+    (later _ _ _ _ _ (c.eq-else-eq-8.ensures ∙ ap (pointwise eqb c.args.name.now) c.as_slice-else-eq-8.ensures) c.if-eq-9.false
+    (here _ _ _ _ (c.eq-else-eq-9.ensures ∙ ap (pointwise eqb c.args.name.now) c.as_slice-else-eq-9.ensures) c.if-eq-10.true))))))))))
+    c.special.ensures.whole
 
-pub returns-in-10 : goal.returns-in-10
-unfolding named_call calls_of
-returns-in-10 c = search (call_at, rules)
+pub returns-then-eq-11-clause-whole : goal.returns-then-eq-11-clause-whole
+unfolding named_call calls_of call_names
+returns-then-eq-11-clause-whole c =
+    call_at 10 _ _ _ _ _
+    (later _ _ _ _ _ (c.eq.ensures ∙ ap (pointwise eqb c.args.name.now) c.as_slice.ensures) c.if-eq.false
+    (later _ _ _ _ _ (c.eq-else-eq.ensures ∙ ap (pointwise eqb c.args.name.now) c.as_slice-else-eq.ensures) c.if-eq-2.false
+    (later _ _ _ _ _ (c.eq-else-eq-2.ensures ∙ ap (pointwise eqb c.args.name.now) c.as_slice-else-eq-2.ensures) c.if-eq-3.false
+    (later _ _ _ _ _ (c.eq-else-eq-3.ensures ∙ ap (pointwise eqb c.args.name.now) c.as_slice-else-eq-3.ensures) c.if-eq-4.false
+    (later _ _ _ _ _ (c.eq-else-eq-4.ensures ∙ ap (pointwise eqb c.args.name.now) c.as_slice-else-eq-4.ensures) c.if-eq-5.false
+    (later _ _ _ _ _ (c.eq-else-eq-5.ensures ∙ ap (pointwise eqb c.args.name.now) c.as_slice-else-eq-5.ensures) c.if-eq-6.false
+    (later _ _ _ _ _ (c.eq-else-eq-6.ensures ∙ ap (pointwise eqb c.args.name.now) c.as_slice-else-eq-6.ensures) c.if-eq-7.false
+    (later _ _ _ _ _ (c.eq-else-eq-7.ensures ∙ ap (pointwise eqb c.args.name.now) c.as_slice-else-eq-7.ensures) c.if-eq-8.false
+    (later _ _ _ _ _ (c.eq-else-eq-8.ensures ∙ ap (pointwise eqb c.args.name.now) c.as_slice-else-eq-8.ensures) c.if-eq-9.false
+    (later _ _ _ _ _ (c.eq-else-eq-9.ensures ∙ ap (pointwise eqb c.args.name.now) c.as_slice-else-eq-9.ensures) c.if-eq-10.false
+    (here _ _ _ _ (c.eq-else-eq-10.ensures ∙ ap (pointwise eqb c.args.name.now) c.as_slice-else-eq-10.ensures) c.if-eq-11.true)))))))))))
+    (plain_is _ _ _ c.closed-then-eq-11.ensures.whole)
 
-pub returns-in-11 : goal.returns-in-11
-unfolding named_call calls_of
-returns-in-11 c = search rules
+pub returns-then-eq-12-clause-whole : goal.returns-then-eq-12-clause-whole
+unfolding named_call calls_of call_names
+returns-then-eq-12-clause-whole c =
+    call_at 11 _ _ _ _ _
+    (later _ _ _ _ _ (c.eq.ensures ∙ ap (pointwise eqb c.args.name.now) c.as_slice.ensures) c.if-eq.false
+    (later _ _ _ _ _ (c.eq-else-eq.ensures ∙ ap (pointwise eqb c.args.name.now) c.as_slice-else-eq.ensures) c.if-eq-2.false
+    (later _ _ _ _ _ (c.eq-else-eq-2.ensures ∙ ap (pointwise eqb c.args.name.now) c.as_slice-else-eq-2.ensures) c.if-eq-3.false
+    (later _ _ _ _ _ (c.eq-else-eq-3.ensures ∙ ap (pointwise eqb c.args.name.now) c.as_slice-else-eq-3.ensures) c.if-eq-4.false
+    (later _ _ _ _ _ (c.eq-else-eq-4.ensures ∙ ap (pointwise eqb c.args.name.now) c.as_slice-else-eq-4.ensures) c.if-eq-5.false
+    (later _ _ _ _ _ (c.eq-else-eq-5.ensures ∙ ap (pointwise eqb c.args.name.now) c.as_slice-else-eq-5.ensures) c.if-eq-6.false
+    (later _ _ _ _ _ (c.eq-else-eq-6.ensures ∙ ap (pointwise eqb c.args.name.now) c.as_slice-else-eq-6.ensures) c.if-eq-7.false
+    (later _ _ _ _ _ (c.eq-else-eq-7.ensures ∙ ap (pointwise eqb c.args.name.now) c.as_slice-else-eq-7.ensures) c.if-eq-8.false
+    (later _ _ _ _ _ (c.eq-else-eq-8.ensures ∙ ap (pointwise eqb c.args.name.now) c.as_slice-else-eq-8.ensures) c.if-eq-9.false
+    (later _ _ _ _ _ (c.eq-else-eq-9.ensures ∙ ap (pointwise eqb c.args.name.now) c.as_slice-else-eq-9.ensures) c.if-eq-10.false
+    (later _ _ _ _ _ (c.eq-else-eq-10.ensures ∙ ap (pointwise eqb c.args.name.now) c.as_slice-else-eq-10.ensures) c.if-eq-11.false
+    (here _ _ _ _ (c.eq-else-eq-11.ensures ∙ ap (pointwise eqb c.args.name.now) c.as_slice-else-eq-11.ensures) c.if-eq-12.true))))))))))))
+    c.batch.ensures.whole
 
-pub returns-in-12 : goal.returns-in-12
-unfolding named_call calls_of
-returns-in-12 c = search (call_at, rules)
+pub returns-then-eq-13-clause-whole : goal.returns-then-eq-13-clause-whole
+unfolding named_call calls_of call_names
+returns-then-eq-13-clause-whole c =
+    call_at 12 _ _ _ _ _
+    (later _ _ _ _ _ (c.eq.ensures ∙ ap (pointwise eqb c.args.name.now) c.as_slice.ensures) c.if-eq.false
+    (later _ _ _ _ _ (c.eq-else-eq.ensures ∙ ap (pointwise eqb c.args.name.now) c.as_slice-else-eq.ensures) c.if-eq-2.false
+    (later _ _ _ _ _ (c.eq-else-eq-2.ensures ∙ ap (pointwise eqb c.args.name.now) c.as_slice-else-eq-2.ensures) c.if-eq-3.false
+    (later _ _ _ _ _ (c.eq-else-eq-3.ensures ∙ ap (pointwise eqb c.args.name.now) c.as_slice-else-eq-3.ensures) c.if-eq-4.false
+    (later _ _ _ _ _ (c.eq-else-eq-4.ensures ∙ ap (pointwise eqb c.args.name.now) c.as_slice-else-eq-4.ensures) c.if-eq-5.false
+    (later _ _ _ _ _ (c.eq-else-eq-5.ensures ∙ ap (pointwise eqb c.args.name.now) c.as_slice-else-eq-5.ensures) c.if-eq-6.false
+    (later _ _ _ _ _ (c.eq-else-eq-6.ensures ∙ ap (pointwise eqb c.args.name.now) c.as_slice-else-eq-6.ensures) c.if-eq-7.false
+    (later _ _ _ _ _ (c.eq-else-eq-7.ensures ∙ ap (pointwise eqb c.args.name.now) c.as_slice-else-eq-7.ensures) c.if-eq-8.false
+    (later _ _ _ _ _ (c.eq-else-eq-8.ensures ∙ ap (pointwise eqb c.args.name.now) c.as_slice-else-eq-8.ensures) c.if-eq-9.false
+    (later _ _ _ _ _ (c.eq-else-eq-9.ensures ∙ ap (pointwise eqb c.args.name.now) c.as_slice-else-eq-9.ensures) c.if-eq-10.false
+    (later _ _ _ _ _ (c.eq-else-eq-10.ensures ∙ ap (pointwise eqb c.args.name.now) c.as_slice-else-eq-10.ensures) c.if-eq-11.false
+    (later _ _ _ _ _ (c.eq-else-eq-11.ensures ∙ ap (pointwise eqb c.args.name.now) c.as_slice-else-eq-11.ensures) c.if-eq-12.false
+    (here _ _ _ _ (c.eq-else-eq-12.ensures ∙ ap (pointwise eqb c.args.name.now) c.as_slice-else-eq-12.ensures) c.if-eq-13.true)))))))))))))
+    (plain_is _ _ _ c.closed-then-eq-13.ensures.whole)
 
-pub returns-in_default : goal.returns-in_default
-unfolding named_call calls_of
-returns-in_default c = search (none-of-them, rules)
+pub returns-else-eq-13-clause-whole : goal.returns-else-eq-13-clause-whole
+unfolding call_names
+returns-else-eq-13-clause-whole c =
+    no_call _ _ _
+    (later _ _ _ _ _ (c.eq.ensures ∙ ap (pointwise eqb c.args.name.now) c.as_slice.ensures) c.if-eq.false
+    (later _ _ _ _ _ (c.eq-else-eq.ensures ∙ ap (pointwise eqb c.args.name.now) c.as_slice-else-eq.ensures) c.if-eq-2.false
+    (later _ _ _ _ _ (c.eq-else-eq-2.ensures ∙ ap (pointwise eqb c.args.name.now) c.as_slice-else-eq-2.ensures) c.if-eq-3.false
+    (later _ _ _ _ _ (c.eq-else-eq-3.ensures ∙ ap (pointwise eqb c.args.name.now) c.as_slice-else-eq-3.ensures) c.if-eq-4.false
+    (later _ _ _ _ _ (c.eq-else-eq-4.ensures ∙ ap (pointwise eqb c.args.name.now) c.as_slice-else-eq-4.ensures) c.if-eq-5.false
+    (later _ _ _ _ _ (c.eq-else-eq-5.ensures ∙ ap (pointwise eqb c.args.name.now) c.as_slice-else-eq-5.ensures) c.if-eq-6.false
+    (later _ _ _ _ _ (c.eq-else-eq-6.ensures ∙ ap (pointwise eqb c.args.name.now) c.as_slice-else-eq-6.ensures) c.if-eq-7.false
+    (later _ _ _ _ _ (c.eq-else-eq-7.ensures ∙ ap (pointwise eqb c.args.name.now) c.as_slice-else-eq-7.ensures) c.if-eq-8.false
+    (later _ _ _ _ _ (c.eq-else-eq-8.ensures ∙ ap (pointwise eqb c.args.name.now) c.as_slice-else-eq-8.ensures) c.if-eq-9.false
+    (later _ _ _ _ _ (c.eq-else-eq-9.ensures ∙ ap (pointwise eqb c.args.name.now) c.as_slice-else-eq-9.ensures) c.if-eq-10.false
+    (later _ _ _ _ _ (c.eq-else-eq-10.ensures ∙ ap (pointwise eqb c.args.name.now) c.as_slice-else-eq-10.ensures) c.if-eq-11.false
+    (later _ _ _ _ _ (c.eq-else-eq-11.ensures ∙ ap (pointwise eqb c.args.name.now) c.as_slice-else-eq-11.ensures) c.if-eq-12.false
+    (later _ _ _ _ _ (c.eq-else-eq-12.ensures ∙ ap (pointwise eqb c.args.name.now) c.as_slice-else-eq-12.ensures) c.if-eq-13.false
+    (no_more _))))))))))))))

@@ -1,69 +1,49 @@
--- `special::special_guarantee` meets its contract: each `return` stands where the causes before it do not hold, and what they leave is what
+-- `special::special_guarantee` meets its contract: each answer stands where the causes before it do not hold, and what they leave is what
 -- the calls ask.
 -- Assumes nothing.
-use mathlib.Core.Path.{sym, ◌∙◌}
-use Rattle.special.proofs.Decided.{Passed, refused-19, refused-11, refused-18, accepted}
-use Rattle.special.proofs.Decided.{medium-in-range, low-in-range, kept-medium, kept_low, amounts}
+use borrow.Author.Rules.{rules}
+use mathlib.Core.Path.{◌≡◌, sym, ap, ◌∙◌}
+use mathlib.Core.Bool.{not}
+use Rattle.std.specs.Prelude.{Err}
+use Rattle.special.proofs.Decided.{passed, refused-19, refused-11, few-medium, few-low, bounded, accepted}
+use Rattle.special.proofs.Decided.{medium-in-range, low-in-range, amounts}
 use Rattle.special.proofs.special_guarantee.Goals as goal
 
 pub returns-then-wrong_lengths : goal.returns-then-wrong_lengths
 returns-then-wrong_lengths c = refused-19 _ _ _ _ _ _ _ (sym c.wrong_lengths.ensures ∙ c.if-wrong_lengths.true)
 
-pub returns-then-out_of_range : goal.returns-then-out_of_range
-returns-then-out_of_range c = refused-11 _ _ _ _ _ _ _ (sym c.wrong_lengths.ensures ∙ c.if-wrong_lengths.false)
-    (sym c.out_of_range.ensures ∙ c.if-out_of_range.true)
+pub returns-then-not-in_range : goal.returns-then-not-in_range
+returns-then-not-in_range c = refused-11 _ _ _ _ _ _ _ (sym c.wrong_lengths.ensures ∙ c.if-wrong_lengths.false)
+    (sym c.in_range.ensures ∙ ap not c.if-not-in_range.true)
 
-pub best_of-best_medium-requires : goal.best_of-best_medium-requires
-best_of-best_medium-requires c =
-    let a = c.args in
-    let p : Passed a.medium.now a.low.now a.marks.now a.zero_medium.now a.zero_low.now a.excess_medium.now a.excess_low.now =
-    record {
-      lengths = sym c.wrong_lengths.ensures ∙ c.if-wrong_lengths.false;
-      ranges = sym c.out_of_range.ensures ∙ c.if-out_of_range.false;
-    } in
-    medium-in-range p
+pub ratio-requires : goal.ratio-requires
+ratio-requires c = medium-in-range (passed _ _ _ _ _ _ _ _ _ c.in_range.ensures c.if-not-in_range.false c.wrong_lengths.ensures c.if-wrong_lengths.false)
 
-pub best_of-best_low-requires : goal.best_of-best_low-requires
-best_of-best_low-requires c =
-    let a = c.args in
-    let p : Passed a.medium.now a.low.now a.marks.now a.zero_medium.now a.zero_low.now a.excess_medium.now a.excess_low.now =
-    record {
-      lengths = sym c.wrong_lengths.ensures ∙ c.if-wrong_lengths.false;
-      ranges = sym c.out_of_range.ensures ∙ c.if-out_of_range.false;
-    } in
-    low-in-range p
+pub returns-in_err-medium : goal.returns-in_err-medium
+returns-in_err-medium c =
+    let passed_on : c.from_residual.result ≡ Err c.in_err-medium.field-0.0 = search rules in
+    passed_on ∙ few-medium (passed _ _ _ _ _ _ _ _ _ c.in_range.ensures c.if-not-in_range.false c.wrong_lengths.ensures c.if-wrong_lengths.false)
+    c.ratio.result c.ratio.ensures c.in_err-medium.field-0.0 c.in_err-medium.was
 
-pub returns-then-medium_count-low_count : goal.returns-then-medium_count-low_count
-returns-then-medium_count-low_count c =
-    let a = c.args in
-    let p : Passed a.medium.now a.low.now a.marks.now a.zero_medium.now a.zero_low.now a.excess_medium.now a.excess_low.now =
-    record {
-      lengths = sym c.wrong_lengths.ensures ∙ c.if-wrong_lengths.false;
-      ranges = sym c.out_of_range.ensures ∙ c.if-out_of_range.false;
-    } in
-    refused-18 p c.best_of-best_medium.ensures c.best_of-best_low.ensures
-    c.if-medium_count-low_count.true
+pub ratio-requires-2 : goal.ratio-requires-2
+ratio-requires-2 c = low-in-range (passed _ _ _ _ _ _ _ _ _ c.in_range.ensures c.if-not-in_range.false c.wrong_lengths.ensures c.if-wrong_lengths.false)
 
-pub guarantee_of-requires : goal.guarantee_of-requires
-guarantee_of-requires c =
-    let a = c.args in
-    let p : Passed a.medium.now a.low.now a.marks.now a.zero_medium.now a.zero_low.now a.excess_medium.now a.excess_low.now =
-    record {
-      lengths = sym c.wrong_lengths.ensures ∙ c.if-wrong_lengths.false;
-      ranges = sym c.out_of_range.ensures ∙ c.if-out_of_range.false;
-    } in
-    let hm = c.best_of-best_medium.ensures in
-    let hl = c.best_of-best_low.ensures in
-    let n = amounts p in
-    (kept-medium p hm hl c.if-medium_count-low_count.false, kept_low p hm hl c.if-medium_count-low_count.false, n.0, n.1, n.2, n.3)
+pub returns-in_err-low : goal.returns-in_err-low
+returns-in_err-low c =
+    let passed_on : c.from_residual-in_err-low.result ≡ Err c.in_err-low.field-0.0 = search rules in
+    passed_on ∙ few-low (passed _ _ _ _ _ _ _ _ _ c.in_range.ensures c.if-not-in_range.false c.wrong_lengths.ensures c.if-wrong_lengths.false)
+    c.ratio.result c.ratio.ensures c.ratio-2.result c.ratio-2.ensures c.in_err-low.field-0.0 c.in_err-low.was
+
+pub guarantee_of-requires-clause-bounded : goal.guarantee_of-requires-clause-bounded
+guarantee_of-requires-clause-bounded c =
+    bounded (passed _ _ _ _ _ _ _ _ _ c.in_range.ensures c.if-not-in_range.false c.wrong_lengths.ensures c.if-wrong_lengths.false)
+    c.ratio.result c.ratio.ensures c.ratio-2.result c.ratio-2.ensures c.in_ok-medium.medium c.in_ok-low.low c.in_ok-medium.was c.in_ok-low.was
+
+pub guarantee_of-requires-clause-amounts : goal.guarantee_of-requires-clause-amounts
+guarantee_of-requires-clause-amounts c = amounts (passed _ _ _ _ _ _ _ _ _ c.in_range.ensures c.if-not-in_range.false c.wrong_lengths.ensures c.if-wrong_lengths.false)
 
 pub returns : goal.returns
 returns c =
-    let a = c.args in
-    let p : Passed a.medium.now a.low.now a.marks.now a.zero_medium.now a.zero_low.now a.excess_medium.now a.excess_low.now =
-    record {
-      lengths = sym c.wrong_lengths.ensures ∙ c.if-wrong_lengths.false;
-      ranges = sym c.out_of_range.ensures ∙ c.if-out_of_range.false;
-    } in
-    accepted p c.best_of-best_medium.ensures
-    c.best_of-best_low.ensures c.if-medium_count-low_count.false _ c.guarantee_of.ensures
+    accepted (passed _ _ _ _ _ _ _ _ _ c.in_range.ensures c.if-not-in_range.false c.wrong_lengths.ensures c.if-wrong_lengths.false)
+    c.ratio.result c.ratio.ensures c.ratio-2.result c.ratio-2.ensures c.in_ok-medium.medium c.in_ok-low.low c.in_ok-medium.was c.in_ok-low.was
+    c.guarantee_of.result c.guarantee_of.ensures

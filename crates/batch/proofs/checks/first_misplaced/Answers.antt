@@ -1,18 +1,16 @@
--- `batch::checks::first_misplaced` meets its contract. The loop's invariant: none of the first i parts is misplaced. The measure is the number of
--- pairs left.
+-- `batch::checks::first_misplaced` meets its contract: the search tests each pair in turn.
 -- Assumes nothing.
-use Rattle.batch.proofs.CheckLaws.{passed_first, passed-next, misplaced-found, misplaced-none}
 use borrow.Author.Rules.{rules}
+use borrow.Author.Tests.{tests}
+use mathlib.Core.Path.{◌≡◌}
+use mathlib.Core.Bool.{true, false}
+use Rattle.std.proofs.lemmas.Iterator.{first_from_Range}
+use Rattle.batch.specs.Batch.{misplaced}
+use Rattle.batch.proofs.CheckLaws.{misplaced-found}
 use Rattle.batch.proofs.checks.first_misplaced.Goals as goal
 
-pub loop-i-init : goal.loop-i-init
-loop-i-init c = (search rules, search rules, search (passed_first, rules))
-
-pub returns-then-misplaced : goal.returns-then-misplaced
-returns-then-misplaced c = search (misplaced-found, rules)
-
-pub loop-i-preserved : goal.loop-i-preserved
-loop-i-preserved c = (search rules, search rules, search (passed-next, rules))
-
 pub returns : goal.returns
-returns c = search (misplaced-none, rules)
+returns c =
+    misplaced-found c.args.file.now _ _ c.count.ensures
+    (first_from_Range _ _ _ _ (λ k. misplaced c.args.file.now k ≡ true) (λ k. misplaced c.args.file.now k ≡ false) c.find.ensures.ran
+    (λ x q k. search (rules, tests)) (λ x q k. search (rules, tests)))

@@ -1,14 +1,6 @@
--- `batch::parts::sum_part` meets its contract. A wrong count is cause 10, and the first figure out of its range is cause 11. The loop's invariant is
--- that of `manual::figures::sum_figures`, over the figures in the file's bytes; the measure is the number of figures left.
--- Assumes nothing.
-use Prim.Native.Nat.{◌+◌, ◌*◌, ◌≤◌, ◌-◌}
-use lib.ListN.{length}
-use Rattle.manual.proofs.Sums.{SoFar}
+-- `batch::parts::sum_part` meets its contract: the figures are those behind the part's first two bytes. Assumes nothing.
 use Rattle.batch.specs.Batch.{figures_behind}
 use Rattle.batch.proofs.parts.sum_part.Given as goal
 
-abbrev pub invariant-loop-i : goal.invariant-loop-i
-invariant-loop-i l = (5 ≤ l.rows) × (l.rows ≤ 16) × (l.offset + 2 + 8 * l.rows ≤ length l.file) × SoFar (figures_behind l.file l.offset l.rows) l.total l.i
-
-abbrev pub decreases-loop-i : goal.decreases-loop-i
-decreases-loop-i l = l.rows - l.i
+abbrev pub ghost-sum_of_figures : goal.ghost-sum_of_figures
+ghost-sum_of_figures a = figures_behind a.figure.0.now a.figure.1.now a.count

@@ -2,17 +2,10 @@
 -- Assumes nothing.
 use borrow.Author.Rules.{rules}
 use Rattle.book.proofs.Functions.FilesInWords.{outside-given, none-given, days-given}
-use Rattle.book.proofs.Functions.DaysOpened.{not-before, days-within}
 use Rattle.book.proofs.days.advance.Goals as goal
 
 pub returns-then-is_outside : goal.returns-then-is_outside
 returns-then-is_outside c = search (outside-given, rules)
-
-pub overflow_sub-day : goal.overflow_sub-day
-overflow_sub-day c = search (not-before, rules)
-
-pub open_files-requires : goal.open_files-requires
-open_files-requires c = (search rules, search rules, search (days-within, rules))
 
 pub returns-then-days-eq0 : goal.returns-then-days-eq0
 returns-then-days-eq0 c = search (none-given, rules)

@@ -1,11 +1,8 @@
--- `book::questions::is_admitted` meets its contract: the flag of the file at its place; a participant above 63 has none.
+-- `book::questions::is_admitted` meets its contract: the view is refused where the participant isn't admitted.
 -- Assumes nothing.
-use borrow.Author.Rules.{rules}
-use Rattle.book.proofs.Functions.OnWords.{none-admitted, there-admitted}
+use mathlib.Core.Path.{◌∙◌}
+use Rattle.book.proofs.Functions.Viewing.{admitted-known}
 use Rattle.book.proofs.questions.is_admitted.Goals as goal
 
-pub returns-then-participant-gt63 : goal.returns-then-participant-gt63
-returns-then-participant-gt63 c = search (none-admitted, rules)
-
 pub returns : goal.returns
-returns c = search (there-admitted, rules)
+returns c = c.is_ok.ensures.value ∙ admitted-known _ _ c.admitted.result _ (λ v h. (h.2, h.3)) c.admitted.ensures

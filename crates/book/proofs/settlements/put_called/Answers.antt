@@ -14,9 +14,9 @@ pub put_open_call-requires : goal.put_open_call-requires
 put_open_call-requires c = (search rules, search (few-open, rules))
 
 pub shape_of-words : goal.shape_of-words
-shape_of-words c = called-long _ _ _ _ _ _ _ _ _ _ c.put_month.ensures c.put_open_call.ensures
+shape_of-words c = called-long _ _ _ _ _ _ _ _ _ _ (rw c.place-at.ensures at c.put_month.ensures) (rw c.place-at.ensures at c.put_open_call.ensures)
 
 pub returns : goal.returns
 returns c = λ asked figures b.
-    given-open _ _ c.requires.0 c.requires.1 _ figures _ _ _ asked _ _ (to_z_pos w64 (search rules)) c.put_month.ensures
-    c.put_open_call.ensures b
+    given-open _ _ c.requires.0 c.requires.1 _ figures _ _ _ asked _ _ (to_z_pos w64 (search rules)) (rw c.place-at.ensures at c.put_month.ensures)
+    (rw c.place-at.ensures at c.put_open_call.ensures) b

@@ -4,4 +4,4 @@ use Rattle.book.proofs.Functions.SettlementsPut.{call-behind}
 use Rattle.book.proofs.settlements.put_open_call.Goals as goal
 
 pub returns : goal.returns
-returns c = call-behind _ _ _ _ _ _ c.put_call.ensures
+returns c = call-behind _ _ _ _ _ _ c.put.ensures

@@ -1,10 +1,12 @@
 -- `dialogue::lines::answer_line` meets its contract: the line is asked, applied and written.
 -- Assumes nothing.
 use Rattle.dialogue.proofs.LineLaws.{line_taken}
-use Rattle.std.proofs.Common.{◌≤◌, length, arith}
+use Rattle.dialogue.specs.Turns.{next}
+use Rattle.std.proofs.Common.{◌≤◌, length, refl, arith}
 use Rattle.dialogue.proofs.lines.answer_line.Goals as goal
 
 pub returns : goal.returns
+unfolding next
 returns c =
     let fits : length c.args.numbers.now ≤ 18446744073709551615 = omega (arith, c.well_formed) in
-    line_taken _ _ _ _ _ _ _ _ _ _ _ _ _ _ _ _ _ _ _ c.ask-request.ensures c.next_number.ensures c.apply_at-answer.ensures c.put_turn.ensures fits
+    line_taken _ _ _ _ _ _ _ _ _ _ _ _ _ _ _ c.ask-request.ensures refl c.apply_at-answer.ensures c.put_turn.ensures fits

@@ -1,36 +1,23 @@
--- `dialogue::lines::answer_lines` meets its contract: after each turn the lines up to `start` are taken, and the next one ends at `end`.
+-- `dialogue::lines::answer_lines` meets its contract: after each turn the lines up to `used` are taken.
 -- Assumes nothing.
-use Rattle.std.proofs.Common.{rules}
-use Rattle.dialogue.proofs.TurnLaws.{none-taken, turn-again, stopped, done}
+use Rattle.dialogue.proofs.TurnLaws.{none_taken, cleared, turn-again, answered}
+use Rattle.std.proofs.Common.{refl, ◌∙◌}
 use Rattle.dialogue.proofs.lines.answer_lines.Goals as goal
 
-pub loop-end-init : goal.loop-end-init
-loop-end-init c = (search rules, search rules, search rules, search rules, search rules, search (none-taken, rules))
+pub loop-n-init : goal.loop-n-init
+loop-n-init c = (refl, refl, refl, c.requires, none_taken _ _ _ _ _ _ _ _ c.clear.ensures c.clear-2.ensures)
 
-pub returns-then-not-goes_on : goal.returns-then-not-goes_on
-returns-then-not-goes_on c =
-    let inv = c.loop-end.invariant in
-    record {
-      well_formed = (inv.4, inv.5.within, inv.5.in_journal, inv.5.in_answers, inv.1, inv.2);
-      answers = stopped _ _ _ _ _ _ _ _ _ _ _ inv.5 c.goes_on.ensures c.if-not-goes_on.true;
-    }
+pub loop-n-preserved : goal.loop-n-preserved
+loop-n-preserved c =
+    let inv = c.loop-n.invariant in
+    let one = c.answer_line-place.ensures in
+    let t = turn-again _ _ _ _ _ _ _ _ _ _ _ _ _ _ _ _ inv.4 c.next_line.ensures c.in-Some.is one inv.0 in
+    (c.answer_line-place.auto.numbers ∙ inv.0, t.same_journal ∙ inv.1, t.same_answers ∙ inv.2, one.formed, t.taken)
 
-pub loop-end-preserved : goal.loop-end-preserved
-loop-end-preserved c =
-    let stepped = c.answer_line-stepped in
-    let inv = c.loop-end.invariant in (
-      search rules,
-      search rules,
-      search rules,
-      search rules,
-      stepped.ensures.formed,
-      turn-again _ _ _ _ _ _ _ _ _ _ _ _ _ _ _ _ _ _ _ _ inv.5 inv.3 (search rules) stepped.ensures inv.0 c.goes_on.ensures c.if-not-goes_on.false,
-    )
+pub returns-clause-well_formed : goal.returns-clause-well_formed
+returns-clause-well_formed c =
+    let inv = c.loop-n.invariant in
+    (inv.3, inv.4.within, inv.1 ∙ cleared _ _ c.clear.ensures, inv.2 ∙ cleared _ _ c.clear-2.ensures)
 
-pub returns : goal.returns
-returns c =
-    let inv = c.loop-end.invariant in
-    record {
-      well_formed = (inv.4, inv.5.within, inv.5.in_journal, inv.5.in_answers, inv.1, inv.2);
-      answers = search (done, rules);
-    }
+pub returns-clause-answers : goal.returns-clause-answers
+returns-clause-answers c = answered _ _ _ _ _ _ _ _ _ _ c.loop-n.invariant.4 c.next_line.ensures c.in_default.is

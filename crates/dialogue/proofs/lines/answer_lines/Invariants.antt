@@ -1,14 +1,14 @@
--- `dialogue::lines::answer_lines` meets its contract: after each turn the lines up to `start` are taken, and the next one ends at `end`.
+-- `dialogue::lines::answer_lines` meets its contract: after each turn the lines up to `used` are taken. The measure is what is left of the input.
 -- Assumes nothing.
 use Rattle.std.proofs.Common.{◌≡◌, ◌-◌, length}
 use Rattle.layout.specs.WellFormed.{WellFormed}
-use Rattle.dialogue.specs.Split.{EndIs}
-use Rattle.dialogue.specs.Answers.{state_of, Taken}
+use Rattle.dialogue.specs.Answers.{space, state_of, Taken}
 use Rattle.dialogue.proofs.lines.answer_lines.Given as goal
 
-abbrev pub invariant-loop-end : goal.invariant-loop-end
-invariant-loop-end l = (length l.numbers ≡ length l.initial.numbers) × (length l.journal ≡ length l.initial.journal) × (length l.out ≡ length l.initial.out) × EndIs l.input l.start l.end × WellFormed l.book
-    × Taken l.way (length l.initial.numbers) (state_of l.initial.book l.initial.place) l.input l.start (state_of l.book l.place) l.kept l.journal l.filled l.out
+abbrev pub invariant-loop-n : goal.invariant-loop-n
+invariant-loop-n l = (length l.numbers ≡ length l.initial.numbers) × (space l.journal ≡ space l.initial.journal) × (space l.out ≡ space l.initial.out)
+    × WellFormed l.book
+    × Taken l.way (length l.initial.numbers) (state_of l.initial.book l.initial.place) l.input l.used (state_of l.book l.place) l.journal l.out
 
-abbrev pub decreases-loop-end : goal.decreases-loop-end
-decreases-loop-end l = length l.input - l.end
+abbrev pub decreases-loop-n : goal.decreases-loop-n
+decreases-loop-n l = length l.input - l.used

@@ -1,11 +1,27 @@
--- `journal::batch::batch` meets its contract: the bytes are written where nothing is wrong with the file and no word is left after it.
+-- `journal::batch::batch` meets its contract: what is wrong with a file's word, and its bytes.
 -- Assumes nothing.
-use Rattle.journal.proofs.BatchLaws.{batch-fails, batch-is}
-use borrow.Author.Rules.{rules}
+use Rattle.std.proofs.Common.{refl}
+use Rattle.journal.proofs.ListLaws.{parsed_err}
+use Rattle.journal.proofs.BatchLaws.{file_is, batch_not_hex, batch_long, batch_more, batch_is}
 use Rattle.journal.proofs.batch.batch.Goals as goal
 
-pub returns-in-Failed : goal.returns-in-Failed
-returns-in-Failed c = search (batch-fails, rules)
+pub returns-then-not-is_hexadecimal-clause-whole : goal.returns-then-not-is_hexadecimal-clause-whole
+returns-then-not-is_hexadecimal-clause-whole c =
+    batch_not_hex _ _ _ (file_is c.next.result _ _ _ _ c.next.ensures.steps c.unwrap_or-file.ensures refl) _ _ c.is_hexadecimal.ensures
+    c.if-not-is_hexadecimal.true
 
-pub returns-in-At : goal.returns-in-At
-returns-in-At c = search (batch-is, rules)
+pub returns-then-numbers-file-clause-whole : goal.returns-then-numbers-file-clause-whole
+returns-then-numbers-file-clause-whole c =
+    batch_long _ _ _ (file_is c.next.result _ _ _ _ c.next.ensures.steps c.unwrap_or-file.ensures refl) _ _ c.is_hexadecimal.ensures
+    c.if-not-is_hexadecimal.false c.if-numbers-file.true
+
+pub returns-in_err-request-clause-whole : goal.returns-in_err-request-clause-whole
+returns-in_err-request-clause-whole c =
+    parsed_err _ _ c.from_residual.result _ _ c.from_residual.ensures.1
+    (batch_more _ _ _ (file_is c.next.result _ _ _ _ c.next.ensures.steps c.unwrap_or-file.ensures refl) _ _ c.is_hexadecimal.ensures
+    c.if-not-is_hexadecimal.false c.if-numbers-file.false _ _ c.in_err-request.ensures.whole)
+
+pub returns-clause-whole : goal.returns-clause-whole
+returns-clause-whole c =
+    batch_is _ _ _ (file_is c.next.result _ _ _ _ c.next.ensures.steps c.unwrap_or-file.ensures refl) _ _ c.is_hexadecimal.ensures
+    c.if-not-is_hexadecimal.false c.if-numbers-file.false _ _ c.in_ok-request.ensures.whole c.in_ok-request.ensures.none_left c.write_bytes.ensures

@@ -1,8 +1,18 @@
--- `journal::calls::letter` meets its contract: each field is taken from where the one before ended.
+-- `journal::calls::letter` meets its contract: a fault is kept.
 -- Assumes nothing.
-use Rattle.journal.proofs.CallLaws.{letter-is}
-use borrow.Author.Rules.{rules}
+use Rattle.journal.specs.Grammar.{letter_of}
+use Rattle.journal.specs.declared.fields.Kind.{Kind}
+use Rattle.journal.proofs.FieldLaws.{closed_late, field_fault}
 use Rattle.journal.proofs.calls.letter.Goals as goal
 
-pub returns : goal.returns
-returns c = search (letter-is, rules)
+pub returns-in_err-amount-clause-whole : goal.returns-in_err-amount-clause-whole
+unfolding letter_of
+returns-in_err-amount-clause-whole c =
+    closed_late c.from_residual.result _ _ _ c.from_residual.ensures.1
+    (field_fault Kind.Day _ _ (field_fault Kind.Day _ _ c.in_err-amount.ensures))
+
+pub returns-in_err-first-clause-whole : goal.returns-in_err-first-clause-whole
+unfolding letter_of
+returns-in_err-first-clause-whole c =
+    closed_late c.from_residual-in_err-first.result _ _ _ c.from_residual-in_err-first.ensures.1
+    (field_fault Kind.Day _ _ (rw c.in_ok-amount.ensures.1 at c.in_err-first.ensures))

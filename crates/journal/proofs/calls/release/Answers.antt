@@ -1,8 +1,18 @@
--- `journal::calls::release` meets its contract: each field is taken from where the one before ended.
+-- `journal::calls::release` meets its contract: a fault is kept.
 -- Assumes nothing.
-use Rattle.journal.proofs.CallLaws.{release-is}
-use borrow.Author.Rules.{rules}
+use Rattle.journal.specs.Grammar.{release_of}
+use Rattle.journal.specs.declared.fields.Kind.{Kind}
+use Rattle.journal.proofs.FieldLaws.{closed_late, field_fault}
 use Rattle.journal.proofs.calls.release.Goals as goal
 
-pub returns : goal.returns
-returns c = search (release-is, rules)
+pub returns-in_err-participant-clause-whole : goal.returns-in_err-participant-clause-whole
+unfolding release_of
+returns-in_err-participant-clause-whole c =
+    closed_late c.from_residual.result _ _ _ c.from_residual.ensures.1
+    (field_fault Kind.Natural _ _ (field_fault Kind.Natural _ _ c.in_err-participant.ensures))
+
+pub returns-in_err-position-clause-whole : goal.returns-in_err-position-clause-whole
+unfolding release_of
+returns-in_err-position-clause-whole c =
+    closed_late c.from_residual-in_err-position.result _ _ _ c.from_residual-in_err-position.ensures.1
+    (field_fault Kind.Natural _ _ (rw c.in_ok-participant.ensures.1 at c.in_err-position.ensures))

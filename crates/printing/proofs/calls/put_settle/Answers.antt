@@ -1,8 +1,10 @@
--- `printing::calls::put_settle` meets its contract: the figures come last.
+-- `printing::calls::put_settle` meets its contract: the words up to the month, and the figures.
 -- Assumes nothing.
-use Rattle.printing.proofs.LineLaws.{put-figures}
-use borrow.Author.Rules.{rules}
+use Rattle.std.proofs.Common.{[], ◌∷◌}
+use Rattle.words.specs.Text.{text}
+use Rattle.printing.specs.Decimals.{decimal}
+use Rattle.printing.specs.WrittenLaws.{joined_more}
 use Rattle.printing.proofs.calls.put_settle.Goals as goal
 
 pub returns : goal.returns
-returns c = search (put-figures, rules)
+returns c = joined_more _ _ _ (text "settle") (decimal c.args.p ∷ decimal c.args.month ∷ []) _ c.words.ensures c.each_spaced.ensures

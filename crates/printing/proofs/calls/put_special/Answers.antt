@@ -1,8 +1,7 @@
 -- `printing::calls::put_special` meets its contract: the name and then the seven lists.
 -- Assumes nothing.
-use Rattle.printing.specs.PlacedLaws.{put_first}
-use borrow.Author.Rules.{rules}
+use Rattle.printing.specs.WrittenLaws.{joined_one}
 use Rattle.printing.proofs.calls.put_special.Goals as goal
 
 pub returns : goal.returns
-returns c = search (put_first, rules)
+returns c = joined_one _ _ _ _ _ c.text.ensures c.put_lists.ensures

@@ -2,20 +2,17 @@
 -- Assumes nothing.
 use mathlib.Core.Path.{refl}
 use borrow.Author.Rules.{rules}
-use Rattle.special.proofs.Usable.{from-none, from_all, from-fits, from-marked, from-unmarked}
+use Rattle.special.proofs.Usable.{from-none, from-fits, from-marked, from-unmarked}
 use Rattle.special.proofs.rates.best_of.Goals as goal
 
 pub loop-i-init : goal.loop-i-init
-loop-i-init c = (search rules, from-none c.args.rates.now c.args.marks.now _ refl refl)
+loop-i-init c = from-none c.args.rates.now c.args.marks.now _ refl refl
 
 pub with-best-requires : goal.with-best-requires
 with-best-requires c = search (from-fits, rules)
 
 pub loop-i-preserved-then-mark_at-eq0 : goal.loop-i-preserved-then-mark_at-eq0
-loop-i-preserved-then-mark_at-eq0 c = (search rules, search (from-unmarked, rules))
+loop-i-preserved-then-mark_at-eq0 c = search (from-unmarked, rules)
 
 pub loop-i-preserved : goal.loop-i-preserved
-loop-i-preserved c = (search rules, search (from-marked, rules))
-
-pub returns : goal.returns
-returns c = search (from_all, rules)
+loop-i-preserved c = search (from-marked, rules)

@@ -1,11 +1,17 @@
--- `storage::texts::process_in` meets its contract: a number that no process has counts as none.
+-- `storage::texts::process_in` meets its contract: what is left of the text gives, behind the digits taken, what the whole text gives.
 -- Assumes nothing.
-use Rattle.storage.proofs.Bytes.{process-good, process-none}
 use Rattle.std.proofs.Common.{rules}
+use Rattle.storage.proofs.Numbers.{number-later, number-bad, number-here, number-none}
 use Rattle.storage.proofs.texts.process_in.Goals as goal
 
-pub returns-then-n-lt-NO_NUMBER : goal.returns-then-n-lt-NO_NUMBER
-returns-then-n-lt-NO_NUMBER c = search (process-good, rules)
+pub returns-then-byte-eq10 : goal.returns-then-byte-eq10
+returns-then-byte-eq10 c = search (number-here, rules)
 
-pub returns-else-n-lt-NO_NUMBER : goal.returns-else-n-lt-NO_NUMBER
-returns-else-n-lt-NO_NUMBER c = search (process-none, rules)
+pub returns-in_err-number : goal.returns-in_err-number
+returns-in_err-number c = search (number-bad, rules)
+
+pub loop-byte-preserved : goal.loop-byte-preserved
+loop-byte-preserved c = search (number-later, rules)
+
+pub returns : goal.returns
+returns c = search (number-none, rules)

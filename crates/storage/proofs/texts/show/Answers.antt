@@ -1,16 +1,12 @@
--- `storage::texts::show` meets its contract. The loop's invariant: the first i places are filled. The measure is the number of places left.
+-- `storage::texts::show` meets its contract: the bytes before the loop's place are shown.
 -- Assumes nothing.
-use Rattle.std.proofs.Common.{refl, arith, rules}
-use Rattle.laws.specs.Places.{filling-all}
-use Rattle.storage.proofs.Bytes.{shown-first, shown-next}
+use Rattle.std.proofs.Common.{rules, arith, get_or}
+use Rattle.std.proofs.lemmas.List.{get_or_default}
+use Rattle.std.proofs.lemmas.List.Edits.{map_over_more}
+use Rattle.storage.specs.Texts.{shown_byte}
 use Rattle.storage.proofs.texts.show.Goals as goal
 
-pub loop-i-init : goal.loop-i-init
-loop-i-init c = (refl, search (shown-first, rules))
-
-pub loop-i-preserved : goal.loop-i-preserved
-loop-i-preserved c = let inv = c.loop-i.invariant in
-    (search rules, shown-next _ _ _ _ _ _ inv.1 (omega (arith, c.loop-i-test, inv)) c.shown_at.ensures)
-
-pub returns : goal.returns
-returns c = record { out_after = filling-all _ _ _ _ _ c.loop-i.invariant.1 (omega arith); value = search rules }
+pub loop-byte-preserved : goal.loop-byte-preserved
+loop-byte-preserved c =
+    rw c.shown.ensures
+    (map_over_more shown_byte _ _ _ (get_or c.loop-byte.text c.loop-byte.byte-index 0) (omega arith) c.loop-byte.invariant (search (rules, get_or_default)))

@@ -1,12 +1,8 @@
--- `storage::texts::show` meets its contract. The loop's invariant: the first i places are filled. The measure is the number of places left.
+-- `storage::texts::show` meets its contract: the bytes before the loop's place are shown.
 -- Assumes nothing.
-use Rattle.std.proofs.Common.{◌≡◌, ◌-◌, length}
-use Rattle.laws.specs.Places.{Filling}
-use Rattle.storage.specs.Texts.{shown_padded}
+use Rattle.std.proofs.Common.{◌≡◌, ◌++◌, map, take, drop}
+use Rattle.storage.specs.Texts.{shown_byte}
 use Rattle.storage.proofs.texts.show.Given as goal
 
-abbrev pub invariant-loop-i : goal.invariant-loop-i
-invariant-loop-i l = (length l.out ≡ length l.initial.out) × Filling (length l.initial.out) l.i (shown_padded (length l.initial.out) l.text) l.initial.out l.out
-
-abbrev pub decreases-loop-i : goal.decreases-loop-i
-decreases-loop-i l = length l.initial.out - l.i
+abbrev pub invariant-loop-byte : goal.invariant-loop-byte
+invariant-loop-byte l = l.text ≡ map shown_byte (take l.byte-index l.initial.text) ++ drop l.byte-index l.initial.text

@@ -9,10 +9,10 @@ use Rattle.tables.proofs.monthly_example.sum_of.Goals as goal
 pub overflow_cast-result : goal.overflow_cast-result
 overflow_cast-result c = let f : Fits w32 c.args.settled = search rules in
     let e = c.sum_figures.ensures in
-    (sum-natural _ _ f e _ c.in-Total.is, sum_fits _ _ f e _ c.in-Total.is)
+    (sum-natural _ _ f e _ c.in-Ok.is, sum_fits _ _ f e _ c.in-Ok.is)
 
-pub returns-in-Total : goal.returns-in-Total
-returns-in-Total c = sum-magnitude _ _ (search rules) c.sum_figures.ensures _ c.in-Total.is
+pub returns-in-Ok : goal.returns-in-Ok
+returns-in-Ok c = sum-magnitude _ _ (search rules) c.sum_figures.ensures _ c.in-Ok.is
 
-pub returns-in-Refused : goal.returns-in-Refused
-returns-in-Refused c = sum-not-refused _ _ (search rules) c.sum_figures.ensures _ c.in-Refused.is
+pub returns-in-Err : goal.returns-in-Err
+returns-in-Err c = sum-not-refused _ _ (search rules) c.sum_figures.ensures _ c.in-Err.is

@@ -1,22 +1,21 @@
--- `words::line::place_of` meets its contract. The loop's invariant: the word's place is k and its place among the words that are left.
--- The measure is the number of bytes left.
+-- `words::line::place_of` meets its contract: the first of the words that is the same.
 -- Assumes nothing.
-use Rattle.words.proofs.WordLaws.{none_left, place_found, place_after, fewer_bytes, further-on}
-use native.Mathlib.Omega.{arith}
-use borrow.Author.Rules.{rules}
+use Rattle.std.proofs.Common.{rules, refl, inl, arith, ◌<◌, ◌∙◌, length, eqb}
+use Rattle.std.specs.Cmp.Lexicographic.{pointwise}
+use Rattle.std.proofs.lemmas.Iterator.Search.{position_from_yields_List}
+use Rattle.std.proofs.lemmas.Iterator.Consumers.{YieldsList-from_first}
+use borrow.Author.Tests.{tests}
+use Rattle.words.specs.Words.{words, left}
+use Rattle.words.proofs.WordLaws.{place_found, words_few}
 use Rattle.words.proofs.line.place_of.Goals as goal
 
-pub loop-at-init : goal.loop-at-init
-loop-at-init c = (search rules, search rules, omega arith)
+pub position-requires-clause-fits : goal.position-requires-clause-fits
+position-requires-clause-fits c =
+    let n : length c.args.names.now < 18446744073709551616 = search rules in
+    inl (omega (arith, words_few c.args.names.now))
 
-pub returns-then-start-end : goal.returns-then-start-end
-returns-then-start-end c = search (none_left, rules)
-
-pub returns-then-same : goal.returns-then-same
-returns-then-same c = search (place_found, rules)
-
-pub loop-at-smaller : goal.loop-at-smaller
-loop-at-smaller c = search (fewer_bytes, rules)
-
-pub loop-at-preserved : goal.loop-at-preserved
-loop-at-preserved c = (search rules, search (further-on, rules), search (place_after, rules))
+pub returns : goal.returns
+returns c =
+    position_from_yields_List (λ n. pointwise eqb c.args.w.now n) c.position.new.self _ _ c.position.ensures.ran
+    (YieldsList-from_first (λ x. x.now) left {s = record { text = c.args.names }} (words c.args.names.now) refl) (λ x b q k. search (rules, tests))
+    ∙ place_found c.args.w.now (words c.args.names.now)

@@ -1,16 +1,10 @@
--- `words::numbers::digits` meets its contract. The loop's invariant: the digits that are left, behind n, give the number that all digits
--- give, each held to the largest. The measure is the number of digits left.
+-- `words::numbers::digits` meets its contract: digits read one by one, each number held to the largest.
 -- Assumes nothing.
-use Rattle.words.proofs.NumberLaws.{digit-read, digits-read}
-use mathlib.Core.Path.{refl}
-use borrow.Author.Rules.{rules}
+use Rattle.std.proofs.Common.{rules, ◌≡◌, ◌∙◌, ◌+◌, ◌-◌, ◌*◌, min, fold}
+use Rattle.words.proofs.NumberLaws.{digits_folded}
 use Rattle.words.proofs.numbers.digits.Goals as goal
 
-pub loop-i-init : goal.loop-i-init
-loop-i-init c = (search rules, search rules, refl)
-
-pub loop-i-preserved : goal.loop-i-preserved
-loop-i-preserved c = (search rules, search rules, search (digit-read, rules))
-
 pub returns : goal.returns
-returns c = search (digits-read, rules)
+returns c =
+    let e : c.fold.result ≡ fold (λ n b. min (10 * n + (b - 48)) 18446744073709551615) 0 c.args.w.now = search rules in
+    e ∙ digits_folded c.args.w.now

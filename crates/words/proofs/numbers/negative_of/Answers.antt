@@ -1,11 +1,10 @@
--- `words::numbers::negative_of` meets its contract: its digits give the number, held to the largest of 64 bits and then of its type.
+-- `words::numbers::negative_of` meets its contract: the natural number's negative, held to the least of its type.
 -- Assumes nothing.
-use Rattle.words.proofs.NumberLaws.{a-negative, no-negative}
-use borrow.Author.Rules.{rules}
+use Rattle.std.proofs.Common.{rules, ◌≡◌, ◌∙◌, ap, option_map, pos, neg_ℤ, min}
+use Rattle.words.proofs.NumberLaws.{negated}
 use Rattle.words.proofs.numbers.negative_of.Goals as goal
 
-pub returns-then-is_natural : goal.returns-then-is_natural
-returns-then-is_natural c = search (a-negative, rules)
-
 pub returns : goal.returns
-returns c = search (no-negative, rules)
+returns c =
+    let e : c.map.result ≡ option_map (λ n. neg_ℤ (pos (min n 9223372036854775808))) c.natural_of.result = search rules in
+    e ∙ ap (option_map (λ n. neg_ℤ (pos (min n 9223372036854775808)))) c.natural_of.ensures ∙ negated c.args.w.now

@@ -1,14 +1,12 @@
--- `words::numbers::signed_of` meets its contract: the first byte decides.
+-- `words::numbers::signed_of` meets its contract: a minus stands before a negative number.
 -- Assumes nothing.
-use Rattle.words.proofs.NumberLaws.{signed-empty, signed-minus, signed-plain}
-use borrow.Author.Rules.{rules}
+use Rattle.std.proofs.Common.{rules}
+use Rattle.words.proofs.NumberLaws.{signed_empty, signed_minus, signed_plain}
+use Rattle.words.proofs.numbers.signed_of.Goals.{in_default-via-then-w-lt1, in_default-via-else-w-lt1+in_default-1}
 use Rattle.words.proofs.numbers.signed_of.Goals as goal
 
-pub returns-then-w-eq0 : goal.returns-then-w-eq0
-returns-then-w-eq0 c = search (signed-empty, rules)
+pub returns-in-45 : goal.returns-in-45
+returns-in-45 c = search (signed_minus, rules)
 
-pub returns-then-w-eq45 : goal.returns-then-w-eq45
-returns-then-w-eq45 c = search (signed-minus, rules)
-
-pub returns : goal.returns
-returns c = search (signed-plain, rules)
+pub returns-in_default : goal.returns-in_default
+returns-in_default c = elim c.in_default.branch [ in_default-via-then-w-lt1 w ↦ search (signed_empty, rules) | in_default-via-else-w-lt1+in_default-1 w ↦ search (signed_plain, rules) ]

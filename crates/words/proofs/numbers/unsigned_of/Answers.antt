@@ -1,11 +1,10 @@
--- `words::numbers::unsigned_of` meets its contract: its digits give the number, held to the largest of 64 bits and then of its type.
+-- `words::numbers::unsigned_of` meets its contract: the natural number, held to the largest of its type.
 -- Assumes nothing.
-use Rattle.words.proofs.NumberLaws.{an-unsigned, no_unsigned}
-use borrow.Author.Rules.{rules}
+use Rattle.std.proofs.Common.{rules, ◌≡◌, ◌∙◌, ap, option_map, pos, min}
+use Rattle.words.proofs.NumberLaws.{mapped}
 use Rattle.words.proofs.numbers.unsigned_of.Goals as goal
 
-pub returns-then-is_natural : goal.returns-then-is_natural
-returns-then-is_natural c = search (an-unsigned, rules)
-
 pub returns : goal.returns
-returns c = search (no_unsigned, rules)
+returns c =
+    let e : c.map.result ≡ option_map (λ n. pos (min n 9223372036854775807)) c.natural_of.result = search rules in
+    e ∙ ap (option_map (λ n. pos (min n 9223372036854775807))) c.natural_of.ensures ∙ mapped c.args.w.now

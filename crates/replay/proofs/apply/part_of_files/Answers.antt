@@ -1,8 +1,0 @@
--- `replay::apply::part_of_files` meets its contract: a start and a count that are clipped to the files' length take the same part.
--- Assumes nothing.
-use borrow.Author.Rules.{rules}
-use Rattle.replay.proofs.Replaying.{part-is}
-use Rattle.replay.proofs.apply.part_of_files.Goals as goal
-
-pub returns : goal.returns
-returns c = search (part-is, rules)
