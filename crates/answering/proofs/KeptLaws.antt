@@ -13,7 +13,8 @@ clipped_total most more s (k ∷ ks) h l =
     clipped_total most more (min (s + k) more) ks (omega arith) l ∙ omega arith
 
 -- How many numbers seven lists have.
-pub listed_is : (n : Lengths) (most all r : ℕ)
-    → all ≡ fold (λ (s k : ℕ). min (s + k) (2 ^ 64 - 1)) 0 (length_list n)
+pub listed_is : (n : Lengths) (ks : List ℕ) (most all r : ℕ) → ks ≡ length_list n
+    → all ≡ fold (λ (s k : ℕ). min (s + k) (2 ^ 64 - 1)) 0 ks
     → r ≡ min all most → most ≤ 2 ^ 64 - 1 → r ≡ min (total (length_list n)) most
-listed_is n most all r e h l = h ∙ ap (λ (z : ℕ). min z most) e ∙ clipped_total most (2 ^ 64 - 1) 0 (length_list n) (omega arith) l ∙ omega arith
+listed_is n ks most all r q e h l =
+    h ∙ ap (λ (z : ℕ). min z most) e ∙ ap (λ (l : List ℕ). min (fold (λ (s k : ℕ). min (s + k) (2 ^ 64 - 1)) 0 l) most) q ∙ clipped_total most (2 ^ 64 - 1) 0 (length_list n) (omega arith) l ∙ omega arith

@@ -5,9 +5,10 @@ ghost use Rattle.book.specs.Call.{batch, loaded_says};
 ghost use Rattle.book.specs.InWords.{GivenWords};
 ghost use Rattle.answering.specs.Asked.{byte_of, batch_bytes};
 
-use crate::rows::{parted, put_made};
+use crate::rows::put_made;
 use batch::Misfit;
 use book::load;
+use printing::parted;
 
 // The most bytes of a file.
 const MOST_BYTES: usize = 32768;
@@ -20,6 +21,7 @@ fn byte(z: i64) -> u8
 }
 
 // Loads the file whose n bytes stand as numbers at the front.
+// Kept: the words are asked to be a book, since `book::load`, which C calls too, takes lent words and asks the same.
 #[tactic(auto, unfolding(crate::specs::Asked::batch_bytes))]
 pub fn load_file(book: &mut [u64], numbers: &[i64], n: usize) -> Result<u32, Misfit>
     requires { WellFormed book.old }

@@ -6,15 +6,15 @@ ghost use Rattle.answering.specs.InWords.{AnsweredWords};
 
 use crate::batches::load_file;
 use crate::guarantee::guarantee;
-use crate::rows::parted;
 use crate::shown::{Shown, given};
 use calendar::{Day, LAST_DAY};
 use file::Position;
 use journal::Request;
-use printing::Answer;
+use printing::{Answer, parted};
 use refusal::Refusal;
 
 // A fresh book on a day; a refused one leaves the book as it was.
+// Kept: here and below the words are asked to be a book, as `book`'s calls but `fresh`, which C makes too, take lent words and ask it.
 fn begin(book: &mut [u64], day: Day) -> Answer
     requires { WellFormed book.old }
     ensures { AnsweredWords new_rule book.old 0 (Asked·fresh day.0) result book.new }
@@ -27,6 +27,7 @@ fn begin(book: &mut [u64], day: Day) -> Answer
 
 // The answer to a request, made on the book in its words: the numbers of the request's lists stand at the front of `numbers`, in a row; `line`
 // is the number of its line, which an error names.
+// Kept: a request and its row apart, here and below: the row is the whole lent slice, while `CallLine` holds the request's own numbers alone.
 pub fn apply(book: &mut [u64], request: Request, numbers: &[i64], line: u64) -> Answer
     requires { WellFormed book.old }
     ensures { AnsweredWords new_rule book.old line (asked request numbers.now) result book.new }

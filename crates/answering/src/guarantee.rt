@@ -3,8 +3,9 @@ ghost use Rattle.std.specs.Prelude.{◌≡◌, map, ◌≤◌, length, take};
 ghost use Rattle.special.specs.Guarantee.{special_guarantee};
 ghost use Rattle.answering.specs.Asked.{mark_of, semesters_of, guarantee_of};
 
-use crate::rows::{parted, put_made};
+use crate::rows::put_made;
 use journal::Lengths;
+use printing::parted;
 use refusal::Refusal;
 use special::{Lists, special_guarantee};
 

@@ -90,16 +90,7 @@ fn added(counts: &[usize]) -> usize
 fn listed(n: Lengths, most: usize) -> usize
     ensures { result ≡ min (total (length_list n)) most }
 {
-    let all = added(&[
-        n.medium,
-        n.low,
-        n.marks,
-        n.zero_medium,
-        n.zero_low,
-        n.excess_medium,
-        n.excess_low,
-    ]);
-    all.min(most)
+    added(&n.in_turn()).min(most)
 }
 
 // How many numbers at the front are those of a request's lists, or the most.
@@ -114,6 +105,7 @@ fn number_count(request: Request, most: usize) -> usize
 }
 
 // Writes the line of a kept call: its numeric form and a newline.
+// Kept: a request and its row apart: the row is the whole lent slice, while `CallLine` holds the request's own numbers alone.
 #[tactic(auto, unfolding(crate::specs::Kept::kept_line))]
 pub fn put_kept(out: &mut Out, request: Request, numbers: &[i64])
     ensures { out.new ≡ followed out.old (kept_line request numbers.now) }

@@ -2,7 +2,7 @@
 #![tactic(auto)]
 
 mod shown; // shown.rt: the answers of the book's calls as answers of the journal
-mod rows; // rows.rt: numbers in a row
+mod rows; // rows.rt: what a rule makes of numbers in a row
 mod guarantee; // guarantee.rt: the special guarantee of lists in a row
 mod batches; // batches.rt: a batch whose bytes stand as numbers in a row
 mod calls; // calls.rt: the application of one call
@@ -12,3 +12,4 @@ mod requests; // requests.rt: the request that a line of an input is
 pub use calls::{apply, apply_by_old_rule};
 pub use kept::{is_change, is_kept, is_refusal, is_role_retired, put_kept};
 pub use requests::request_of;
+pub use rows::put_made;

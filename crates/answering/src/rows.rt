@@ -1,21 +1,15 @@
-// Numbers in a row: a part of them, and what a rule makes of each.
-ghost use Rattle.std.specs.Prelude.{◌≡◌, ◌≤◌, map, length, take, drop, ℤ};
+// Numbers in a row: what a rule makes of each.
+ghost use Rattle.std.specs.Prelude.{◌≡◌, ◌≤◌, map, length, take};
+ghost use Rattle.std.proofs.lemmas.List.Edits.{sets};
 
-// The first n numbers of a row, or as many as there are, and the rest.
-pub fn parted(numbers: &[i64], n: usize) -> (&[i64], &[i64])
-    ensures front { result.0.now ≡ take n numbers.now }
-    ensures behind { result.1.now ≡ drop n numbers.now }
+// Puts what a rule makes of each value of a row to the front of a slice; the rest of the slice is left as it was.
+// Kept: by index: a `zip` of `iter_mut`, tried in `words::hex`, did not close: std says nothing of the elements behind it.
+pub fn put_made<S: Copy, T: Copy, F: Fn(S) -> T>(row: &[S], made: &mut [T], rule: F)
+    requires { (length row.now ≤ length made.old) × F.IsAlwaysCallable rule }
+    ensures front { (g : S → T) → ((x : S) (y : T) → F.post rule x y → y ≡ g x) → take (length row.now) made.new ≡ map g row.now }
+    ensures whole { (g : S → T) → ((x : S) (y : T) → F.post rule x y → y ≡ g x) → made.new ≡ sets made.old 0 (map g row.now) }
 {
-    numbers.split_at(n.min(numbers.len()))
-}
-
-// Puts what a rule makes of each number of a row to the front of a slice.
-pub fn put_made<T: Copy, F: Fn(i64) -> T>(numbers: &[i64], made: &mut [T], rule: F)
-    requires { (length numbers.now ≤ length made.old) × F.IsAlwaysCallable rule }
-    ensures { (g : ℤ → T) → ((z : ℤ) (y : T) → F.post rule z y → y ≡ g z)
-        → take (length numbers.now) made.new ≡ map g numbers.now }
-{
-    for (i, &z) in numbers.iter().enumerate() {
-        made[i] = rule(z);
+    for (i, &x) in row.iter().enumerate() {
+        made[i] = rule(x);
     }
 }

@@ -1,7 +1,8 @@
 // The answers of the book's calls, as answers of the journal.
 ghost use Rattle.std.specs.Prelude.{◌≡◌, MatchResult};
 ghost use Rattle.std.specs.Result.{ForOk};
-ghost use Rattle.file.specs.Answer.{Answer as Said·Answer, refused, refused_pair, done, annual, days_opened, says as Answer·says, settlement_says, statement_says};
+ghost use Rattle.file.specs.Answer.{Answer as Said·Answer, refused, refused_pair, done, annual, days_opened};
+ghost use Rattle.file.specs.Answer.{says as Answer·says, settlement_says, statement_says};
 ghost use Rattle.refusal.specs.Numbers.{number_of};
 ghost use Rattle.answering.specs.Shown.{shown};
 
@@ -11,6 +12,7 @@ use printing::Answer;
 use refusal::Refusal;
 
 // What the book answers, and how the journal shows it.
+// Kept: no From: `()` and a u32 are `done` and `opened` only as what a call gives, and the law `says` ties each to the specs' answers.
 pub trait Shown {
     ghost says: { Self → Said·Answer };
 
@@ -87,10 +89,7 @@ impl<T: Shown> Shown for Result<T, Refusal> {
     ghost says = { Answer·says T.says };
 
     fn shown(self) -> Answer {
-        match self {
-            Ok(value) => value.shown(),
-            Err(refusal) => refusal.shown(),
-        }
+        self.map_or_else(Shown::shown, Shown::shown)
     }
 }
 

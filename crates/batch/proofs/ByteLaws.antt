@@ -3,7 +3,7 @@
 use Prim.Native.Nat.{ℕ, suc, ◌+◌, ◌-◌, ◌<◌}
 use native.Mathlib.Omega.{arith}
 use mathlib.Core.Path.{◌≡◌, sym, ap, ◌∙◌}
-use mathlib.Core.List.{List}
+use mathlib.Core.List.{List, [], ◌∷◌}
 use borrow.Author.Tests.{ltb-true}
 use mir.Syntax.{w16, w32, w64}
 use mir.Val.{to_z}
@@ -19,13 +19,6 @@ module _ (file bytes : List ℕ) (at : ℕ) where
   -- a byte, where its place is counted up
   byte : (n : ℕ) → BytesAt file at n bytes → (i k : ℕ) → i < n → at + i ≡ k → get_or bytes i 0 ≡ get_or file k 0
   byte n b i k h e = b.each i h ∙ ap (λ (m : ℕ). get_or file m 0) e
-
-  pub le_two : BytesAt file at 2 bytes → from_le_bytes w16 bytes ≡ number_at file at 2
-  unfolding number_at
-  le_two b =
-      let b0 = byte 2 b 0 at (omega arith) (omega arith) in
-      let b1 = byte 2 b 1 (suc at) (omega arith) (omega arith) in
-      omega arith
 
   pub le_four : BytesAt file at 4 bytes → from_le_bytes w32 bytes ≡ number_at file at 4
   unfolding number_at
@@ -47,6 +40,27 @@ module _ (file bytes : List ℕ) (at : ℕ) where
       let b5 = byte 8 b 5 (suc (suc (suc (suc (suc at))))) (omega arith) (omega arith) in
       let b6 = byte 8 b 6 (suc (suc (suc (suc (suc (suc at)))))) (omega arith) (omega arith) in
       let b7 = byte 8 b 7 (suc (suc (suc (suc (suc (suc (suc at))))))) (omega arith) (omega arith) in
+      omega arith
+
+-- Bytes that are read one by one, of which some may be behind the end.
+module _ (file : List ℕ) (at : ℕ) where
+  -- a byte, where its place is counted up
+  behind : (x i k : ℕ) → x ≡ get_or file (at + i) 0 → at + i ≡ k → x ≡ get_or file k 0
+  behind x i k e f = e ∙ ap (λ (m : ℕ). get_or file m 0) f
+
+  pub two_bytes : (a b : ℕ) → a ≡ get_or file at 0 → b ≡ get_or file (at + 1) 0 → from_le_bytes w16 (a ∷ b ∷ []) ≡ number_at file at 2
+  unfolding number_at
+  two_bytes a b e f =
+      let second = behind b 1 (suc at) f (omega arith) in
+      omega arith
+
+  pub four_bytes : (a b c d : ℕ) → a ≡ get_or file at 0 → b ≡ get_or file (at + 1) 0 → c ≡ get_or file (at + 2) 0 → d ≡ get_or file (at + 3) 0
+      → from_le_bytes w32 (a ∷ b ∷ c ∷ d ∷ []) ≡ number_at file at 4
+  unfolding number_at
+  four_bytes a b c d e f g h =
+      let second = behind b 1 (suc at) f (omega arith) in
+      let third = behind c 2 (suc (suc at)) g (omega arith) in
+      let fourth = behind d 3 (suc (suc (suc at))) h (omega arith) in
       omega arith
 
 -- 64 bits from 2^63 on are a number below 0.

@@ -13,7 +13,7 @@ fn too_short(file: &[u8]) -> bool
     ensures { result ≡ too_short file.now }
 {
     let n = count(file);
-    file.len() < 4 || n < 1 || 64 < n || file.len() < 4 + 8 * (n as usize)
+    file.len() < 4 || !(1..=64).contains(&n) || file.len() < 4 + 8 * (n as usize)
 }
 
 // Whether a pair's part does not begin where it must.
@@ -45,6 +45,7 @@ fn first_wrong(file: &[u8]) -> Option<u32>
     ensures { result ≡ below (first_wrong file.now) (count_in file.now) }
 {
     let mut seen = [false; 256];
+    // Kept: no find as above: each step writes in `seen` what the next ones ask, and its closure would have to say so in a contract.
     for i in 0..count(file) {
         let pair = BatchReader::new(file).moved(i);
         let p = pair.participant() as usize;

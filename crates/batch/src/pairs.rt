@@ -13,6 +13,7 @@ pub fn month(file: &[u8]) -> u32
 }
 
 // The count of pairs.
+// Kept: as `month` but for the place; one function of both would be `number2` with its place, which they call.
 #[tactic(auto, unfolding(crate::specs::Batch::count_in))]
 pub fn count(file: &[u8]) -> u32
     ensures { result ≡ count_in file.now }

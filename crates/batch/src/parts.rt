@@ -9,6 +9,7 @@ use manual::figures::sum_of_figures;
 use refusal::Refusal;
 
 // A part: its participant, how many figures it has, and where it begins.
+// Kept: a place and a count, no slice (no plainer): the figures are numbers in bytes, and `PartIs` compares the offset with the pair's.
 #[derive(Clone, Copy, PartialEq, Eq)]
 pub struct Part {
     pub participant: u64,

@@ -8,7 +8,7 @@ use crate::pairs::count;
 use crate::parts::Part;
 
 // The lent file, and the index of a pair.
-// Kept: a place beside the file, since a slice from the pair on would lose the offsets, which count from the file's first byte.
+// Kept: the lent file and an index, the form that paper 01 names (a rule of the project); offsets count from the file's first byte.
 #[derive(Clone, Copy)]
 pub struct BatchReader<'a> {
     pub file: &'a [u8],
@@ -27,10 +27,7 @@ impl<'a> BatchReader<'a> {
     pub fn moved(self, at: u32) -> BatchReader<'a>
         ensures { (result.file ≡ self.entry.file) × (result.at ≡ at) }
     {
-        BatchReader {
-            file: self.file,
-            at,
-        }
+        BatchReader { at, ..self }
     }
 
     // The offset of the pair.
@@ -42,6 +39,7 @@ impl<'a> BatchReader<'a> {
     }
 
     // The length of the pair.
+    // Kept: as `offset` but for the place; one function of both would be `number4` with its place, which they call.
     #[tactic(auto, unfolding(crate::specs::Batch::length_at))]
     pub fn length(self) -> u32
         ensures { result ≡ length_at self.entry.file.now self.entry.at }

@@ -6,6 +6,7 @@ use file::{AnnualRun, Settled, Statement};
 use refusal::Refusal;
 
 // An answer of which a number goes into the check sum.
+// Kept: neither Numbered nor From: this sum's numbers are its own (1000, 2000, 3000), and the answers are other crates' types.
 pub trait Answer {
     // The number.
     fn number(self) -> u64;

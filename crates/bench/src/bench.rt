@@ -3,6 +3,7 @@ use crate::clock;
 use std::io;
 
 // Where times are asked for, the numbers that depend on the calls drawn are written too.
+// Kept: `timed` is a choice of its own, and says of no other field whether it holds a value.
 #[derive(Drop)]
 pub struct Bench {
     pub rt: HostRuntime,

@@ -11,7 +11,6 @@ use std::io;
 mod answers;
 mod batches;
 mod bench;
-mod book_words;
 mod calendar_opened;
 mod calls;
 mod clock;
@@ -21,6 +20,7 @@ mod participants;
 mod questions;
 
 // Whether the program was started with an argument besides its name.
+// Kept: as storage's is_argument at 1, which is private to a crate that the benchmark does not use.
 fn has_argument(rt: &HostRuntime) -> bool {
     !matches!(rt.arg(1, &mut [0u8; 1]), Err(FillError::NotPresent))
 }

@@ -1,9 +1,10 @@
 // Mixed calls in memory.
 use crate::answers::sum;
 use crate::bench::Bench;
-use crate::book_words::BookWords;
 use crate::draws::Draws;
-use crate::{calls, clock, participants};
+use crate::{calls, clock, participants, questions};
+use book::BookWords;
+use calendar::Day;
 use std::io;
 
 // A day to start on, and rounds of so many calls and one advance of so many days.
@@ -19,8 +20,8 @@ impl Plan {
     // A round: the calls drawn after a seed, and the advance. The sum of the answers.
     fn round(self, book: &mut BookWords, seed: u64) -> u64 {
         let drawn = Draws::after(seed).take(self.calls as usize);
-        let answers = sum(drawn.map(|draw| calls::make(book, draw)));
-        answers.wrapping_add(book.advance(29219, self.days))
+        let answers = sum(drawn.map(|draw| draw.make(book)));
+        answers.wrapping_add(calls::advance(book, self.days))
     }
 
     // The rounds. The sum of the answers.
@@ -39,13 +40,13 @@ impl Plan {
         println!(bench.rt;
             "mixed calls: from day {start}, rounds {rounds}, calls each {calls}, days after each {days}"
         )?;
-        print!(bench.rt; "  to day {}", book.today().0)?;
+        print!(bench.rt; "  to day {}", book::today(&book.words).0)?;
         if bench.timed {
             print!(bench.rt;
                 ", calls made {}, sum of the answers {sum}",
-                book.calls_made()
+                book::calls_made(&book.words)
             )?;
-            print!(bench.rt; ", sum of the statements {}", book.statements())?;
+            print!(bench.rt; ", sum of the statements {}", questions::of_all(book))?;
         }
         println!(bench.rt)
     }
@@ -53,7 +54,7 @@ impl Plan {
     // Measures the rounds for 64 participants with four letters each.
     pub fn run(self, bench: &Bench) -> io::Result<()> {
         let mut book = participants::admitted(4);
-        book.advance(self.start, 29219);
+        let _ = book::advance(&mut book.words, Day(self.start), 29219);
         let (sum, micros) = clock::timed(&bench.rt, || self.rounds(&mut book));
         self.report(bench, &book, sum)?;
         bench.took(micros)

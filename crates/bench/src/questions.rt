@@ -1,26 +1,32 @@
 // Questions in memory: statements and the count of calls made.
-use crate::answers::sum;
+use crate::answers::{Answer, sum};
 use crate::bench::Bench;
-use crate::book_words::BookWords;
 use crate::draws::Draws;
 use crate::participants;
+use book::BookWords;
+use calendar::Day;
 use std::io;
+
+// The statements of all participants. The sum of the answers.
+pub fn of_all(book: &BookWords) -> u64 {
+    sum((0..64).map(|participant| book::statement(&book.words, participant).number()))
+}
 
 // So many statements, of participants by drawn numbers. The sum of the answers.
 fn statements(book: &BookWords, count: u64) -> u64 {
     let drawn = Draws::after(0).take(count as usize);
-    sum(drawn.map(|draw| book.statement(draw.participant())))
+    sum(drawn.map(|draw| book::statement(&book.words, draw.participant()).number()))
 }
 
 // So many counts of calls made. The sum of the answers.
 fn counts(book: &BookWords, count: u64) -> u64 {
-    sum((0..count).map(|_| book.calls_made()))
+    sum((0..count).map(|_| book::calls_made(&book.words)))
 }
 
 // So many questions of each kind on a book of 64 participants with four letters each, on 5 September 2021.
 pub fn run(bench: &Bench, count: u64) -> io::Result<()> {
     let mut book = participants::admitted(4);
-    book.advance(613, 29219);
+    let _ = book::advance(&mut book.words, Day(613), 29219);
     bench.measure("statements", count, || statements(&book, count))?;
     bench.measure("counts", count, || counts(&book, count))
 }

@@ -1,6 +1,6 @@
 -- What the functions that load a batch ensure, part by part.
 -- Assumes nothing.
-use Rattle.std.specs.Prelude.{ℕ, zero, suc, ◌<◌, ◌≡◌, List, get_or, pos}
+use Rattle.std.specs.Prelude.{ℕ, zero, suc, ◌<◌, ◌≤◌, ◌≡◌, List, length, get_or, pos}
 use Rattle.batch.specs.Batch.{participant_at}
 use Rattle.file.specs.declared.Settled.{Settled}
 use Rattle.file.specs.declared.Settled.TheVariants.{Recorded}
@@ -19,6 +19,7 @@ unfoldable pub made_parts : Book → List ℕ → ℕ → Book
 made_parts b file zero = b
 made_parts b file (suc k) = step new_rule (made_parts b file k) (on (participant_at file k) (part_act file k))
 
--- The first k of these are the answers of the first k parts, so none of those is refused.
+-- There are k of these at least, and the first k are the answers of the first k parts, so none of those is refused.
 pub record Judges (b : Book) (file : List ℕ) (k : ℕ) (answers : List Settled) : Type 0 where
+  pub there : k ≤ length answers
   pub same : (j : ℕ) → j < k → settlement_says (get_or answers j (Recorded (pos 0))) ≡ judged b file j

@@ -13,11 +13,10 @@ ghost use Rattle.book.specs.InWords.{GivenWords};
 ghost use Rattle.book.specs.Settlements.{due_on};
 
 use crate::settlements::{due_on, put_settled};
-use crate::view::FileView;
+use crate::view::{FileView, today_of};
 use batch::{Misfit, form_of, month, part_at, sum_part};
-use calendar::{Day, Month};
+use calendar::Month;
 use file::Settled;
-use layout::parts::number;
 use refusal::Refusal;
 
 // What the settlement of a part answers on the book as it is, given whether a check of the batch's month is due.
@@ -38,29 +37,30 @@ fn part_answer(
 
 // Judges the parts of a batch on the book as it is: what their settlements leave, or the first refusal with its part's index.
 #[tactic(auto, using(crate::proofs::Functions::OnBatches::judgements))]
-fn judge(words: &[u64], file: &[u8], parts: u32) -> Result<[Settled; 64], Misfit>
-    requires { WellFormed words.now × (form_of file.now ≡ Ok parts) }
-    ensures { MatchResult result (λ answers. Judges (book_of_words words.now) file.now parts answers)
+fn judge(words: &[u64], file: &[u8], parts: u32, answers: &mut [Settled]) -> Result<(), Misfit>
+    requires { WellFormed words.now × (form_of file.now ≡ Ok parts) × (parts ≤ length answers.old) }
+    ensures { MatchResult result (λ _. Judges (book_of_words words.now) file.now parts answers.new)
         (λ m. refused_pair (number_of m.refusal) m.pair ≡ batch_says (Ok parts) (judged (book_of_words words.now) file.now)) }
 {
-    let due = due_on(Day(number(words[1])), Month(month(file)));
-    let mut answers = [Settled::Recorded(0); 64];
+    let due = due_on(today_of(words), Month(month(file)));
+    // Kept: an index (the new form is no plainer): a zip would keep it, since it names the pair that is read and the refusal's pair.
     for i in 0..parts {
         answers[i as usize] = part_answer(words, file, i, due).map_err(|refusal| Misfit {
             refusal,
             pair: i,
         })?;
     }
-    Ok(answers)
+    Ok(())
 }
 
 // Writes what the parts of a batch leave, in pair order.
 #[tactic(auto, using(crate::proofs::Functions::OnBatches::puts_parts))]
-fn put_parts(words: &mut [u64], file: &[u8], parts: u32, answers: &[Settled; 64])
+fn put_parts(words: &mut [u64], file: &[u8], parts: u32, answers: &[Settled])
     requires { WellFormed words.old × (form_of file.now ≡ Ok parts) × Judges (book_of_words words.old) file.now parts answers.now }
     ensures { WellFormed words.new
         × (book_of_words words.new ≡ made_parts (book_of_words words.old) file.now parts) }
 {
+    // Kept: an index (the new form is no plainer): a zip with the answers would keep it, since it names the pair that is read.
     for i in 0..parts {
         let participant = part_at(file, i).participant;
         put_settled(words, participant, Month(month(file)), answers[i as usize]);
@@ -74,7 +74,9 @@ pub fn load(words: &mut [u64], file: &[u8]) -> Result<u32, Misfit>
     ensures { GivenWords words.old (batch file.now) (loaded_says result) words.new }
 {
     let parts = form_of(file)?;
-    let answers = judge(words, file, parts)?;
+    // Kept: an array with the count of parts beside it (a rule of the project, no heap): a file has at most 64 parts.
+    let mut answers = [Settled::Recorded(0); 64];
+    judge(words, file, parts, &mut answers)?;
     put_parts(words, file, parts, &answers);
     Ok(parts)
 }

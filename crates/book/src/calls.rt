@@ -1,5 +1,5 @@
-// Admissions and annual runs (paper 01, 'The calls'; paper 02, Ask 3): an admission puts a new file, an annual run takes the file out of the words, calls its method,
-// and writes the next amount.
+// Admissions and annual runs (paper 01, 'The calls'; paper 02, Ask 3): an admission puts a new file, an annual run takes the file out of the words,
+// calls its method, and writes the next amount.
 ghost use Rattle.std.specs.Prelude.{◌≡◌, true, ◌≤◌};
 ghost use Rattle.layout.specs.Words.{book_of_words, file_in_words, today_in};
 ghost use Rattle.file.specs.Annual.{annual_answer};
@@ -11,11 +11,9 @@ ghost use Rattle.book.specs.Admissions.{PutsAdmission};
 ghost use Rattle.book.specs.InWords.{GivenWords, GivenFirstWords};
 ghost use Rattle.layout.specs.WellFormed.{WellFormed};
 
-use crate::view::{FileView, place};
-use calendar::Day;
+use crate::view::{FileView, place, today_of};
 use file::{AnnualRun, File, Outcome};
 use layout::files::{put_file, put_next};
-use layout::parts::number;
 use refusal::Refusal;
 
 // What an admission answers by the causes that both admission rules have: 1, 3 and 4.
@@ -40,7 +38,7 @@ fn put_admitted(words: &mut [u64], participant: u64, role: u64)
         × (accepted (answer old_rule (book_of_words words.old) (on participant (admit role))) ≡ true) }
     ensures { PutsAdmission words.old participant role words.new }
 {
-    let file = File::admitted(role, Day(number(words[1])));
+    let file = File::admitted(role, today_of(words));
     let made = words[2] + file.count as u64;
     put_file(words, place(participant), file);
     words[2] = made;
@@ -60,7 +58,8 @@ pub fn admit(words: &mut [u64], participant: u64, role: u64) -> Outcome
     Ok(())
 }
 
-// Admits a participant by the old admission rule, as a history's first stretch did (paper 02, Ask 3): for a replay of such calls, and for nothing else.
+// Admits a participant by the old admission rule, as a history's first stretch did (paper 02, Ask 3): for a replay of such calls, and for nothing
+// else.
 #[tactic(auto, using(crate::proofs::Functions::OnWords::by_both_rules))]
 pub fn admit_by_old_rule(words: &mut [u64], participant: u64, role: u64) -> Outcome
     requires { WellFormed words.old }

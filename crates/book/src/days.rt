@@ -9,11 +9,10 @@ ghost use Rattle.layout.specs.Words.{book_length, today_in, book_of_words};
 ghost use Rattle.layout.specs.WellFormed.{WellFormed};
 ghost use Rattle.book.specs.Opened.{files_opened, FilesStored};
 
-use crate::view::place;
+use crate::view::{place, today_of};
 use calendar::{Day, LAST_DAY};
 use file::File;
 use layout::files::{file_at, put_file};
-use layout::parts::number;
 use refusal::Refusal;
 
 // Opens a day for a file, where its participant is admitted.
@@ -44,6 +43,7 @@ fn open_days(files: &mut [File; 64], today: Day, days: u32)
     requires { All (Sound today.0) files.old × (today.0 + days ≤ 29219) }
     ensures { files.new ≡ files_opened days today.0 files.old }
 {
+    // Kept: over `today.0 + 1..today.0 + days + 1` the invariant did not close: today, of which it speaks, is no more among what the loop holds.
     for past in 0..days {
         open_day(files, Day(today.0 + past + 1));
     }
@@ -53,10 +53,11 @@ fn open_days(files: &mut [File; 64], today: Day, days: u32)
 fn is_outside(day: Day, today: Day) -> bool
     ensures { result ≡ (ltb 29219 day.0 || ltb day.0 today.0) }
 {
-    LAST_DAY < day.0 || day < today
+    !(today.0..=LAST_DAY).contains(&day.0)
 }
 
 // Reads the files of a book in words.
+// Kept: filled where it lies: an array made by from_fn would be handed back, and what an advance takes of the stack is stated (docs/EMBEDDING.md).
 #[tactic(auto, using(crate::proofs::Functions::FilesInWords::reads))]
 fn read_files(words: &[u64], files: &mut [File; 64])
     requires { length words.now ≡ book_length }
@@ -96,7 +97,7 @@ pub fn advance(words: &mut [u64], day: Day, budget: u64) -> Result<u32, Refusal>
     requires { WellFormed words.old }
     ensures { GivenWords words.old (advance day.0 budget) (advanced_says result) words.new }
 {
-    let today = Day(number(words[1]));
+    let today = today_of(words);
     if is_outside(day, today) {
         return Err(Refusal::DayOutOfRange);
     }

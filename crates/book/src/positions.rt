@@ -1,5 +1,6 @@
 // Lodgings and releases (paper 01, 'Lodge' and 'Release'): each reads the words that its causes ask for, and writes one position.
-ghost use Rattle.std.specs.Prelude.{◌≡◌, ◌≤◌, length, set, MatchResult};
+ghost use Rattle.std.specs.Prelude.{◌≡◌, ◌≤◌, ◌<◌, length, set, MatchResult};
+ghost use Rattle.refusal.specs.declared.Refusal.TheVariants.{NoSuchPosition};
 ghost use Rattle.refusal.specs.Numbers.{number_of};
 ghost use Rattle.file.specs.Answer.{refused, done, outcome_says};
 ghost use Rattle.file.specs.Lodge.{lodge_answer};
@@ -16,11 +17,22 @@ use crate::view::{FileView, place};
 use file::cover::cover;
 use file::holding::outside_amounts;
 use file::{Outcome, Position, Slot};
-use layout::rows::{Row, read_rows};
+use layout::rows::{put_row, read_rows};
 use refusal::Refusal;
 
 impl FileView<'_> {
     ghost use Rattle.book.specs.Seen.{file_seen, today_seen};
+
+    // What is held at a position: cause 5 refuses one above 7.
+    fn held(self, position: u64) -> Result<Position, Refusal>
+        ensures { MatchResult result (λ held. (position ≤ 7) × (held ≡ position_at (file_seen self.entry).slots position))
+            (λ r. (r ≡ NoSuchPosition) × (7 < position)) }
+    {
+        if 7 < position {
+            return Err(Refusal::NoSuchPosition);
+        }
+        Ok(self.position(position))
+    }
 
     // What a lodging answers: done, or the first of the causes 5, 6, 8 and 9 that holds.
     #[tactic(auto, unfolding(file::specs::Lodge::lodge_answer, laws::specs::Causes::decide))]
@@ -28,10 +40,7 @@ impl FileView<'_> {
         ensures { outcome_says result
             ≡ lodge_answer (file_seen self.entry) (today_seen self.entry) position holding }
     {
-        if 7 < position {
-            return Err(Refusal::NoSuchPosition);
-        }
-        if self.position(position).is_filled() {
+        if self.held(position)?.is_filled() {
             return Err(Refusal::PositionFilled);
         }
         if outside_amounts(holding.amount()) {
@@ -64,10 +73,7 @@ impl FileView<'_> {
             (λ left. (done ≡ release_answer f t position amount) × (left ≡ less_released amount (position_at f.slots position)))
             (λ r. refused (number_of r) ≡ release_answer f t position amount) }
     {
-        if 7 < position {
-            return Err(Refusal::NoSuchPosition);
-        }
-        let held = self.position(position);
+        let held = self.held(position)?;
         if !held.is_filled() {
             return Err(Refusal::PositionEmpty);
         }
@@ -90,7 +96,12 @@ fn put_position(words: &mut [u64], participant: u64, position: u64, holding: Pos
     requires { (length words.old ≡ book_length) × (participant ≤ 63) × (position ≤ 7) }
     ensures { PutsPosition words.old participant position holding words.new }
 {
-    Slot { position: holding }.put(words, place(participant) + (9 + 4 * position as usize));
+    put_row(
+        words,
+        place(participant),
+        position as usize,
+        Slot { position: holding },
+    );
 }
 
 // Lodges cash or a letter at a position of a participant's file.

@@ -7,10 +7,9 @@ ghost use Rattle.book.specs.Call.{statement, calls_made, stated_says};
 ghost use Rattle.book.specs.Account.{file_at};
 ghost use Rattle.book.specs.Reached.{Given};
 
-use crate::view::FileView;
+use crate::view::{FileView, today_of};
 use calendar::Day;
 use file::Statement;
-use layout::parts::number;
 use refusal::Refusal;
 
 // Today.
@@ -19,7 +18,7 @@ pub fn today(words: &[u64]) -> Day
     requires { WellFormed words.now }
     ensures { result ≡ (book_of_words words.now).today }
 {
-    Day(number(words[1]))
+    today_of(words)
 }
 
 // The count of calls made.
@@ -46,10 +45,7 @@ pub fn role(words: &[u64], participant: u64) -> u64
     requires { WellFormed words.now }
     ensures { result ≡ (file_at (book_of_words words.now) participant).role }
 {
-    let Ok(file) = FileView::of(words, participant) else {
-        return 0;
-    };
-    file.role()
+    FileView::of(words, participant).map_or(0, |file| file.role())
 }
 
 // The statement of a participant.

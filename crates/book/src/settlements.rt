@@ -17,7 +17,7 @@ use crate::view::{FileView, place};
 use calendar::{Day, Month, month_of};
 use file::settle::{check_due, outside_months};
 use file::{MonthTotal, OpenCall, Settled, ring_place};
-use layout::rows::Row;
+use layout::rows::{Row, put_row};
 use manual::figures::sum_figures;
 use manual::monthly::check;
 use refusal::Refusal;
@@ -83,6 +83,7 @@ impl FileView<'_> {
 }
 
 // Writes a month's total.
+// Kept: words and a place, here and below, as layout's `put_row` takes them: the C interface lends a book as one slice.
 fn put_month(words: &mut [u64], at: usize, month: Month, total: i64)
     requires { at + 97 ≤ length words.old }
     ensures { (words.new ≡ written words.old (at + (49 + 3 * (month.0 % 16))) (total_words (total_of month.0 total)))
@@ -93,33 +94,32 @@ fn put_month(words: &mut [u64], at: usize, month: Month, total: i64)
         month,
         total,
     };
-    recorded.put(words, at + (49 + 3 * ring_place(month)));
+    put_row(words, at, ring_place(month), recorded);
 }
 
-// Writes a call behind the first n, which are open.
-fn put_open_call(words: &mut [u64], at: usize, n: u64, amount: u64, last: Day)
+// Writes a call behind the first n, which are open. What a settlement that called leaves is said for any words, so for four open calls too.
+fn put_open_call(words: &mut [u64], at: usize, n: u64, call: OpenCall)
     requires { (at + 97 ≤ length words.old) × (n ≤ 4) }
     ensures { (words.new
-        ≡ set (written words.old (at + (41 + 2 * n)) (open_call_words (call_of amount last.0))) (at + 4) (n + 1))
-        × CallBack (call_of amount last.0) }
+        ≡ set (written words.old (at + (41 + 2 * n)) (open_call_words call)) (at + 4) (n + 1))
+        × CallBack call }
 {
-    OpenCall { amount, last }.put(words, at + (41 + 2 * n as usize));
+    call.put(words, at + (41 + 2 * n as usize));
     words[at + 4] = n + 1;
 }
 
 // Writes what a settlement that called leaves: the month's total, the call, and one more in the count of calls made.
-// Kept: a call's writers take the words and a number (the new form is no plainer): between their writes the words are no book, so no view holds of them.
-fn put_called(words: &mut [u64], participant: u64, month: Month, amount: u64, last: Day)
+// Kept: words and a number, here, in `put_settled`, `put_position` and `put_admitted`: a view lends the words shared, and these write them.
+fn put_called(words: &mut [u64], participant: u64, month: Month, call: OpenCall)
     requires { WellFormed words.old × (participant ≤ 63) }
-    ensures { (asked : ℕ) → PutsSettlement words.old participant month.0 (called amount asked last.0)
+    ensures { (asked : ℕ) → PutsSettlement words.old participant month.0 (called call.amount asked call.last.0)
         words.new }
 {
     let at = place(participant);
     let n = words[at + 4];
     let made = words[2] + 1;
-    let total = (amount % 9_223_372_036_854_775_808) as i64; // which is `amount`: no total is so large
-    put_month(words, at, month, total);
-    put_open_call(words, at, n, amount, last);
+    put_month(words, at, month, call.amount.cast_signed());
+    put_open_call(words, at, n, call);
     words[2] = made;
 }
 
@@ -131,7 +131,10 @@ pub fn put_settled(words: &mut [u64], participant: u64, month: Month, settled: S
 {
     let at = place(participant);
     match settled {
-        Settled::Called(amount, _, last) => put_called(words, participant, month, amount, last),
+        Settled::Called(amount, _, last) => {
+            put_called(words, participant, month, OpenCall { amount, last })
+        }
+        // Kept: two arms (tried, no proof closes): where an or-pattern binds a signed number, the prover meets ℕ where it expects ℤ.
         Settled::Covered(total) => put_month(words, at, month, total),
         Settled::Recorded(total) => put_month(words, at, month, total),
     }

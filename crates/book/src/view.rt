@@ -16,7 +16,7 @@ use file::release::release_floor;
 use file::{File, OpenCall, Position, Slot};
 use layout::files::{cover_at, file_at};
 use layout::parts::{flag, number};
-use layout::rows::{Row, read_rows};
+use layout::rows::{read_row, read_rows};
 use refusal::Refusal;
 
 // A participant's file in the words of a book: within its bounds today.
@@ -35,6 +35,14 @@ pub fn place(participant: u64) -> usize
     ensures { result ≡ place participant }
 {
     2 + 96 * participant as usize
+}
+
+// Today, by the words of a book.
+pub fn today_of(words: &[u64]) -> Day
+    requires { length words.now ≡ book_length }
+    ensures { result.0 ≡ today_in words.now }
+{
+    Day(number(words[1]))
 }
 
 impl<'a> FileView<'a> {
@@ -58,7 +66,8 @@ impl<'a> FileView<'a> {
     pub fn admitted(words: &'a [u64], participant: u64) -> Result<FileView<'a>, Refusal>
         requires { WellFormed words.now }
         ensures { MatchResult result
-            (λ v. (v.words.now ≡ words.now) × (v.participant ≡ participant) × (participant ≤ 63) × ((file_in_words words.now participant).admitted ≡ true))
+            (λ v. (v.words.now ≡ words.now) × (v.participant ≡ participant) × (participant ≤ 63)
+            × ((file_in_words words.now participant).admitted ≡ true))
             (λ r. RefusesAll words.now participant r) }
     {
         let file = FileView::of(words, participant)?;
@@ -87,10 +96,11 @@ impl<'a> FileView<'a> {
     pub fn today(self) -> Day
         ensures { result.0 ≡ today_seen self.entry }
     {
-        Day(number(self.words[1]))
+        today_of(self.words)
     }
 
     // Whether the participant is admitted.
+    // Kept: a method for each word, here and below (no plainer): `word` is the one for all, and a method names the field that it is.
     #[tactic(auto, unfolding(layout::specs::Files::file_of_words))]
     pub fn is_admitted(self) -> bool
         ensures { result ≡ (file_seen self.entry).admitted }
@@ -144,7 +154,7 @@ impl<'a> FileView<'a> {
         requires { k ≤ 7 }
         ensures { result ≡ position_at (file_seen self.entry).slots k }
     {
-        Slot::read(self.words, self.place() + (9 + 4 * k as usize)).position
+        read_row::<Slot>(self.words, self.place(), k as usize).position
     }
 
     // What its positions give from one day through another that isn't before it.
@@ -161,7 +171,7 @@ impl<'a> FileView<'a> {
     pub fn called_amounts(self) -> [u64; 4]
         ensures { result ≡ amounts_of (file_seen self.entry).calls }
     {
-        [self.word(41), self.word(43), self.word(45), self.word(47)]
+        read_rows::<OpenCall, 4>(self.words, self.place()).map(|call| call.amount)
     }
 
     // The file itself.

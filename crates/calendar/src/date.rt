@@ -14,16 +14,14 @@ pub struct Date {
 }
 
 // Whether there is such a date in 2020 to 2099.
+// Kept: three numbers, here and in `day_of_date`, since `words` reads them out of a word before it is known that there is such a date.
 #[tactic(auto, unfolding(crate::specs::Dates::is_date))]
 fn is_date(year: u32, month: u32, day: u32) -> bool
     ensures { result ≡ is_date year month day }
 {
-    2020 <= year
-        && year <= 2099
-        && 1 <= month
-        && month <= 12
-        && 1 <= day
-        && day <= length_in(year, month - 1)
+    (2020..=2099).contains(&year)
+        && (1..=12).contains(&month)
+        && (1..=length_in(year, month - 1)).contains(&day)
 }
 
 // The day of a date, where there is such a date in 2020 to 2099.

@@ -50,11 +50,8 @@ pub fn first_day(month: Month) -> Day
     }
     let year = m / 12;
     let place = m % 12;
-    let mut d = 365 * year + (year + 3) / 4;
-    for i in 0..place {
-        d += length_in(2020 + year, i);
-    }
-    Day(d)
+    let before: u32 = (0..place).map(|i| length_in(2020 + year, i)).sum();
+    Day(365 * year + (year + 3) / 4 + before)
 }
 
 // The day of the month, from 1; 0 for a day above the last.
@@ -75,7 +72,7 @@ pub fn day_of_month(day: Day) -> u32
 pub fn is_september(month: Month) -> bool
     ensures { result ≡ is_september month.0 }
 {
-    // Kept: a month is told by a match on month numbers with ranges, which is a rule of the project (as in `place_in_leap_year`).
+    // Kept: a match with ranges in place of `== 8`, since paper 01 names it: months are told by a match on their numbers with ranges.
     match month.0 % 12 {
         0..=7 => false,
         8 => true,
@@ -87,7 +84,7 @@ pub fn is_september(month: Month) -> bool
 fn is_october(month: Month) -> bool
     ensures { result ≡ eqb (place_of month.0) 9 }
 {
-    // Kept: as `is_september`; the two differ in a range's end, which a parameter would make a comparison.
+    // Kept: as `is_september`; the two differ in their ranges, which no parameter can give.
     match month.0 % 12 {
         0..=8 => false,
         9 => true,

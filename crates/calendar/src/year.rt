@@ -73,6 +73,7 @@ pub fn year_day(d: u32) -> YearDay
 pub fn place_in_leap_year(n: u32) -> u32
     ensures { result ≡ begun 11 n }
 {
+    // Kept: twelve ranges in place of a sorted list that is searched: paper 01 names it, a match on numbers with ranges.
     match n {
         0..=30 => 0,
         31..=59 => 1,

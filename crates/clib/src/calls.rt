@@ -1,5 +1,5 @@
 // The calls that change a book (paper 01, 'The calls', and paper 02).
-// Kept: by the C interface each call is lent the words anew, and asks that they are a book.
+// Kept: by the C interface each call is lent the words anew, and each but `guarantee_fresh` asks that they are a book.
 ghost use Rattle.file.specs.declared.Position.TheVariants.{Cash, Letter};
 ghost use Rattle.book.specs.Call.{admit, lodge, release, settle, annual_run, on, advance, batch};
 ghost use Rattle.book.specs.InWords.{GivenWords, BegunWords};

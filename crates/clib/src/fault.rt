@@ -8,6 +8,7 @@ use refusal::Refusal;
 pub const NOT_A_BOOK: u64 = 100;
 
 // The words are not as many as a book's, or the book refuses the call.
+// Kept: an error of its own, though of Option's shape: None would not say that the length is why, and a Result in a Result has two layers.
 #[derive(Clone, Copy)]
 pub enum Fault<E> {
     OtherLength,

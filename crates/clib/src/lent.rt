@@ -21,6 +21,7 @@ pub fn in_book<T, E, F: FnOnce(&mut [u64]) -> Result<T, E>>(
 }
 
 // What a question gives, which leaves the book as it was.
+// Kept: the twin of `in_book`, since no reference is shared or mutable by a parameter; a trait over both would be longer than these four lines.
 pub fn of_book<T, E, F: FnOnce(&[u64]) -> Result<T, E>>(
     words: &[u64],
     question: F,

@@ -11,6 +11,8 @@ mod lent; // lent.rt: a call on lent words
 mod numbers; // numbers.rt: answers as numbers
 mod questions; // questions.rt: the questions, and the special guarantee
 
+// Kept: numbers, with zeros beside what has no meaning, as C has no Option and no Result; a struct for each, as include/guarantee.h names them.
+
 // What a settlement answers: its kind is 1 called, 2 covered, 3 recorded; the month's total in cents; where it is called, the cents asked
 // beyond what is deposited, and the last free day.
 #[repr(C)]

@@ -1,8 +1,8 @@
 // Answers as numbers.
 ghost use Rattle.std.specs.Prelude.{◌≡◌};
 ghost use Rattle.file.specs.Answer.{done, annual, counted, batched, days_opened, settlement_says, statement_says};
-ghost use Rattle.clib.specs.Numbers.{lent_says, refusal_says, misfit_says, refusal_number, settled_numbers, batch_numbers, annual_numbers, advanced_numbers};
-ghost use Rattle.clib.specs.Numbers.{statement_numbers, count_numbers, day_numbers, special_numbers, SmallTotal};
+ghost use Rattle.clib.specs.Numbers.{lent_says, refusal_says, misfit_says, refusal_number, settled_numbers, batch_numbers, annual_numbers};
+ghost use Rattle.clib.specs.Numbers.{advanced_numbers, statement_numbers, count_numbers, day_numbers, special_numbers, SmallTotal};
 
 use crate::fault::{Fault, NOT_A_BOOK};
 use crate::{
@@ -20,6 +20,8 @@ pub fn outcome_number(answer: Result<(), Fault<Refusal>>) -> u64
 {
     answer.map_or_else(|fault| fault.number(), |()| 0)
 }
+
+// Kept: a conversion for each answer, here and below: C reads a struct of its own for each, and they share no field but the refusal.
 
 // A settlement's numbers; its total is a signed number of 64 bits, also where it is called.
 impl From<Result<Settled, Fault<Refusal>>> for GuaranteeSettled {

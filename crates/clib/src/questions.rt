@@ -1,5 +1,5 @@
 // The questions, which leave a book as it was, and the special guarantee, which needs none.
-// Kept: by the C interface each question is lent the words anew, and asks that they are a book.
+// Kept: by the C interface a question is lent the words anew, and asks that they are a book (`guarantee_check` asks nothing of them).
 ghost use Rattle.std.specs.Prelude.{◌≡◌};
 ghost use Rattle.special.specs.Guarantee.{special_guarantee};
 ghost use Rattle.book.specs.Call.{statement, calls_made};

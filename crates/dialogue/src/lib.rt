@@ -12,7 +12,7 @@ pub use lines::{answer_line, answer_lines};
 // in the place of a line lacks its newline and is an error, whether the first refusal or error is the last line, whether lines behind one
 // that is kept are taken before the journal's bytes are written, and whether they are those of a journal that is replayed, whose first stretch is
 // taken by the old admission rule (paper 02, Ask 3).
-// Kept: each is a choice of its own, and none says whether another field holds a value.
+// Kept: theorems and callers take any choice of the six flags; an enum of the ways that the ledger makes would be a narrower type.
 #[derive(Clone, Copy)]
 pub struct Way {
     pub keeps: bool,
@@ -36,6 +36,7 @@ pub struct Place {
 }
 
 // How far an input is taken, and how many bytes of a slice are.
+// Kept: a count of bytes beside the slice, since the caller moves what is left of its buffer to the front and reads on behind it.
 #[derive(Clone, Copy)]
 pub struct Progress {
     pub place: Place,

@@ -1,4 +1,5 @@
 // The lines of a slice, answered one after the other.
+// Kept: the two sheets side by side, here and below: each is written alone, and a struct of them would only be taken apart again.
 ghost use Rattle.std.specs.Prelude.{◌≡◌, ◌≤◌, ◌==◌, length, position};
 ghost use Rattle.layout.specs.WellFormed.{WellFormed};
 ghost use Rattle.answering.specs.Asked.{asked};
@@ -7,7 +8,7 @@ ghost use Rattle.dialogue.specs.Asks.{rule_at};
 ghost use Rattle.dialogue.specs.Answers.{space, state_of, Turned, LineTaken, NextLine, Answers};
 
 use crate::asks::ask;
-use crate::said::put_added;
+use crate::said::Turn;
 use crate::{Place, Progress, Way};
 use answering::{apply, apply_by_old_rule, is_kept, is_refusal};
 use journal::Request;
@@ -21,6 +22,7 @@ fn before_newline(input: &[u8]) -> Option<usize>
 }
 
 // How many bytes the next line has, if one more is taken and it is complete.
+// Kept: a way and a place apart, here, in `asks` and in `turns`, since the way stays while the place moves on with each line.
 fn next_line(way: Way, place: Place, rest: &[u8], journal: &Out, out: &Out) -> Option<usize>
     ensures { NextLine way place rest.now journal.now out.now result }
 {
@@ -32,6 +34,8 @@ fn next_line(way: Way, place: Place, rest: &[u8], journal: &Out, out: &Out) -> O
 }
 
 // The answer to a request, made on the book: by the old admission rule in the first stretch of a journal that is replayed, else by the new one.
+// Kept: here and below the words are asked to be a book, since `book`'s calls, which C makes too, take lent words and ask the same.
+// Kept: a request and its row apart, here and below: the row is the whole lent slice, while `CallLine` holds the request's own numbers alone.
 fn apply_at(
     way: Way,
     place: Place,
@@ -50,36 +54,22 @@ fn apply_at(
     }
 }
 
-// What a line with a request and an answer leaves: its bytes for the journal and for the answers behind those that are there, and the next place.
-fn put_turn(
-    way: Way,
-    place: Place,
-    request: Request,
-    answer: Answer,
-    numbers: &[i64],
-    book: &[u64],
-    journal: &mut Out,
-    out: &mut Out,
-) -> Place
-    requires { WellFormed book.now }
-    ensures { Turned way place request answer numbers.now book.now journal.old out.old result journal.new out.new }
-{
-    let taken = way.keeps && is_kept(answer);
-    let ends = way.ends_stretch(place, request, taken);
-    put_added(
-        request,
-        answer,
-        taken,
-        way.keeps && ends,
-        numbers,
-        book,
-        journal,
-        out,
-    );
-    place.further(taken, is_refusal(answer), ends)
+impl<'a> Turn<'a> {
+    // What the line leaves: its bytes for the journal and for the answers behind those that are there, and the next place.
+    fn put(self, way: Way, place: Place, journal: &mut Out, out: &mut Out) -> Place
+        requires { WellFormed self.book.now }
+        ensures { Turned way place self.entry.request self.entry.answer self.entry.numbers.now self.entry.book.now journal.old out.old result
+            journal.new out.new }
+    {
+        let taken = way.keeps && is_kept(self.answer);
+        let ends = way.ends_stretch(place, self.request, taken);
+        self.put_added(taken, way.keeps && ends, journal, out);
+        place.further(taken, is_refusal(self.answer), ends)
+    }
 }
 
 // Answers one line; its bytes for the journal and for the answers are put behind those that are there.
+// Kept: lent one by one, here and below: `ask` changes the numbers, `apply` the book and `Turn` the two sheets, each without the others.
 pub fn answer_line(
     book: &mut [u64],
     place: Place,
@@ -101,7 +91,13 @@ pub fn answer_line(
         numbers,
         place.line.wrapping_add(1),
     );
-    put_turn(way, place, request, answer, numbers, book, journal, out)
+    let turn = Turn {
+        request,
+        numbers,
+        answer,
+        book,
+    };
+    turn.put(way, place, journal, out)
 }
 
 // Answers the complete lines of a slice, as long as one more is taken: the bytes for the journal and those of the answers, in place of those that

@@ -1,4 +1,5 @@
 // What one line adds to the answers, and to the journal.
+// Kept: the two sheets side by side, here and below: each is written alone, and a struct of them would only be taken apart again.
 ghost use Rattle.std.specs.Prelude.{◌≡◌, [], if◌then◌else◌};
 ghost use Rattle.printing.specs.Written.{followed};
 ghost use Rattle.layout.specs.Words.{book_of_words};
@@ -36,6 +37,7 @@ fn put_said(out: &mut Out, answer: Answer)
 }
 
 // The table for people, where it is asked for.
+// Kept: here and below the words are asked to be a book, since `report` takes lent words and asks the same.
 #[tactic(auto, using(crate::proofs::LineLaws::tabled_short, printing::specs::WrittenLaws::followed_none), unfolding(crate::specs::Said::tabled))]
 fn put_tabled(out: &mut Out, request: Request, book: &[u64])
     requires { WellFormed book.now }
@@ -47,6 +49,7 @@ fn put_tabled(out: &mut Out, request: Request, book: &[u64])
 }
 
 // The line of a call where it is kept, or nothing.
+// Kept: a request and its row apart: the row is the whole lent slice, while `CallLine` holds the request's own numbers alone.
 #[tactic(auto, using(printing::specs::WrittenLaws::followed_none))]
 fn put_kept_if(kept: bool, journal: &mut Out, request: Request, numbers: &[i64])
     ensures { journal.new ≡ followed journal.old (if kept then kept_line request numbers.now else []) }
@@ -56,23 +59,26 @@ fn put_kept_if(kept: bool, journal: &mut Out, request: Request, numbers: &[i64])
     }
 }
 
-// What a line adds to the journal, `role-retired` where it ends the first stretch and its own line where it is kept, and to the answers, each behind
-// what is there.
-pub fn put_added(
-    request: Request,
-    answer: Answer,
-    taken: bool,
-    ends: bool,
-    numbers: &[i64],
-    book: &[u64],
-    journal: &mut Out,
-    out: &mut Out,
-)
-    requires { WellFormed book.now }
-    ensures { Added request answer taken ends numbers.now book.now journal.old out.old journal.new out.new }
-{
-    put_kept_if(ends, journal, Request::RoleRetired, numbers);
-    put_kept_if(taken, journal, request, numbers);
-    put_said(out, answer);
-    put_tabled(out, request, book);
+// What a line asks, with the numbers of its lists in a row, what it is answered, and the words of the book that it leaves.
+#[derive(Clone, Copy)]
+pub struct Turn<'a> {
+    pub request: Request,
+    pub numbers: &'a [i64],
+    pub answer: Answer,
+    pub book: &'a [u64],
+}
+
+impl<'a> Turn<'a> {
+    // What the line adds to the journal, `role-retired` where it ends the first stretch and its own line where it is kept, and to the answers,
+    // each behind what is there.
+    pub fn put_added(self, taken: bool, ends: bool, journal: &mut Out, out: &mut Out)
+        requires { WellFormed self.book.now }
+        ensures { Added self.entry.request self.entry.answer taken ends self.entry.numbers.now self.entry.book.now journal.old out.old
+            journal.new out.new }
+    {
+        put_kept_if(ends, journal, Request::RoleRetired, self.numbers);
+        put_kept_if(taken, journal, self.request, self.numbers);
+        put_said(out, self.answer);
+        put_tabled(out, self.request, self.book);
+    }
 }

@@ -1,4 +1,5 @@
 // How far lines are taken: where the next one begins, whether it is taken, and by which rule.
+// Kept: the two sheets side by side, here and below: each is written alone, and a struct of them would only be taken apart again.
 ghost use Rattle.std.specs.Prelude.{◌≡◌, ◌&&◌};
 ghost use Rattle.dialogue.specs.Turns.{ends_stretch, further, ended};
 ghost use Rattle.dialogue.specs.Answers.{goes_on};
@@ -8,7 +9,8 @@ use answering::is_role_retired;
 use journal::Request;
 use printing::Out;
 
-// The most bytes that one line adds to the journal and to the answers.
+// The most bytes that one line adds to the journal and to the answers. `MOST` in serving/src/replay.rt is the first of them too: what stands
+// behind a journal's last newline and is as long is no rest of a kept line.
 const MOST_KEPT: usize = 20480;
 
 const MOST_SAID: usize = 16384;

@@ -24,6 +24,7 @@ impl File {
         requires { end.0 - first.0 ≤ 12 }
         ensures { result.now ≡ totals_from (total_at self.now.totals) first.0 (end.0 - first.0) }
     {
+        // Kept: the totals go into lent room: `annual_amount` takes a list of them, and the project has no heap to collect one.
         let mut count = 0;
         let months = months_between(first, end);
         for passed in 0..months {

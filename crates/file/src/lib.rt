@@ -29,14 +29,14 @@ pub struct Slot {
 }
 
 // An open call: its amount and its last free day.
-#[derive(Clone, Copy)]
+#[derive(Clone, Copy, PartialEq, Eq)]
 pub struct OpenCall {
     pub amount: u64,
     pub last: Day,
 }
 
-// The next amount, set or unset; an unset one has the amount 0.
-// Kept: a book's words may hold an amount beside an unset flag, which an Option would lose.
+// The next amount, set or unset. One that calls left unset has the amount 0; words that are lent may hold another.
+// Kept: the C interface lends a book as words, which may hold an amount beside an unset flag; an Option would lose it.
 #[derive(Clone, Copy)]
 pub struct NextAmount {
     pub set: bool,
@@ -44,7 +44,7 @@ pub struct NextAmount {
 }
 
 // A month's total, where one is recorded.
-// Kept: a book's words may hold a month and a total beside an unset flag, which an Option would lose.
+// Kept: the C interface lends a book as words, which may hold a month and a total beside an unset flag; an Option would lose them.
 #[derive(Clone, Copy)]
 pub struct MonthTotal {
     pub recorded: bool,
@@ -61,10 +61,11 @@ pub fn ring_place(month: Month) -> usize
 
 // A participant's file. The open calls are the first `count` of `calls`, oldest first, with zeros behind them; a month's total, where
 // recorded, is at its `ring_place` of `totals`.
-// Kept: `admitted` and `count`, since well-formed words hold zeros behind the open calls, and nothing at all where nobody is admitted.
+// Kept: `admitted` and `count`: by the C interface a file is read from any words, whatever they hold; a list of the open calls needs a heap.
 #[derive(Clone, Copy)]
 pub struct File {
     pub admitted: bool,
+    // Kept: the role is a number, since the C interface lends it as a word, of which a well-formed book may hold any.
     pub role: u64,
     pub firm: u64,
     pub slots: [Slot; 8],

@@ -50,6 +50,7 @@ impl File {
         let open = &before[..self.count];
         self.calls = [OpenCall::NONE; 4];
         self.count = 0;
+        // Kept: the calls that stay are written into the array of four, since the project has no heap for a filtered list.
         for call in open {
             if call.ends_at(day) {
                 self.firm = self.firm.max(call.amount);
@@ -89,7 +90,7 @@ impl File {
         requires { Sound (day.0 - 1) self × (1 ≤ day.0) × (day.0 ≤ 29219) }
         ensures { result ≡ opened_file self day.0 }
     {
-        // Kept: an opening takes the file and hands back the changed one, a rule of the project.
+        // Kept: here and in `annual_run`, paper 01 names it: the file is taken and the changed one handed back.
         self.open_day(day);
         self
     }

@@ -9,8 +9,8 @@ use native.Mathlib.Numerals.{add-one}
 use lib.Dec.{leb}
 use lib.ListN.{length, get_or}
 use lib.Seq.{ext_get_or, get_or-append-add}
-use mir.Syntax.{w64}
-use mir.Val.{Fits}
+use Rattle.std.specs.List.{sum_by, range_with_len}
+use Rattle.std.proofs.lemmas.List.Sums.{sum_by-cons}
 use Rattle.laws.specs.Lists.{table}
 use Rattle.laws.specs.Tabulated.{length-table, get_d-table, map-table, all-table, table-all}
 use Rattle.file.specs.declared.File.{File}
@@ -33,31 +33,40 @@ open_more zero g = omega arith
 open_more (suc n) g = omega (arith, open_more n (λ k. g (suc k)))
 
 -- No file has no calls.
-pub open_none : (l : List ℕ) → 0 ≡ open_below l 0
+open_none : (l : List ℕ) → 0 ≡ open_below l 0
 unfolding open_below open_count
 open_none l = refl
 
 -- The next file's calls are added.
-pub open_turn : (l : List ℕ) (i o : ℕ) → o ≡ open_below l i → o + get_or l (2 + 96 * i + 4) 0 ≡ open_below l (i + 1)
+open_turn : (l : List ℕ) (i o : ℕ) → o ≡ open_below l i → o + get_or l (2 + 96 * i + 4) 0 ≡ open_below l (i + 1)
 unfolding open_below file_of_words
 open_turn l i o e = rw (add-one i) (omega (arith, open_more i (λ p. file_in_words l p)))
 
--- A file has at most four.
-count_small : (l : List ℕ) (i : ℕ) → Below 64 (CountAt l) → i < 64 → get_or l (2 + 96 * i + 4) 0 ≤ 4
+-- How many calls a file has open.
+abbrev pub count_in : List ℕ → ℕ → ℕ
+count_in l i = get_or l (2 + 96 * i + 4) 0
+
+-- The calls of n files from file a on are added.
+open_ahead : (l : List ℕ) (a n : ℕ) → open_below l a + sum_by (count_in l) (range_with_len a n) ≡ open_below l (a + n)
+open_ahead l a zero = let e : a + 0 ≡ a = omega arith in rw e (omega arith)
+open_ahead l a (suc n) =
+    let e : a + suc n ≡ a + 1 + n = omega arith in
+    rw e (omega (arith, sum_by-cons (count_in l) a (range_with_len (a + 1) n), open_turn l a (open_below l a) refl, open_ahead l (a + 1) n))
+
+-- So the sum over all files counts the open calls.
+pub open_all : (l : List ℕ) → sum_by (count_in l) (range_with_len 0 64) ≡ open_below l 64
+open_all l = omega (arith, open_none l, open_ahead l 0 64)
+
+-- A file has at most four, so n of them have at most 4 * n.
+small_ahead : (l : List ℕ) (a n : ℕ) → Below 64 (CountAt l) → a + n ≤ 64 → sum_by (count_in l) (range_with_len a n) ≤ 4 * n
 unfolding Below
-count_small l i b h = b i h
+small_ahead l a zero b h = omega arith
+small_ahead l a (suc n) b h =
+    omega (arith, sum_by-cons (count_in l) a (range_with_len (a + 1) n), b a (omega arith), small_ahead l (a + 1) n b (omega arith))
 
--- So the sum is at most four for each file.
-pub open-small : (l : List ℕ) (i o : ℕ) → Below 64 (CountAt l) → i < 64 → o ≤ 4 * i → o + get_or l (2 + 96 * i + 4) 0 ≤ 4 * (i + 1)
-open-small l i o b h k = omega (arith, count_small l i b h)
-
--- So it fits.
-pub open-fits : (l : List ℕ) (i o : ℕ) → Below 64 (CountAt l) → i < 64 → o ≤ 4 * i → Fits w64 (o + get_or l (2 + 96 * i + 4) 0)
-open-fits l i o b h k = record { fits = omega (arith, count_small l i b h) }
-
--- All files are passed.
-pub open-all : (l : List ℕ) (i o : ℕ) → 64 ≤ i → i ≤ 64 → o ≡ open_below l i → o ≡ open_below l 64
-open-all l i o h k e = let q : i ≡ 64 = omega arith in e ∙ ap (open_below l) q
+-- All 64 have at most 256.
+pub open_small : (l : List ℕ) → Below 64 (CountAt l) → sum_by (count_in l) (range_with_len 0 64) ≤ 256
+open_small l b = small_ahead l 0 64 b (omega arith)
 
 -- ---- the words of the files one after another
 

@@ -1,15 +1,16 @@
 // Whether the words of a file are those of a file within its bounds.
 ghost use Rattle.std.specs.Prelude.{◌≡◌, ◌+◌, ◌*◌, ◌≤◌, ◌<◌, length};
-ghost use Rattle.layout.specs.Files.{words_at, slot_in, call_in};
+ghost use Rattle.layout.specs.Files.{words_at};
 ghost use Rattle.formed.specs.Decides.{Decides, Below};
 ghost use Rattle.formed.specs.Checks.{SlotAt, CallAt, TotalAt, SoundAmounts, SoundAt, Canonical, Blank, FormedFile};
 
 use crate::parts::{BOUND, is_sound_call, is_sound_position};
 use file::{OpenCall, Slot};
 use layout::files::{file_at, put_file};
-use layout::rows::Row;
+use layout::rows::{Row, read_row};
 
 // The words of a file behind a place, and the day on which they are judged.
+// Kept: beside `book::FileView`, whose words are a book's and sound: here neither is known yet.
 #[derive(Clone, Copy)]
 pub struct FileWords<'a> {
     words: &'a [u64],
@@ -36,20 +37,12 @@ impl<'a> FileWords<'a> {
         self.words[self.at + k]
     }
 
-    // Slot k of the file.
-    fn slot(self, k: usize) -> Slot
-        requires { k < 8 }
-        ensures { result ≡ slot_in self.entry.words.now (self.entry.at + (9 + 4 * k)) }
+    // The file's row k.
+    fn row<R: Row>(self, k: usize) -> R
+        requires { (R.PLACE + R.WORDS * R.COUNT ≤ 97) × (k < R.COUNT) }
+        ensures { result ≡ R.row_in self.entry.words.now (self.entry.at + (R.PLACE + R.WORDS * k)) }
     {
-        Slot::read(self.words, self.at + (9 + 4 * k))
-    }
-
-    // The file's call k.
-    fn call(self, k: usize) -> OpenCall
-        requires { k < 4 }
-        ensures { result ≡ call_in self.entry.words.now (self.entry.at + (41 + 2 * k)) }
-    {
-        OpenCall::read(self.words, self.at + (41 + 2 * k))
+        read_row(self.words, self.at, k)
     }
 
     // Whether the eight slots are sound.
@@ -59,7 +52,7 @@ impl<'a> FileWords<'a> {
         (0..8).all(
             |k|
                 requires { k < 8 }
-            { is_sound_position(self.slot(k).position) },
+            { is_sound_position(self.row::<Slot>(k).position) },
         )
     }
 
@@ -70,7 +63,7 @@ impl<'a> FileWords<'a> {
         (0..4).all(
             |k|
                 requires { k < 4 }
-            { is_sound_call(self.call(k), (k as u64) < self.word(4)) },
+            { is_sound_call(self.row::<OpenCall>(k), (k as u64) < self.word(4)) },
         )
     }
 

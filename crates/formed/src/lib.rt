@@ -28,11 +28,13 @@ fn open_calls(words: &[u64]) -> u64
     requires { (length words.now ≡ 6147) × Below 64 (CountAt words.now) }
     ensures { (result ≡ open_below words.now 64) × (result ≤ 256) }
 {
-    let mut count = 0;
-    for p in 0..64 {
-        count += words[2 + 96 * p + 4];
-    }
-    count
+    (0..64)
+        .map(
+            |p|
+                requires { (length words.now ≡ 6147) × (p < 64) }
+            { words[2 + 96 * p + 4] },
+        )
+        .sum()
 }
 
 // Whether words are a book: what a saved book is asked before it is used.

@@ -4,7 +4,7 @@ ghost use Rattle.file.specs.Sound.{SoundPosition};
 ghost use Rattle.formed.specs.Decides.{Decides};
 ghost use Rattle.formed.specs.Checks.{SoundPlaced};
 
-use calendar::{Day, LAST_DAY};
+use calendar::LAST_DAY;
 use file::{OpenCall, Position};
 
 // The largest amount of a position, 10^12 cents.
@@ -19,9 +19,9 @@ pub fn is_sound_position(position: Position) -> bool
 {
     match position {
         Position::Empty => true,
-        Position::Cash(amount) => 1 <= amount && amount <= LARGEST,
+        Position::Cash(amount) => (1..=LARGEST).contains(&amount),
         Position::Letter(amount, first, last) => {
-            1 <= amount && amount <= LARGEST && first <= last && last.0 <= LAST_DAY
+            (1..=LARGEST).contains(&amount) && first <= last && last.0 <= LAST_DAY
         }
     }
 }
@@ -33,6 +33,6 @@ pub fn is_sound_call(call: OpenCall, is_open: bool) -> bool
     if is_open {
         call.amount <= BOUND && call.last.0 <= LAST_DAY + 10
     } else {
-        call.amount == 0 && call.last == Day(0)
+        call == OpenCall::NONE
     }
 }

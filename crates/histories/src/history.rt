@@ -5,6 +5,7 @@ ghost use Rattle.std.specs.Prelude.{◌≡◌, min};
 use crate::text::{Number, Numbers};
 use calendar::Day;
 use std::alloc::{AllocError, Global};
+use std::iter;
 
 // The most calls of a history that are made, and the most figures and bytes of files that are kept.
 const MOST_CALLS: u64 = 400;
@@ -14,12 +15,13 @@ const MOST_FIGURES: usize = 4096;
 const MOST_BYTES: usize = 8192;
 
 // The calls that have a list: a settlement its figures, a batch the bytes of its file.
-// Kept: the book replays words, and a call's first word is the number of its kind.
+// Kept: numbers for kinds, here and in read_call: replay is lent the calls as words, six for each, of which the first is the kind.
 const SETTLE: u64 = 4;
 
 const BATCH: u64 = 8;
 
 // A history. Each call has six words; a settlement's figures are a part of `figures`, and a batch's file is a part of `files`.
+// Kept: lists with places in them, since replay is lent the calls as words, of which none can lend a slice.
 #[derive(Drop)]
 pub struct History {
     pub start: u64,
@@ -53,7 +55,7 @@ impl History {
     pub fn start_day(&self) -> Day
         ensures { result.0 ≡ min self.now.start 4294967295 }
     {
-        Day(u32::try_from(self.start).unwrap_or(u32::MAX))
+        Day(replay::clipped(self.start))
     }
 
     // Reads one call: its six words, and its list, of which two of the words say where it stands and how long it is.
@@ -90,7 +92,8 @@ impl History {
     }
 }
 
-// Reads so many numbers of a call's list, each as what is kept of it, and keeps them behind those that are kept, up to the most that are kept.
+// Reads so many numbers of a call's list, zeros behind the text's end, each as what is kept of it, and keeps them behind those that are kept,
+// up to the most that are kept.
 fn read_list<K: Drop, F: Fn(Number) -> K>(
     kept: &mut Vec<K>,
     numbers: &mut Numbers,
@@ -100,8 +103,8 @@ fn read_list<K: Drop, F: Fn(Number) -> K>(
 ) -> Result<(), AllocError>
     requires { F.IsAlwaysCallable keep }
 {
-    for _ in 0..count {
-        let number = numbers.next();
+    let padded = numbers.by_ref().chain(iter::repeat(Number::ZERO));
+    for number in padded.take(count as usize) {
         if kept.len() < most {
             kept.push(keep(number))?;
         }

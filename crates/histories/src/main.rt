@@ -3,7 +3,7 @@
 #![tactic(auto)]
 
 use history::History;
-use std::io::{BufWriter, Write};
+use std::io::{BufWriter, ErrorKind, Write};
 use std::{fs, io};
 
 mod history; // history.rt: a history, read from its text
@@ -36,8 +36,10 @@ fn play_all(rt: &HostRuntime) -> io::Result<()> {
     let mut to = BufWriter::new(rt.alloc(), io::writer(rt))?;
     for number in 0..1000 {
         let name = format!(in rt.alloc(); "h{number:03}")?;
-        let Ok(text) = fs::read_to_string(rt, name.as_str()) else {
-            break;
+        let text = match fs::read_to_string(rt, name.as_str()) {
+            Ok(text) => text,
+            Err(error) if error.kind() == ErrorKind::OutOfMemory => return Err(error),
+            Err(_) => break,
         };
         let history = History::read(rt.alloc(), text.as_str())?;
         play(rt, &history, &mut to)?;
@@ -45,7 +47,10 @@ fn play_all(rt: &HostRuntime) -> io::Result<()> {
     to.flush()
 }
 
-// A write or an allocation that fails ends the histories, and changes nothing else.
-fn main(rt: HostRuntime) {
-    let _ = play_all(&rt);
+// Where memory fails, the histories end with a message on standard error and the status 1. A write that fails ends them, and changes nothing else.
+fn main(rt: HostRuntime) -> io::Result<()> {
+    match play_all(&rt) {
+        Err(error) if error.kind() == ErrorKind::OutOfMemory => Err(error),
+        _ => Ok(()),
+    }
 }

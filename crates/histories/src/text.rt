@@ -3,6 +3,7 @@
 use std::str::SplitWhitespace;
 
 // A number: whether a minus stands before it, and its size; the largest where that does not fit.
+// Kept: a sign beside a size: one too large for u64 counts as the largest with or without a minus, which an i128 would clip twice.
 #[derive(Clone, Copy)]
 pub struct Number {
     negative: bool,
@@ -10,7 +11,14 @@ pub struct Number {
 }
 
 impl Number {
+    // The number 0.
+    pub const ZERO: Number = Number {
+        negative: false,
+        size: 0,
+    };
+
     // A word as a number, if it is one.
+    // Kept: not words' numbers: here a number too small counts as the largest, and as a word it is its size without the minus.
     fn of(word: &str) -> Option<Number> {
         let digits = word.strip_prefix('-').unwrap_or(word);
         if digits.is_empty() || !digits.bytes().all(|byte| byte.is_ascii_digit()) {
@@ -24,11 +32,7 @@ impl Number {
 
     // The number with its sign; the largest where its size does not fit.
     pub fn signed(self) -> i64 {
-        match i64::try_from(self.size) {
-            Ok(size) if self.negative => 0 - size,
-            Ok(size) => size,
-            Err(_) => i64::MAX,
-        }
+        i64::try_from(self.size).map_or(i64::MAX, |size| if self.negative { -size } else { size })
     }
 }
 
@@ -46,16 +50,17 @@ impl<'a> Numbers<'a> {
         }
     }
 
-    // The next number, words that are none left out; 0 at the text's end.
-    pub fn next(&mut self) -> Number {
-        self.words.find_map(Number::of).unwrap_or(Number {
-            negative: false,
-            size: 0,
-        })
-    }
-
-    // The next number without its sign.
+    // The next number without its sign; 0 at the text's end.
     pub fn natural(&mut self) -> u64 {
-        self.next().size
+        self.next().map_or(0, |number| number.size)
+    }
+}
+
+// The numbers in turn; words that are none are left out.
+impl Iterator for Numbers<'_> {
+    type Item = Number;
+
+    fn next(&mut self) -> Option<Number> {
+        self.words.find_map(Number::of)
     }
 }

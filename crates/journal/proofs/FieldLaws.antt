@@ -10,9 +10,10 @@ use Rattle.words.specs.declared.line.Words.{Words}
 use Rattle.words.specs.Numerals.{natural_of}
 use Rattle.journal.specs.Names.{role_names, role_of_word, read_as, why_not}
 use Rattle.journal.specs.Fields.{Left, more, fault, next_of, faulted, taken, field_of, closed}
-use Rattle.journal.specs.Steps.{IsField, said, Plain}
+use Rattle.journal.specs.Steps.{IsField, said}
 use Rattle.journal.specs.declared.Reason.{Reason}
 use Rattle.journal.specs.declared.Request.{Request}
+use Rattle.journal.specs.declared.plain.Call.{Call}
 use Rattle.journal.specs.declared.fields.Kind.{Kind}
 
 -- Roles.
@@ -78,13 +79,9 @@ closed_fault l r e q = rw q
 
 -- A fault that is passed on.
 
-pub said_err : (r : Result Request Reason) (why : Reason) → IsErrAnd r (λ y. y ≡ why) → said r ≡ Request.Error why
+pub said_err : (r : Result Call Reason) (why : Reason) → IsErrAnd r (λ y. y ≡ why) → said r ≡ Request.Error why
 said_err (Ok q) why e = absurd e
 said_err (Err y) why e = ap Request.Error e
-
-pub plain_err : (r : Result Request Reason) (why : Reason) → IsErrAnd r (λ y. y ≡ why) → Plain r
-plain_err (Ok q) why e = absurd e
-plain_err (Err y) why e = tt
 
 pub field_err : (k : Kind) (l : Left) (r : Result ℕ Reason) (why : Reason) (s : Words) → IsErrAnd r (λ y. y ≡ why) → (field_of k l).left ≡ fault why
     → IsField (field_of k l) r s
@@ -102,5 +99,5 @@ unfolding closed
 closed_more ws rest w r e = rw e
 
 -- a fault that is passed on before the end of a call's words
-pub closed_late : (r : Result Request Reason) (why : Reason) (l : Left) (q : Request) → IsErrAnd r (λ y. y ≡ why) → l ≡ fault why → said r ≡ closed l q
+pub closed_late : (r : Result Call Reason) (why : Reason) (l : Left) (q : Request) → IsErrAnd r (λ y. y ≡ why) → l ≡ fault why → said r ≡ closed l q
 closed_late r why l q e f = said_err r why e ∙ sym (closed_fault l q why f)

@@ -18,6 +18,7 @@ use Rattle.journal.specs.Fields.{Numbers, with_number, next_numbers, Lists, on_l
 use Rattle.journal.specs.Grammar.{Parsed, are_marks, lengths_of, month_numbered, settle_of, special_of}
 use Rattle.journal.specs.Steps.{IsNumber, IsFilled, ParsedIs, said}
 use Rattle.journal.specs.declared.Request.{Request}
+use Rattle.journal.specs.declared.plain.Call.{Call}
 use Rattle.journal.specs.declared.Reason.{Reason}
 use Rattle.journal.specs.declared.fields.Kind.{Kind}
 use Rattle.journal.proofs.FieldLaws.{field_fault, closed_fault}
@@ -61,7 +62,7 @@ filled_err x e (Err y) why s t f q w = record { rest = ap fault q ∙ w.rest; nu
 pub filled_count : (x : Numbers) (e : List ℤ) (n : ℕ) (s : Words) (f : List ℤ) → IsFilled {A = Unit {0}} x e (Ok (tt {0})) s f → IsFilled x e (Ok n) s f
 filled_count x e n s f w = record { rest = w.rest; numbers = w.numbers }
 
-pub parsed_err : (x : Parsed) (e : List ℤ) (r : Result Request Reason) (why : Reason) (f : List ℤ) → IsErrAnd r (λ y. y ≡ why)
+pub parsed_err : (x : Parsed) (e : List ℤ) (r : Result Call Reason) (why : Reason) (f : List ℤ) → IsErrAnd r (λ y. y ≡ why)
     → ParsedIs x e (Request.Error why) f → ParsedIs x e (said r) f
 parsed_err x e (Ok a) why f q w = absurd q
 parsed_err x e (Err y) why f q w = record { request = ap Request.Error q ∙ w.request; numbers = w.numbers }

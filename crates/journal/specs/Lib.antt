@@ -2,3 +2,4 @@ pub mod Names
 pub mod Fields
 pub mod Grammar
 pub mod Steps
+pub mod Faults

@@ -1,6 +1,6 @@
 -- What the functions that take words ensure.
 -- Assumes nothing.
-use Rattle.std.specs.Prelude.{ℕ, ◌≡◌, Bool, true, false, List, ℤ, Some, None, Result, Ok, Err, MatchResult, IfOk}
+use Rattle.std.specs.Prelude.{ℕ, ◌≡◌, Bool, List, ℤ, Some, None, Result, Ok, Err, MatchResult}
 use Rattle.std.proofs.lemmas.List.Edits.{sets}
 use Rattle.words.specs.Words.{left}
 use Rattle.words.specs.declared.line.Words.{Words}
@@ -9,19 +9,12 @@ use Rattle.journal.specs.Fields.{Left, more, fault, next_of, faulted, Taken, Num
 use Rattle.journal.specs.Grammar.{Parsed}
 use Rattle.journal.specs.declared.Reason.{Reason}
 use Rattle.journal.specs.declared.Request.{Request}
+use Rattle.journal.specs.declared.plain.Call.{Call}
 
--- The call that a line is, or its fault, as one of the calls.
-abbrev pub said : Result Request Reason → Request
-said (Ok r) = r
+-- The call that a line is, or its fault, as one of the requests.
+abbrev pub said : Result Call Reason → Request
+said (Ok c) = c.request
 said (Err e) = Request.Error e
-
--- Whether a call is none but a fault, and that a fault is never given as a call.
-abbrev pub is_error : Request → Bool
-is_error (Request.Error e) = true
-is_error r = false
-
-abbrev pub Plain : Result Request Reason → Type 0
-Plain r = IfOk r (λ q. is_error q ≡ false)
 
 -- What is left after words were taken, if they were.
 abbrev pub after : {A : Type 0} → Result A Reason → Words → Left

@@ -3,9 +3,11 @@ ghost use Rattle.std.specs.Prelude.{◌≡◌, false, IfOk, MatchResult, [], ◌
 ghost use Rattle.words.specs.Words.{left};
 ghost use Rattle.journal.specs.Names.{role_of_word, read_as, why_not};
 ghost use Rattle.journal.specs.Fields.{more, field_of, closed as Fields·closed};
-ghost use Rattle.journal.specs.Steps.{IsField, is_error, said, Plain};
+ghost use Rattle.journal.specs.Faults.{is_error};
+ghost use Rattle.journal.specs.Steps.{IsField, said};
 ghost use Rattle.journal.specs.declared.Reason.{Reason as Names·Reason};
 
+use crate::plain::Call;
 use crate::{Reason, Request};
 use words::{Words, day_in, month_in, natural_of, place_of};
 
@@ -26,10 +28,9 @@ const ROLES: &[u8] = b"supplier self-supplied trader producer res-aggregator dem
 fn role_in(w: &[u8]) -> Option<u64>
     ensures { result ≡ role_of_word w.now }
 {
-    match place_of(w, ROLES) {
-        Some(role) => Some(role as u64),
-        None => natural_of(w),
-    }
+    place_of(w, ROLES)
+        .map(|role| role as u64)
+        .or_else(|| natural_of(w))
 }
 
 impl Kind {
@@ -77,14 +78,12 @@ pub fn take(words: &mut Words, kind: Kind) -> Result<u64, Reason>
 
 // A call whose words are all read.
 #[tactic(auto, using(crate::proofs::FieldLaws::closed_end, crate::proofs::FieldLaws::closed_more))]
-pub fn closed(words: &mut Words, request: Request) -> Result<Request, Reason>
+pub fn closed(words: &mut Words, request: Request) -> Result<Call, Reason>
     requires { is_error request ≡ false }
     ensures whole { said result ≡ Fields·closed (more (left words.old)) request }
     ensures none_left { IfOk result (λ _. left words.old ≡ []) }
-    ensures plain { Plain result }
 {
-    match words.next() {
-        None => Ok(request),
-        Some(_) => Err(Reason::TooManyWords),
-    }
+    words
+        .next()
+        .map_or(Ok(Call { request }), |_| Err(Reason::TooManyWords))
 }

@@ -1,17 +1,20 @@
 // The lists of a line: a settlement's figures, and the seven lists of a special guarantee.
+// Kept: words and numbers apart, here and below: most calls read no list, and a struct of both would lend them a slice that they never write.
 ghost use Rattle.std.specs.Prelude.{◌≡◌, IfOk, length};
 ghost use Rattle.words.specs.Words.{left, words as Words·words};
 ghost use Rattle.journal.specs.Names.{read_number};
 ghost use Rattle.journal.specs.Fields.{more, next_numbers, list_of};
 ghost use Rattle.journal.specs.Grammar.{settle_of, special_of};
-ghost use Rattle.journal.specs.Steps.{IsNumber, IsFilled, ParsedIs, said, Plain};
+ghost use Rattle.journal.specs.Steps.{IsNumber, IsFilled, ParsedIs, said};
 
 use crate::calls::month_numbered;
 use crate::fields::{Kind, closed, take, take_word};
+use crate::plain::Call;
 use crate::{Lengths, Reason, Request};
 use words::{Words, signed_of, unsigned_of};
 
 // A word as a number of a list: a mark is a natural number, and any other may have a minus.
+// Kept: a flag for the marks, since `special` tells them by the list's place, so a closure in its stead would hold the same flag.
 #[tactic(auto, unfolding(crate::specs::Names::read_number))]
 fn read_number(marks: bool, w: &[u8]) -> Option<i64>
     ensures { result ≡ read_number marks w.now }
@@ -28,6 +31,8 @@ fn take_number(words: &mut Words, marks: bool) -> Result<i64, Reason>
 }
 
 // Writes the next numbers, so many of them, to the front of the slice; those before a fault, if there is one.
+// Kept: by index, since a number without room is `TooLong`, and a `zip` with the slice would end before it.
+// Kept: a test of the index: `get_mut(i).ok_or(..)?` was tried, and left `loop-i-preserved` and the return of that fault open.
 fn fill(words: &mut Words, count: usize, marks: bool, numbers: &mut [i64]) -> Result<(), Reason>
     ensures filled { IsFilled (next_numbers marks (length numbers.old) count (more (left words.old))) numbers.old result words.new numbers.new }
     ensures whole { IfOk result (λ _. length (next_numbers marks (length numbers.old) count (more (left words.old))).numbers ≡ count) }
@@ -53,6 +58,7 @@ fn list(words: &mut Words, marks: bool, numbers: &mut [i64]) -> Result<usize, Re
 }
 
 // How many words a text has.
+// Kept: a function of its own: with the count in `settle` two clauses did not close, since `search` looks into no run of an iterator there.
 fn count_words(text: &[u8]) -> usize
     ensures { result ≡ length (Words·words text.now) }
 {
@@ -60,10 +66,8 @@ fn count_words(text: &[u8]) -> usize
 }
 
 // settle P MONTH FIGURE..
-#[tactic(auto, using(crate::proofs::FieldLaws::plain_err))]
-pub fn settle(words: &mut Words, numbers: &mut [i64]) -> Result<Request, Reason>
-    ensures whole { ParsedIs (settle_of (length numbers.old) (more (left words.old))) numbers.old (said result) numbers.new }
-    ensures plain { Plain result }
+pub fn settle(words: &mut Words, numbers: &mut [i64]) -> Result<Call, Reason>
+    ensures { ParsedIs (settle_of (length numbers.old) (more (left words.old))) numbers.old (said result) numbers.new }
 {
     let participant = take(words, Kind::Natural)?;
     let month = take(words, Kind::Month)?;
@@ -76,10 +80,9 @@ pub fn settle(words: &mut Words, numbers: &mut [i64]) -> Result<Request, Reason>
 }
 
 // special LIST LIST LIST LIST LIST LIST LIST, of which the third has the marks
-#[tactic(auto, using(crate::proofs::FieldLaws::plain_err))]
-pub fn special(words: &mut Words, numbers: &mut [i64]) -> Result<Request, Reason>
-    ensures whole { ParsedIs (special_of (length numbers.old) (more (left words.old))) numbers.old (said result) numbers.new }
-    ensures plain { Plain result }
+// Kept: by index, since the place says which list has the marks, and `iter_mut().enumerate()` would add no more than a dereference.
+pub fn special(words: &mut Words, numbers: &mut [i64]) -> Result<Call, Reason>
+    ensures { ParsedIs (special_of (length numbers.old) (more (left words.old))) numbers.old (said result) numbers.new }
 {
     let mut lengths = [0usize; 7];
     let mut end = 0;
@@ -88,14 +91,5 @@ pub fn special(words: &mut Words, numbers: &mut [i64]) -> Result<Request, Reason
         lengths[i] = length;
         end += length;
     }
-    let lengths = Lengths {
-        medium: lengths[0],
-        low: lengths[1],
-        marks: lengths[2],
-        zero_medium: lengths[3],
-        zero_low: lengths[4],
-        excess_medium: lengths[5],
-        excess_low: lengths[6],
-    };
-    closed(words, Request::Special(lengths))
+    closed(words, Request::Special(Lengths::from(lengths)))
 }

@@ -8,12 +8,12 @@ ghost use Rattle.layout.specs.Parts.{written};
 ghost use Rattle.layout.specs.Files.{slots_of_words, file_of_words, words_at, own_words, Put};
 
 use crate::parts::{flag, flag_word, put_words};
-use crate::rows::{Row, put_rows, read_rows};
+use crate::rows::{Row, put_rows, read_row, read_rows};
 use calendar::Day;
-use file::{File, NextAmount, Slot};
+use file::{File, MonthTotal, NextAmount, OpenCall, Slot};
 
 // The file behind a place.
-// Kept: words and a place, here and below, since the C interface lends a book as one slice of words, of which each call reads a few places.
+// Kept: words and a place, here, in `rows` and in `parts`: `FileWords` holds them, and a writer's words are no book between writes.
 #[tactic(auto, unfolding(crate::specs::Files::file_of_words))]
 pub fn file_at(words: &[u64], at: usize) -> File
     requires { at + 97 ≤ length words.now }
@@ -63,9 +63,9 @@ pub fn put_file(words: &mut [u64], at: usize, file: File)
     ensures { Put words.old at file words.new }
 {
     put_own(words, at, file);
-    put_rows(words, at, &file.slots);
-    put_rows(words, at, &file.calls);
-    put_rows(words, at, &file.totals);
+    put_rows(words, at + Slot::PLACE, &file.slots);
+    put_rows(words, at + OpenCall::PLACE, &file.calls);
+    put_rows(words, at + MonthTotal::PLACE, &file.totals);
 }
 
 // Writes a next amount, set, of the file behind a place.
@@ -81,9 +81,10 @@ pub fn cover_at(words: &[u64], at: usize, from: Day, through: Day) -> u64
     requires { (at + 97 ≤ length words.now) × All (λ (s : Slot). SoundPosition s.position) (slots_of_words (words_at words.now at)) }
     ensures { result ≡ cover_through from.0 through.0 (slots_of_words (words_at words.now at)) }
 {
+    // Kept: as `file::cover::cover`, but by the words: with the positions read first and summed there a statement took 1.8 times as long.
     let mut sum = 0;
     for k in 0..8 {
-        let slot = Slot::read(words, at + (9 + 4 * k));
+        let slot = read_row::<Slot>(words, at, k);
         sum += slot.position.counts(from, through);
     }
     sum

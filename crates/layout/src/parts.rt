@@ -1,4 +1,5 @@
 // The parts of a file as words, and back.
+// Kept: functions in place of `From`, here and below: words, flags and positions are other crates' types, for which none may stand here.
 ghost use Rattle.std.specs.Prelude.{◌≡◌, ◌+◌, ◌≤◌, length};
 ghost use Rattle.file.specs.Position.{slot_of};
 ghost use Rattle.layout.specs.Parts.{flag_of, number_of, signed_of_word, zigzag_of, flag_word, position_of};

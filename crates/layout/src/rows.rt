@@ -176,6 +176,22 @@ impl Row for MonthTotal {
     }
 }
 
+// The row k of the file behind a place.
+pub fn read_row<R: Row>(words: &[u64], at: usize, k: usize) -> R
+    requires { (at + (R.PLACE + R.WORDS * R.COUNT) ≤ length words.now) × (k < R.COUNT) }
+    ensures { result ≡ R.row_in words.now (at + (R.PLACE + R.WORDS * k)) }
+{
+    R::read(words, at + (R::PLACE + R::WORDS * k))
+}
+
+// Writes the row k of the file behind a place.
+pub fn put_row<R: Row>(words: &mut [u64], at: usize, k: usize, row: R)
+    requires { (at + (R.PLACE + R.WORDS * R.COUNT) ≤ length words.old) × (k < R.COUNT) }
+    ensures { (words.new ≡ written words.old (at + (R.PLACE + R.WORDS * k)) (R.row_words row)) × R.Back row }
+{
+    row.put(words, at + (R::PLACE + R::WORDS * k))
+}
+
 // The rows of the file behind a place.
 pub fn read_rows<R: Row, const N: usize>(words: &[u64], at: usize) -> [R; N]
     requires { (at + (R.PLACE + R.WORDS * R.COUNT) ≤ length words.now) × (N ≡ R.COUNT) }
@@ -184,16 +200,16 @@ pub fn read_rows<R: Row, const N: usize>(words: &[u64], at: usize) -> [R; N]
     array::from_fn(
         |k|
             requires { (at + (R.PLACE + R.WORDS * R.COUNT) ≤ length words.now) × (k < R.COUNT) }
-        { R::read(words, at + (R::PLACE + R::WORDS * k)) },
+        { read_row(words, at, k) },
     )
 }
 
-// Writes the rows of the file behind a place.
+// Writes a file's rows one after the other, from a place on.
 pub fn put_rows<R: Row>(words: &mut [u64], at: usize, rows: &[R])
-    requires { (at + (R.PLACE + R.WORDS * R.COUNT) ≤ length words.old) × (length rows.now ≡ R.COUNT) }
-    ensures { PutRows R.row_words R.Back R.COUNT rows.now words.old (at + R.PLACE) words.new }
+    requires { (at + R.WORDS * R.COUNT ≤ length words.old) × (length rows.now ≡ R.COUNT) }
+    ensures { PutRows R.row_words R.Back R.COUNT rows.now words.old at words.new }
 {
     for (k, row) in rows.iter().enumerate() {
-        row.put(words, at + (R::PLACE + R::WORDS * k));
+        row.put(words, at + R::WORDS * k);
     }
 }

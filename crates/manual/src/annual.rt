@@ -11,6 +11,7 @@ fn raised(amount: u64, total: i64) -> u64
 }
 
 // The annual amount of a role with these recorded totals: the largest, and at least the role's minimum.
+// Kept: as at `minimum`, a role is a number, since a well-formed book's words, which the C interface lends, may hold any.
 pub fn annual_amount(role: u64, totals: &[i64]) -> u64
     ensures { result ≡ annual_amount role totals.now }
 {

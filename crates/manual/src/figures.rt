@@ -10,7 +10,7 @@ const BOUND: i64 = 1000000000000;
 pub fn wrong_count(count: usize) -> bool
     ensures { result ≡ (ltb count 5 || ltb 16 count) }
 {
-    count < 5 || 16 < count
+    !(5..=16).contains(&count)
 }
 
 // Whether a figure is within plus or minus 10^12.
@@ -31,6 +31,7 @@ pub fn sum_of_figures<F: Fn(usize) -> i64>(count: usize, figure: F) -> Result<i6
     if wrong_count(count) {
         return Err(Refusal::FigureCount);
     }
+    // Kept: figures by an index, as a part's are read out of bytes; a `try_fold`'s closure would have to require how large the sum is by then.
     let mut total = 0;
     for i in 0..count {
         let next = figure(i);

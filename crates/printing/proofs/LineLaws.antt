@@ -1,7 +1,6 @@
 -- The lines of calls and answers as they are written.
 -- Assumes nothing.
-use Rattle.std.proofs.Common.{◌≡◌, ℕ, ◌+◌, ◌≤◌, ◌<◌, List, [], ◌∷◌, ◌++◌, length, take, drop, get_or, map, min, ℤ, refl, sym, ap, ◌∙◌, add-one, append-nil, drop-cons, drop_of_length-le}
-use Rattle.laws.specs.Clipped.{take-clipped, drop-clipped}
+use Rattle.std.proofs.Common.{◌≡◌, ℕ, ◌+◌, ◌≤◌, ◌<◌, List, [], ◌∷◌, ◌++◌, length, take, drop, get_or, map, ℤ, refl, sym, ap, ◌∙◌, add-one, append-nil, drop-cons, drop_of_length-le}
 use Rattle.printing.specs.Decimals.{decimal, integer, spaced, joined}
 use Rattle.printing.specs.Lines.{cut, list_words}
 use Rattle.printing.specs.Written.{Sheet, followed}
@@ -28,19 +27,19 @@ words_more s u v w x a b p q = joined_more s u v w a (x ∷ b) p (q ∙ ap (λ (
 -- Lists, one by one.
 
 -- the next list and the rest
-lists_first : (ks : List ℕ) (zs : List ℤ) (i n m : ℕ) → i < length ks → n ≡ get_or ks i 0 → m ≡ min n (length zs)
+lists_first : (ks : List ℕ) (zs : List ℤ) (i n : ℕ) → i < length ks → n ≡ get_or ks i 0
     → spaced (list_words (cut (drop i ks) zs))
-    ≡ spaced (decimal (length (take m zs)) ∷ map integer (take m zs)) ++ spaced (list_words (cut (drop (i + 1) ks) (drop m zs)))
+    ≡ spaced (decimal (length (take n zs)) ∷ map integer (take n zs)) ++ spaced (list_words (cut (drop (i + 1) ks) (drop n zs)))
 unfolding cut list_words
-lists_first ks zs i n m h e k =
+lists_first ks zs i n h e =
     let o : drop i ks ≡ n ∷ drop (i + 1) ks = rw (e, add-one i) (drop-cons ks i 0 h) in
-    rw (o, take-clipped n m zs k, drop-clipped n m zs k)
+    rw o
     (spaced-append (decimal (length (take n zs)) ∷ map integer (take n zs)) (list_words (cut (drop (i + 1) ks) (drop n zs))))
 
-pub lists_step : (s u w : Sheet) (ks : List ℕ) (zs list rest : List ℤ) (i n m : ℕ) → i < length ks → n ≡ get_or ks i 0 → m ≡ min n (length zs)
-    → list ≡ take m zs → rest ≡ drop m zs → followed s (spaced (list_words (cut (drop i ks) zs))) ≡ w
+pub lists_step : (s u w : Sheet) (ks : List ℕ) (zs list rest : List ℤ) (i n : ℕ) → i < length ks → n ≡ get_or ks i 0
+    → list ≡ take n zs → rest ≡ drop n zs → followed s (spaced (list_words (cut (drop i ks) zs))) ≡ w
     → u ≡ followed s (spaced (decimal (length list) ∷ map integer list)) → followed u (spaced (list_words (cut (drop (i + 1) ks) rest))) ≡ w
-lists_step s u w ks zs list rest i n m h e k a b x y = rw b (followed_part s u w _ _ _ x (lists_first ks zs i n m h e k) (rw a at y))
+lists_step s u w ks zs list rest i n h e a b x y = rw b (followed_part s u w _ _ _ x (lists_first ks zs i n h e) (rw a at y))
 
 pub lists_done : (ks : List ℕ) (zs : List ℤ) (i : ℕ) → length ks ≤ i → spaced (list_words (cut (drop i ks) zs)) ≡ []
 unfolding cut list_words spaced

@@ -1,5 +1,5 @@
 // The lines of calls, in their numeric form.
-ghost use Rattle.std.specs.Prelude.{[], ◌∷◌, map, ◌≡◌, ◌+◌, ◌≤◌, min, length, take};
+ghost use Rattle.std.specs.Prelude.{[], ◌∷◌, map, ◌≡◌, length};
 ghost use Rattle.words.specs.Text.{text};
 ghost use Rattle.printing.specs.Decimals.{decimal, integer, spaced, joined};
 ghost use Rattle.printing.specs.Hex.{hex_words};
@@ -9,15 +9,8 @@ ghost use Rattle.journal.specs.Grammar.{length_list};
 
 use crate::hex::Hex;
 use crate::lent::{Out, Puts};
+use crate::rows::parted;
 use journal::{Lengths, Request};
-
-// Where a list of n numbers from place k on ends, among so many.
-pub fn end_of(k: usize, n: usize, all: usize) -> usize
-    requires { k ≤ all }
-    ensures { result ≡ min (k + n) all }
-{
-    k + n.min(all - k)
-}
 
 // lodge P POSITION cash AMOUNT
 fn put_cash(out: &mut Out, p: u64, q: u64, a: u64)
@@ -60,7 +53,7 @@ fn put_lists(out: &mut Out, lengths: &[usize], numbers: &[i64])
 {
     let mut rest = numbers;
     for n in lengths {
-        let (list, behind) = rest.split_at((*n).min(rest.len()));
+        let (list, behind) = parted(rest, *n);
         put_list(out, list);
         rest = behind;
     }
@@ -70,17 +63,8 @@ fn put_lists(out: &mut Out, lengths: &[usize], numbers: &[i64])
 fn put_special(out: &mut Out, n: Lengths, numbers: &[i64])
     ensures { out.new ≡ followed out.old (joined (text "special" ∷ list_words (cut (length_list n) numbers.now))) }
 {
-    let lengths = [
-        n.medium,
-        n.low,
-        n.marks,
-        n.zero_medium,
-        n.zero_low,
-        n.excess_medium,
-        n.excess_low,
-    ];
     out.text(b"special");
-    put_lists(out, &lengths, numbers)
+    put_lists(out, &n.in_turn(), numbers)
 }
 
 // batch HEX, or the word alone for an empty file
@@ -95,6 +79,7 @@ fn put_batch(out: &mut Out, file: &[i64])
 }
 
 // A call with the numbers of its lists in a row, or the bytes of its file.
+// Kept: the two side by side, since a request is read into a lent slice of numbers and has no heap to hold them.
 #[derive(Clone, Copy)]
 pub struct CallLine<'a> {
     pub request: Request,
@@ -123,7 +108,7 @@ impl<'a> Puts for CallLine<'a> {
             Request::Statement(p) => out.words(b"statement", &[p]),
             Request::Calls => out.text(b"calls"),
             Request::Special(n) => put_special(out, n, numbers),
-            Request::Batch(n) => put_batch(out, &numbers[..n.min(numbers.len())]),
+            Request::Batch(n) => put_batch(out, parted(numbers, n).0),
             Request::RoleRetired => out.text(b"role-retired"),
             Request::Report => out.text(b"report"),
         }

@@ -5,7 +5,8 @@ ghost use Rattle.printing.specs.Written.{lent, followed, emptied};
 
 use std::marker::Model;
 
-// Lent bytes, of which those up to `end` are written. A clause sees what is written, for how many bytes there is room behind it, and the bytes there.
+// Lent bytes, of which those up to `end` are written. A clause sees what is written, how much room is behind it, and the bytes there.
+// Kept: an end beside the bytes, since what is written stands in lent bytes and grows without a heap, which a Vec needs.
 #[derive(Drop)]
 pub struct Out<'a> {
     bytes: &'a mut [u8],
@@ -24,6 +25,7 @@ impl<'a> Model for Out<'a> {
 }
 
 // What has a text that can be written.
+// Kept: no Display, since a formatter's writes may fail, while what has no room in `Out` is left out and no call fails.
 pub trait Puts {
     ghost text: { Self → List ℕ };
 

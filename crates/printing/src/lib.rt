@@ -7,21 +7,24 @@ use journal::Reason;
 mod lent; // lent.rt: texts written into lent bytes, one behind the other
 mod numbers; // numbers.rt: numbers in decimal
 mod hex; // hex.rt: bytes as hexadecimal digits
+mod rows; // rows.rt: numbers in a row
 mod calls; // calls.rt: the lines of calls
 mod answers; // answers.rt: the lines of answers
 
-pub use calls::{CallLine, end_of};
+pub use calls::CallLine;
 pub use lent::{Out, Puts};
 pub use numbers::last_digit;
+pub use rows::parted;
 
 // An answer to a line: E is the sum of a settlement's figures, ASKED what a call asks for and LAST_FREE_DAY its last free day; the amount
 // and the months of an annual run; the days opened; a statement's firm amount, cover, shortfall, days charged and accrued charge; the calls
 // made; a special guarantee in cents; how many settlements a batch made, or its refusal and the index of the pair; the line that is no call,
 // and why. Nothing is said to an empty line.
+// Kept: `Nothing` and `Error` are cases: `shown` and `answer_line` speak of any, and an Option of a Result would ask two more matches.
 #[derive(Clone, Copy)]
 pub enum Answer {
     Done,
-    // Kept: what is printed is the number, which the specs' answers carry too, so an enum of the causes would be turned back into it here.
+    // Kept: numbers, here and in `RefusedPair`: theorems and callers print any number, and an enum of the causes would be a narrower type.
     Refused(u32),
     Called(u64, u64, Day),
     Covered(i64),

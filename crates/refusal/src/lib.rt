@@ -4,32 +4,32 @@
 ghost use Rattle.std.specs.Prelude.{◌≡◌};
 ghost use Rattle.refusal.specs.Numbers.{number_of};
 
-// A cause of refusal, in the table's order. Where more than one holds, a call's own order says which is answered.
+// A cause of refusal, by its number in the table. Where more than one holds, a call's own order says which is answered.
 #[derive(Clone, Copy, PartialEq, Eq)]
 pub enum Refusal {
-    NoSuchParticipant,
-    NotAdmitted,
-    AdmittedAlready,
-    NoSuchRole,
-    NoSuchPosition,
-    PositionFilled,
-    PositionEmpty,
-    AmountOutOfRange,
-    LetterDays,
-    FigureCount,
-    OutOfRange,
-    MonthOutOfRange,
-    FifthCall,
-    NotAnnualDays,
-    MoreThanHeld,
-    TooLittleCover,
-    DayOutOfRange,
-    TooFewRates,
-    ListLengths,
-    BatchTooShort,
-    PartsMisplaced,
-    WrongPart,
-    RetiredRole,
+    NoSuchParticipant = 1,
+    NotAdmitted = 2,
+    AdmittedAlready = 3,
+    NoSuchRole = 4,
+    NoSuchPosition = 5,
+    PositionFilled = 6,
+    PositionEmpty = 7,
+    AmountOutOfRange = 8,
+    LetterDays = 9,
+    FigureCount = 10,
+    OutOfRange = 11,
+    MonthOutOfRange = 12,
+    FifthCall = 13,
+    NotAnnualDays = 14,
+    MoreThanHeld = 15,
+    TooLittleCover = 16,
+    DayOutOfRange = 17,
+    TooFewRates = 18,
+    ListLengths = 19,
+    BatchTooShort = 20,
+    PartsMisplaced = 21,
+    WrongPart = 22,
+    RetiredRole = 23,
 }
 
 impl Refusal {
@@ -37,30 +37,6 @@ impl Refusal {
     pub fn number(self) -> u32
         ensures { result ≡ number_of self }
     {
-        match self {
-            Refusal::NoSuchParticipant => 1,
-            Refusal::NotAdmitted => 2,
-            Refusal::AdmittedAlready => 3,
-            Refusal::NoSuchRole => 4,
-            Refusal::NoSuchPosition => 5,
-            Refusal::PositionFilled => 6,
-            Refusal::PositionEmpty => 7,
-            Refusal::AmountOutOfRange => 8,
-            Refusal::LetterDays => 9,
-            Refusal::FigureCount => 10,
-            Refusal::OutOfRange => 11,
-            Refusal::MonthOutOfRange => 12,
-            Refusal::FifthCall => 13,
-            Refusal::NotAnnualDays => 14,
-            Refusal::MoreThanHeld => 15,
-            Refusal::TooLittleCover => 16,
-            Refusal::DayOutOfRange => 17,
-            Refusal::TooFewRates => 18,
-            Refusal::ListLengths => 19,
-            Refusal::BatchTooShort => 20,
-            Refusal::PartsMisplaced => 21,
-            Refusal::WrongPart => 22,
-            Refusal::RetiredRole => 23,
-        }
+        self as u32
     }
 }

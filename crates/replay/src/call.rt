@@ -20,11 +20,12 @@ pub enum Call<'a> {
     CallsMade,
 }
 
-// A word as a day or month number.
-fn clipped(word: u64) -> u32
+// A word as a day or month number; one too large for the number's type counts as the type's largest.
+// Kept: as words' `small`, in a crate of texts that this one does not use.
+pub fn clipped(word: u64) -> u32
     ensures { result ≡ number word }
 {
-    word.min(u32::MAX as u64) as u32
+    u32::try_from(word).unwrap_or(u32::MAX)
 }
 
 // The items from a place on, `count` of them or as many as there are.
@@ -52,6 +53,7 @@ pub fn call_at<'a>(calls: &[u64], figures: &'a [i64], files: &'a [u8], place: us
     let at = 6 * place;
     let (a, b, c) = (calls[at + 1], calls[at + 2], calls[at + 3]);
     let (d, e) = (calls[at + 4], calls[at + 5]);
+    // Kept: numbers for kinds, as calls are words of any content: one above 8 is a question too, and a type of calls would ask more of callers.
     match calls[at] {
         0 => Call::Admit(a, b),
         1 => Call::Lodge(a, b, Position::Cash(c)),

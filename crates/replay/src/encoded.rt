@@ -1,7 +1,8 @@
 // An answer as six numbers: which it is, then its values, then zeros.
 ghost use Rattle.std.specs.Prelude.{◌≡◌, ◌≤◌, pos, Result};
 ghost use Rattle.refusal.specs.Numbers.{number_of};
-ghost use Rattle.file.specs.Answer.{Answer, refused, done, annual, days_opened, counted, batched, refused_pair, settlement_says, statement_says, says};
+ghost use Rattle.file.specs.Answer.{Answer, refused, done, annual, days_opened, counted, batched, refused_pair};
+ghost use Rattle.file.specs.Answer.{settlement_says, statement_says, says};
 ghost use Rattle.book.specs.Call.{loaded_says};
 ghost use Rattle.replay.specs.Encoding.{largest_signed, six, six_numbers, WithinSigned};
 
@@ -22,10 +23,11 @@ fn signed(x: u64) -> i64
     requires { x ≤ largest_signed }
     ensures { result ≡ pos x }
 {
-    x as i64
+    x.cast_signed()
 }
 
 // A number that says which answer it is, its first three values, and zeros for the others.
+// Kept: a number says which answer it is, here and below, since `out` is lent words of any length, and a type of answers would ask more of callers.
 fn values(kind: u64, a: u64, b: u64, c: u64) -> [i64; 6]
     requires { (kind ≤ 10) × (a ≤ largest_signed) × (b ≤ largest_signed) × (c ≤ largest_signed) }
     ensures { result ≡ six kind (pos a) (pos b) (pos c) (pos 0) (pos 0) }

@@ -21,6 +21,7 @@ fn put(out: &mut [i64], at: usize, numbers: [i64; 6])
 // book answered, and leaves the book at the end. Six words are a call; a settlement's figures are a part of `figures`, and a batch's file is a
 // part of `files`. The first `first` calls, or all if there are fewer, are made under the old admission rule (paper 02, Ask 3), the others under
 // the new one.
+// Kept: lists are parts of `figures` and `files` with a place and a length, since no word of a call can lend a slice.
 #[tactic(auto, using(crate::proofs::Replaying::turns))]
 pub fn replay(
     start: Day,
@@ -36,6 +37,7 @@ pub fn replay(
         out.new (outcome_says result) book.new }
 {
     book::fresh(book, start)?;
+    // Kept: by places, here, in `put` and in `call_at`: the library's `as_chunks_mut` says nothing of what `out` ends as, which is what is promised.
     let count = (calls.len() / 6).min(out.len() / 6);
     for i in 0..count {
         let call = call_at(calls, figures, files, i);

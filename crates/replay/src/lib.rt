@@ -6,4 +6,5 @@ mod call;
 mod encoded;
 mod history;
 
+pub use call::clipped;
 pub use history::replay;

@@ -1,38 +1,30 @@
 -- Texts in columns: blanks, digits and numbers with a point, as they are written one after the other.
 -- Assumes nothing.
-use Rattle.std.proofs.Common.{◌≡◌, ℕ, zero, suc, ◌+◌, ◌-◌, ◌/◌, ◌%◌, ◌^◌, ◌≤◌, ◌<◌, [], ◌∷◌, length, replicate, refl, sym, arith, add-one, length-append}
+use Rattle.std.proofs.Common.{◌≡◌, ℕ, zero, suc, ◌+◌, ◌-◌, ◌*◌, ◌/◌, ◌%◌, ◌^◌, ◌≤◌, ◌<◌, [], ◌∷◌, length, replicate, refl, sym, ap, ◌∙◌, arith, add-one, length-append}
 use Rattle.std.proofs.Math.Nat.{div-div-eq-div-mul, pow-suc}
-use mir.Syntax.{w64}
-use mir.Val.{Fits}
-use lib.Dec.{ltb}
+use Rattle.std.specs.List.{fold, range_with_len}
 use lib.ListN.{replicate-append-replicate}
-use Rattle.laws.specs.Cases.{split}
-use Rattle.printing.specs.Decimals.{numeral, decimal}
+use Rattle.printing.specs.Decimals.{decimal}
 use Rattle.printing.specs.Written.{Sheet, followed}
 use Rattle.printing.specs.WrittenLaws.{followed_none, followed_twice, decimal_step, decimal-small}
 use Rattle.report.specs.Columns.{digits, fixed}
 
 -- How many digits a number has.
 
-numeral-count : (more n : ℕ) → length (numeral more n) ≤ more + 1
-unfolding numeral
-numeral-count zero n = omega arith
-numeral-count (suc more) n =
-    split (ltb n 10) (λ t. rw t (omega arith))
-    (λ t. rw t (omega (arith, numeral-count more (n / 10), length-append (numeral more (n / 10)) ((48 + n % 10) ∷ []))))
+one_is : (k : ℕ) → 1 ≤ 10 ^ k
+one_is zero = omega arith
+one_is (suc k) = let e : 10 ^ suc k ≡ 10 ^ k * 10 = pow-suc 10 k in omega (arith, e, one_is k)
 
-decimal-count : (n : ℕ) → length (decimal n) ≤ n + 1
-unfolding decimal
-decimal-count n = numeral-count n n
+pub count_none : (n : ℕ) → n ≡ 0 → 1 ≡ length (decimal n)
+count_none n e = rw (decimal-small n (omega arith))
 
-pub count_small : (n : ℕ) → n < 10 → 1 ≡ length (decimal n)
-count_small n h = rw (decimal-small n h)
-
-pub count_large : (n r : ℕ) → 10 ≤ n → r ≡ length (decimal (n / 10)) → r + 1 ≡ length (decimal n)
-count_large n r h k = rw (decimal_step n h) (omega (arith, k, length-append (decimal (n / 10)) ((48 + n % 10) ∷ [])))
-
-pub count_fits : (n r : ℕ) → Fits w64 n → 10 ≤ n → r ≡ length (decimal (n / 10)) → Fits w64 (r + 1)
-count_fits n r h k m = record { fits = omega (arith, h.fits, m, decimal-count (n / 10)) }
+-- One more than the number of tens in the largest power of ten that isn't above it.
+pub count_power : (k n : ℕ) → 10 ^ k ≤ n → n < 10 * 10 ^ k → k + 1 ≡ length (decimal n)
+count_power zero n l h = rw (decimal-small n h)
+count_power (suc k) n l h =
+    let e : 10 ^ suc k ≡ 10 ^ k * 10 = pow-suc 10 k in
+    let d : k + 1 ≡ length (decimal (n / 10)) = count_power k (n / 10) (omega (arith, l, e)) (omega (arith, h, e)) in
+    rw (decimal_step n (omega (arith, l, e, one_is k))) (omega (arith, d, length-append (decimal (n / 10)) ((48 + n % 10) ∷ [])))
 
 -- The last digits of a number.
 
@@ -55,11 +47,13 @@ digits-count (suc k) n = omega (arith, length-append (digits k (n / 10)) ((48 + 
 
 -- A number without its last digits.
 
-pub all_wholes : (n : ℕ) → n ≡ n / 10 ^ 0
-all_wholes n = omega arith
+wholes-ahead : (a k n : ℕ) → fold (λ left (_ : ℕ). left / 10) n (range_with_len a k) ≡ n / 10 ^ k
+wholes-ahead a zero n = omega arith
+wholes-ahead a (suc k) n =
+    wholes-ahead (a + 1) k (n / 10) ∙ div-div-eq-div-mul n 10 (10 ^ k) ∙ ap (λ (p : ℕ). n / p) (let e : 10 ^ suc k ≡ 10 ^ k * 10 = pow-suc 10 k in omega (arith, e))
 
-pub tenth_wholes : (n k m : ℕ) → m ≡ n / 10 ^ k → m / 10 ≡ n / 10 ^ (k + 1)
-tenth_wholes n k m e = rw (e, add-one k, pow-suc 10 k) (div-div-eq-div-mul n (10 ^ k) 10)
+pub all_wholes : (k n : ℕ) → fold (λ left (_ : ℕ). left / 10) n (range_with_len 0 k) ≡ n / 10 ^ k
+all_wholes k n = wholes-ahead 0 k n
 
 -- A number with a point.
 

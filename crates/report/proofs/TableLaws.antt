@@ -1,14 +1,15 @@
 -- The lines of the table, as they are written one after the other.
 -- Assumes nothing.
-use Prim.Native.Nat.{ℕ, zero, suc, ◌+◌, ◌≤◌, ◌<◌}
+use Prim.Native.Nat.{ℕ, zero, suc, ◌+◌, ◌≤◌}
 use mathlib.Core.Path.{◌≡◌, refl, sym, ap, ◌∙◌}
 use mathlib.Core.Bool.{Bool, true, false, cond}
 use mathlib.Core.List.{List, [], ◌∷◌, ◌++◌}
 use native.Mathlib.Numerals.{add-one}
 use native.Mathlib.Omega.{arith}
-use mir.Syntax.{w64}
-use mir.Val.{Fits, bool_byte}
+use mir.Val.{bool_byte}
 use lib.ListN.{get_or-eq_default}
+use Rattle.std.specs.List.{sum_by, range_with_len}
+use Rattle.std.proofs.lemmas.List.Sums.{sum_by-cons}
 use Rattle.calendar.specs.declared.Day.{Day}
 use Rattle.words.specs.Text.{text}
 use Rattle.file.specs.Answer.{statement_says}
@@ -29,39 +30,53 @@ use Rattle.report.specs.Table.{role_text, line_of, row, rows, admitted_below, ad
 
 -- How many participants are admitted.
 
-below_next : (b : Book) (i : ℕ) → admitted_below (suc i) b ≡ admitted_below i b + cond (file_at b i).admitted 1 0
-unfolding admitted_below
-below_next b i = refl
+-- Whether a participant is admitted, as a number.
+abbrev pub admitted_as : Book → ℕ → ℕ
+admitted_as b i = bool_byte (file_at b i).admitted
 
-pub none_admitted : (b : Book) → 0 ≡ admitted_below 0 b
-unfolding admitted_below
-none_admitted b = refl
-
-cond_byte : (t : Bool) → bool_byte t ≡ cond t 1 0
-cond_byte true = refl
-cond_byte false = refl
+byte_cond : (t : Bool) → cond t 1 0 ≡ bool_byte t
+byte_cond true = refl
+byte_cond false = refl
 
 byte_small : (t : Bool) → bool_byte t ≤ 1
 byte_small true = omega arith
 byte_small false = omega arith
 
-pub below-small : (b : Book) (i : ℕ) → admitted_below i b ≤ i
+below_next : (b : Book) (i : ℕ) → admitted_below (i + 1) b ≡ admitted_below i b + admitted_as b i
 unfolding admitted_below
-below-small b zero = omega arith
-below-small b (suc i) =
-    let h : cond (file_at b i).admitted 1 0 ≤ 1 = rw (← cond_byte (file_at b i).admitted) (byte_small (file_at b i).admitted) in
-    omega (arith, below-small b i, h)
+below_next b i = rw (add-one i, byte_cond (file_at b i).admitted)
 
-pub one_admitted : (b : Book) (t : Bool) (i n : ℕ) → t ≡ (file_at b i).admitted → n ≡ admitted_below i b
-    → n + bool_byte t ≡ admitted_below (i + 1) b
-one_admitted b t i n e k = rw (add-one i, below_next b i, k, e, cond_byte (file_at b i).admitted)
+-- The admitted of n participants from participant a on are added.
+below_ahead : (b : Book) (a n : ℕ) → admitted_below a b + sum_by (admitted_as b) (range_with_len a n) ≡ admitted_below (a + n) b
+below_ahead b a zero = let e : a + 0 ≡ a = omega arith in rw e (omega arith)
+below_ahead b a (suc n) =
+    let e : a + suc n ≡ a + 1 + n = omega arith in
+    rw e (omega (arith, sum_by-cons (admitted_as b) a (range_with_len (a + 1) n), below_next b a, below_ahead b (a + 1) n))
 
-pub admitted_fits : (b : Book) (t : Bool) (i n : ℕ) → n ≡ admitted_below i b → i < 64 → Fits w64 (n + bool_byte t)
-admitted_fits b t i n h k = record { fits = omega (arith, h, below-small b i, byte_small t) }
+none-below : (b : Book) → admitted_below 0 b ≡ 0
+unfolding admitted_below
+none-below b = refl
 
-pub all_admitted : (b : Book) (i n : ℕ) → i ≤ 64 → 64 ≤ i → n ≡ admitted_below i b → n ≡ admitted_count b
+-- So the sum over all participants counts the admitted.
+pub all_admitted : (b : Book) → sum_by (admitted_as b) (range_with_len 0 64) ≡ admitted_count b
 unfolding admitted_count
-all_admitted b i n h k m = let j : i ≡ 64 = omega arith in m ∙ ap (λ (x : ℕ). admitted_below x b) j
+all_admitted b = omega (arith, none-below b, below_ahead b 0 64)
+
+small_ahead : (b : Book) (a n : ℕ) → sum_by (admitted_as b) (range_with_len a n) ≤ n
+small_ahead b a zero = omega arith
+small_ahead b a (suc n) =
+    omega (arith, sum_by-cons (admitted_as b) a (range_with_len (a + 1) n), byte_small (file_at b a).admitted, small_ahead b (a + 1) n)
+
+-- Of the first n participants at most n are admitted.
+pub below-small : (b : Book) (n : ℕ) → admitted_below n b ≤ n
+below-small b n =
+    let e : 0 + n ≡ n = omega arith in
+    let all : admitted_below 0 b + sum_by (admitted_as b) (range_with_len 0 n) ≡ admitted_below n b = rw e at (below_ahead b 0 n) in
+    omega (arith, none-below b, all, small_ahead b 0 n)
+
+-- They are at most 64.
+pub admitted-small : (b : Book) → sum_by (admitted_as b) (range_with_len 0 64) ≤ 64
+admitted-small b = small_ahead b 0 64
 
 -- The name of a role.
 

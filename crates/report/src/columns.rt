@@ -21,14 +21,11 @@ impl<'a> Measured for &'a [u8] {
 }
 
 // How many digits a number has.
-#[tactic(auto, using(crate::proofs::ColumnLaws::count_small, crate::proofs::ColumnLaws::count_large, crate::proofs::ColumnLaws::count_fits))]
+#[tactic(auto, using(crate::proofs::ColumnLaws::count_none, crate::proofs::ColumnLaws::count_power))]
 fn digit_count(n: u64) -> usize
     ensures { result ≡ length (decimal n) }
 {
-    if n < 10 {
-        return 1;
-    }
-    digit_count(n / 10) + 1
+    n.checked_ilog10().map_or(1, |k| k as usize + 1)
 }
 
 impl Measured for u64 {
@@ -49,15 +46,10 @@ pub fn put_digits(out: &mut Out, count: usize, n: u64)
 }
 
 // A number without its last digits.
-#[tactic(auto, using(crate::proofs::ColumnLaws::all_wholes, crate::proofs::ColumnLaws::tenth_wholes))]
 fn wholes(places: usize, n: u64) -> u64
     ensures { result ≡ n / 10 ^ places }
 {
-    let mut left = n;
-    for _ in 0..places {
-        left /= 10;
-    }
-    left
+    (0..places).fold(n, |left, _| left / 10)
 }
 
 // A number of parts, of which a whole has 10^PLACES.

@@ -17,6 +17,7 @@ mod date; // date.rt: a day as people write it
 mod rows; // rows.rt: the lines of the table
 
 // The words of a book that is well formed.
+// Kept: beside book's BookWords, which has an array of its own: these words are lent, and one type for both would take a trait of what holds words.
 #[derive(Drop)]
 pub struct BookWords<'a> {
     words: &'a [u64],

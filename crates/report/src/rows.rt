@@ -11,6 +11,7 @@ use file::Statement;
 use printing::Out;
 
 // The names of the roles, by their numbers.
+// Kept: the names of `journal`'s ROLES again: there they are one text, which is searched for a name, and has no name by its number.
 const ROLE_NAMES: [&[u8]; 6] = [
     b"supplier",
     b"self-supplied",
@@ -82,13 +83,10 @@ pub fn put_rows(out: &mut Out, book: &BookWords)
 }
 
 // How many participants are admitted.
-#[tactic(auto, using(crate::proofs::TableLaws::none_admitted, crate::proofs::TableLaws::one_admitted, crate::proofs::TableLaws::admitted_fits, crate::proofs::TableLaws::all_admitted))]
 pub fn admitted_count(book: &BookWords) -> u64
     ensures { result ≡ admitted_count (book_of_words book.now) }
 {
-    let mut count = 0;
-    for participant in 0..64 {
-        count += book::is_admitted(book.words, participant) as u64;
-    }
-    count
+    (0..64)
+        .map(|participant| book::is_admitted(book.words, participant) as u64)
+        .sum()
 }

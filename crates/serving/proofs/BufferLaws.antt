@@ -1,14 +1,15 @@
 -- A part of an input in the buffer: its lines taken, and what is left of it moved to the front.
 -- Assumes nothing.
-use Rattle.std.proofs.Common.{◌≡◌, ℕ, ◌+◌, ◌-◌, ◌≤◌, Bool, true, false, ltb, List, length, take, drop, sym, refl, ap, ◌∙◌, arith, length-drop, length-take, length-take-le, take-take, take-add, drop_at}
+use Rattle.std.proofs.Common.{◌≡◌, ℕ, ◌+◌, ◌-◌, ◌%◌, ◌^◌, ◌≤◌, Bool, true, false, ltb, List, length, take, drop, sym, refl, ap, ◌∙◌, arith, length-append, length-drop, length-take, length-take-le, take-take, take-add, drop_at}
 use Rattle.laws.specs.Cases.{split}
 use Rattle.dialogue.specs.declared.Way.{Way}
 use Rattle.dialogue.specs.declared.Place.{Place}
-use Rattle.dialogue.specs.Split.{lines_in, rest_in}
+use Rattle.dialogue.specs.Split.{lines_in, rest_in, with_newlines}
+use Rattle.dialogue.proofs.CompleteLines.{joined-again}
 use Rattle.dialogue.specs.Turns.{State, ended, after_all}
 use Rattle.dialogue.specs.Answers.{state_of}
 use Rattle.dialogue.specs.Whole.{known_place}
-use Rattle.serving.specs.Input.{is_long, staying, RestKept, PartTaken}
+use Rattle.serving.specs.Input.{is_long, staying, RestKept, PartTaken, complete}
 use Rattle.serving.specs.Parts.{Drained}
 
 -- What is behind the used bytes of the first `full` bytes.
@@ -18,6 +19,10 @@ behind-used e used full h k =
     sym
     (ap (λ (m : ℕ). drop used (take m e)) n ∙ ap (drop used) (take-add used (full - used) e)
     ∙ drop_at (take used e) (take (full - used) (drop used e)) used (length-take-le used e (omega arith)))
+
+-- A list is as long as its complete lines and its rest.
+pub complete_rest : (l : List ℕ) → complete l + length (rest_in l) ≡ length l
+complete_rest l = sym (length-append (with_newlines (lines_in l)) (rest_in l)) ∙ ap length (joined-again l)
 
 -- Whether the lines have ended does not hang on a line that has begun.
 pub ended-known : (way : Way) (t : Bool) (p : Place) → ended way (known_place t p) ≡ ended way p
@@ -76,3 +81,11 @@ module _ (way : Way) (room : ℕ) (s : State) (words e f : List ℕ) (full used 
         many = many-stay;
         front = front-stays;
       }
+
+  -- The used bytes are those of its complete lines.
+  pub part-counted : (before between after : ℕ) → between ≡ before → after ≡ (between + used) % 2 ^ 64
+      → ended way (known_place long p) ≡ false → after ≡ (before + complete (take full e)) % 2 ^ 64
+  part-counted before between after same behind n =
+      let k : used ≡ complete (take full e) =
+      omega (arith, ap length (is-rest n), complete_rest (take full e), length-drop used (take full e), length-take full e, used-within) in
+      behind ∙ ap (λ (z : ℕ). (z + used) % 2 ^ 64) same ∙ ap (λ (z : ℕ). (before + z) % 2 ^ 64) k

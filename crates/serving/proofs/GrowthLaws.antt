@@ -2,7 +2,7 @@
 -- Assumes nothing.
 use Rattle.std.proofs.Common.{◌≡◌, ℕ, ◌+◌, ◌-◌, ◌%◌, ◌^◌, Bool, false, eqb, List, [], ◌++◌, length, take, drop, sym, refl, ap, ◌∙◌, subst, append-nil, add_assoc, arith, length-append, take-append-drop, take-add, ne_eqb, eqb-true}
 use native.Mathlib.Nat.{mod-add-mod}
-use borrow.Author.Tests.{eqb-false}
+use borrow.Author.Tests.{eqb-false, ltb-false}
 use Rattle.laws.specs.Cases.{split}
 use Rattle.dialogue.specs.declared.Way.{Way}
 use Rattle.dialogue.specs.declared.Place.{Place}
@@ -12,7 +12,8 @@ use Rattle.dialogue.proofs.SplitLaws.{lines-behind}
 use Rattle.dialogue.proofs.CompleteLines.{all_lines}
 use Rattle.dialogue.proofs.TurnLaws.{journal-append, ended-journal}
 use Rattle.storage.specs.declared.kept.Journal.{Journal}
-use Rattle.std.specs.Prelude.{Option, Some, None, Result, Ok}
+use Rattle.std.specs.Prelude.{true, cond, nat_lt, Option, Some, None, Result, Ok}
+use Rattle.std.specs.Result.{result_ok}
 use Rattle.serving.specs.Delivery.{longer_by, Delivered, Became, Grown}
 use Rattle.serving.specs.Parts.{Step}
 use Rattle.serving.proofs.PartLaws.{rest_all, Draining, no-journal, here, at-start}
@@ -56,6 +57,15 @@ took bytes kept silent p before after r y is e =
   where
     delivered : silent ≡ false → Delivered before kept after
     delivered q = rw is at (y.kept q)
+
+left-none : (n : ℕ) (before after : Option Journal) → Some after ≡ cond (nat_lt 0 n) None (Some before) → n ≡ 0
+left-none n before after m =
+    split (nat_lt 0 n) (λ w. let x : Some after ≡ None = rw w at m in cc) (λ w. omega (arith, ltb-false 0 n w))
+
+-- Where lines are replayed and a journal is left, none of them was refused or an error.
+pub none-refused : {E : Type 0} (bytes : List ℕ) (silent : Bool) (p : Place) (before after : Option Journal) (r : Result (Option Journal) E)
+    → Became silent p before bytes r → r ≡ Ok after → silent ≡ true → p.refused ≡ 0
+none-refused bytes silent p before after r y is e = left-none p.refused before after (sym (ap result_ok is) ∙ y.replayed e)
 
 -- ---- .. and of all
 

@@ -4,3 +4,5 @@ pub mod BufferLaws
 pub mod StreamLaws
 pub mod InputStream
 pub mod LoadLaws
+pub mod LastLine
+pub mod ReplayLaws

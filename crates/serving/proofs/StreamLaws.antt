@@ -51,7 +51,7 @@ stay-test : (n most : ℕ) → staying false n most ≡ cond (leb most n) 0 n
 stay-test n most =
     split (leb most n) (λ e. rw (e, le-ltb n most (leb-true most n e)) refl) (λ e. rw (e, lt-ltb n most (omega (arith, leb-false most n e))) refl)
 
-front-test : (t : Bool) (used : ℕ) (rest : List ℕ) → used ≡ cond t 0 (length rest) → take used rest ≡ cond t [] rest
+pub front-test : (t : Bool) (used : ℕ) (rest : List ℕ) → used ≡ cond t 0 (length rest) → take used rest ≡ cond t [] rest
 front-test true used rest e = rw e refl
 front-test false used rest e = take_all used rest (omega arith)
 
@@ -74,7 +74,7 @@ module _ (way : Way) (room : ℕ) (s : State) (most : ℕ) (t u : State) (used f
   few = omega (arith, ap length rest, rest-within (take full e), length-take full e, m)
 
   module _ (n : ended way u.place ≡ false) where
-    place-joined : u.place ≡ known_place (leb most (length (rest_in g))) end.place
+    pub place-joined : u.place ≡ known_place (leb most (length (rest_in g))) end.place
     place-joined =
         x.place n
         ∙ ap (λ (z : State). known_place (is_long z.place.long (length (rest_in (take full e))) (length e)) z.place) state
@@ -84,7 +84,7 @@ module _ (way : Way) (room : ℕ) (s : State) (most : ℕ) (t u : State) (used f
         ∙ ap (λ (z : ℕ). known_place (is_long false (length (rest_in g)) z) end.place) m
         ∙ ap (λ (z : Bool). known_place z end.place) (long-test (length (rest_in g)) most few)
 
-    many-joined : used ≡ cond (leb most (length (rest_in g))) 0 (length (rest_in g))
+    pub many-joined : used ≡ cond (leb most (length (rest_in g))) 0 (length (rest_in g))
     many-joined =
         x.many n ∙ ap (λ (z : State). staying z.place.long (length (rest_in (take full e))) (length e)) state
         ∙ ap (λ (z : Bool). staying z (length (rest_in (take full e))) (length e)) (stream-begins most way room s (lines_in g) begins)
@@ -92,7 +92,7 @@ module _ (way : Way) (room : ℕ) (s : State) (most : ℕ) (t u : State) (used f
         ∙ ap (λ (z : ℕ). staying false (length (rest_in g)) z) m
         ∙ stay-test (length (rest_in g)) most
 
-  pub joined : InputTaken way room s most u used f
+  abbrev pub joined : InputTaken way room s most u used f
   joined =
       record {
         bytes = g;
@@ -108,18 +108,18 @@ module _ (way : Way) (room : ℕ) (s : State) (most : ℕ) (t u : State) (used f
 module _ (way : Way) (room : ℕ) (s : State) (most : ℕ) (t v u : State) (used full : ℕ) (e f g : List ℕ)
     (x : PartTaken way room t e full u used f) (none : lines_in (take full e) ≡ []) (is : t ≡ knowing true v)
     (state : stream_after most way room s (lines_in g) ≡ v) (long : most ≤ length (rest_in g)) where
-  is-still : after_all way room t (lines_in (take full e)) ≡ knowing true v
+  pub is-still : after_all way room t (lines_in (take full e)) ≡ knowing true v
   unfolding after_all
   is-still = ap (after_all way room t) none ∙ is
 
-  is-long : leb most (length (rest_in g)) ≡ true
+  pub is-long : leb most (length (rest_in g)) ≡ true
   is-long = le-leb most (length (rest_in g)) long
 
-  no_byte : ended way u.place ≡ false → used ≡ 0
+  pub no_byte : ended way u.place ≡ false → used ≡ 0
   no_byte n =
       x.many n ∙ ap (λ (z : State). staying z.place.long (length (rest_in (take full e))) (length e)) is-still
 
-  pub still-long : InputTaken way room s most u used f
+  abbrev pub still-long : InputTaken way room s most u used f
   still-long =
       record {
         bytes = g;

@@ -1,9 +1,10 @@
 -- A buffer between two reads.
 -- Assumes nothing.
-use Rattle.std.specs.Prelude.{◌≡◌, ℕ, ◌-◌, ◌≤◌, Bool, false, cond, ◌||◌, List, [], length, take, drop, ◌==◌, nat_le, nat_lt, Result, Ok}
+use Rattle.std.specs.Prelude.{◌≡◌, ℕ, ◌+◌, ◌-◌, ◌%◌, ◌^◌, ◌<◌, ◌≤◌, Bool, false, cond, ◌||◌, List, [], length, take, drop, ◌==◌, nat_le, nat_lt, Result, Ok}
 use Rattle.std.specs.Result.{result_unwrap_or}
+use Rattle.laws.specs.Lists.{All}
 use Rattle.dialogue.specs.declared.Way.{Way}
-use Rattle.dialogue.specs.Split.{lines_in, rest_in}
+use Rattle.dialogue.specs.Split.{lines_in, rest_in, with_newlines}
 use Rattle.dialogue.specs.Turns.{State, ended, after_all}
 use Rattle.dialogue.specs.Whole.{known_place, stream_after}
 
@@ -54,3 +55,14 @@ pub record InputTaken (way : Way) (room : ℕ) (s : State) (most : ℕ) (t : Sta
       → t.place ≡ known_place (nat_le most (length (rest_in bytes))) (stream_after most way room s (lines_in bytes)).place
   pub many : ended way t.place ≡ false → used ≡ cond (nat_le most (length (rest_in bytes))) 0 (length (rest_in bytes))
   pub rest : ended way t.place ≡ false → take used f ≡ cond (nat_le most (length (rest_in bytes))) [] (rest_in bytes)
+
+-- How many bytes the complete lines of a list have, with their newlines.
+abbrev pub complete : List ℕ → ℕ
+complete bytes = length (with_newlines (lines_in bytes))
+
+-- The same of an input, and how many bytes are counted: where none of its complete lines is too long, all of theirs behind those counted before, of
+-- some bytes, those that were read; what is counted of the bytes in the buffer, `take_part` says.
+pub record InputCounted (way : Way) (room : ℕ) (s : State) (most : ℕ) (t : State) (used : ℕ) (f : List ℕ) (before after : ℕ) : Type 0 where
+  pub taken : InputTaken way room s most t used f
+  pub counted : ended way t.place ≡ false → All (λ (l : List ℕ). length l < most) (lines_in taken.bytes)
+      → after ≡ (before + complete taken.bytes) % 2 ^ 64

@@ -2,6 +2,7 @@
 ghost use Rattle.std.specs.Prelude.{◌≡◌, ◌<◌, ◌≤◌, length, take};
 
 // A buffer, and how many bytes of it are filled: those of a line that has begun, which leave room.
+// Kept: an array with the length of what it holds, in place of a Vec, since the program keeps fixed memory and nothing on the heap.
 #[derive(Drop)]
 pub struct Buffer {
     pub bytes: [u8; 65536],

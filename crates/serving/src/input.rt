@@ -1,17 +1,17 @@
 // An input, read in parts to its end, and a file entered behind it.
-ghost use Rattle.std.specs.Prelude.{◌≡◌, ◌+◌, ◌%◌, ◌^◌, ◌≤◌, true, false, not, cond, None, length, OnOk, OnErr, IsOk};
+ghost use Rattle.std.specs.Prelude.{◌≡◌, ◌+◌, ◌%◌, ◌^◌, ◌≤◌, true, false, not, cond, None, length, take, OnOk, OnErr, IsOk};
 ghost use Rattle.dialogue.specs.Turns.{ended};
 ghost use Rattle.dialogue.specs.Answers.{state_of};
+ghost use Rattle.words.specs.Text.{text};
 ghost use Rattle.storage.specs.declared.handles.Input.TheVariants.{Journal, Standard};
-ghost use Rattle.serving.specs.Input.{MoreRead, RestKept, PartTaken, InputTaken};
-ghost use Rattle.serving.specs.Load.{EnteredIf};
+ghost use Rattle.serving.specs.Input.{MoreRead, RestKept, PartTaken, InputCounted, complete};
+ghost use Rattle.serving.specs.Load.{MayEnter, Loads, EnteredIf};
 
 use crate::buffers::{Buffer, Entry};
 use crate::desk::Desk;
 use crate::session::Session;
 use crate::usage::put_end;
 use dialogue::Place;
-use std::num::wrapping_add_u64;
 use storage::{Input, Stopped, failed};
 
 // What is answered: standard input to its end, a file as one batch, or the file behind standard input.
@@ -26,12 +26,12 @@ pub enum Sources<'a> {
 fn behind(before: u64, used: usize) -> u64
     ensures { result ≡ (before + used) % 2 ^ 64 }
 {
-    wrapping_add_u64(before, used as u64)
+    before.wrapping_add(used as u64)
 }
 
 impl Buffer {
-    // Moves the bytes from a place up to another to the front, where they stay unless the line that they begin is too long: it was before, or it fills
-    // the buffer. Answers whether it is.
+    // Moves the bytes from a place up to another to the front, where they stay unless the line that they begin is too long: it was before, or it
+    // fills the buffer. Answers whether it is.
     fn keep_rest(&mut self, long: bool, from: usize, to: usize) -> bool
         requires { (from ≤ to) × (to ≤ length self.old.bytes) }
         ensures { RestKept long self.old.bytes from to result self.new.filled self.new.bytes }
@@ -57,7 +57,9 @@ impl<'a> Session<'a> {
     }
 
     // How the input is called.
-    fn input_name(self) -> &'a [u8] {
+    fn input_name(self) -> &'a [u8]
+        ensures { result.now ≡ cond self.entry.way.replays self.entry.handles.now.name.now (text "standard input") }
+    {
         if self.way.replays {
             self.handles.name
         } else {
@@ -74,20 +76,20 @@ impl<'a> Session<'a> {
             return Ok(0);
         }
         let filled = buffer.filled;
-        match self
-            .handles
+        self.handles
             .read_part(self.rt, self.input(), &mut buffer.bytes[filled..])
-        {
-            Ok(n) => Ok(n),
-            Err(error) => Err(failed(self.rt, self.input_name(), error)),
-        }
+            .map_err(|error| failed(self.rt, self.input_name(), error))
     }
 
     // Takes the complete lines of a part, which is what the buffer held and so many bytes behind it, and keeps what is left of it in the buffer.
+    // Kept: here and below the desk and the buffer apart: `drain` takes the desk alone, and the part that it drains lies in the buffer.
     fn take_part(self, desk: &mut Desk, buffer: &mut Buffer, more: usize) -> Result<(), Stopped>
         requires { buffer.old.filled + more ≤ length buffer.old.bytes }
         ensures taken { OnOk result (PartTaken self.entry.way (length desk.old.numbers) (state_of desk.old.book desk.old.place) buffer.old.bytes
             (buffer.old.filled + more) (state_of desk.new.book desk.new.place) buffer.new.filled buffer.new.bytes) }
+        ensures counted { OnOk result (ended self.entry.way desk.new.place ≡ false
+            → desk.new.bytes ≡ (desk.old.bytes + complete (take (buffer.old.filled + more) buffer.old.bytes)) % 2 ^ 64) }
+        ensures on { OnOk result (self.entry.way.replays ≡ true → desk.new.place.refused ≡ 0) }
         ensures stopped { OnErr result (desk.new.journal ≡ None) }
     {
         let full = buffer.filled + more;
@@ -100,10 +102,13 @@ impl<'a> Session<'a> {
     // Reads an input to its end, part by part, and takes the complete lines of each part before it waits for more. What is left of a last line
     // without newline stands in the buffer.
     pub fn take_parts(self, desk: &mut Desk, buffer: &mut Buffer) -> Result<(), Stopped>
-        ensures { desk.old.place.long ≡ false → OnOk result (InputTaken self.entry.way (length desk.old.numbers) (state_of desk.old.book desk.old.place)
-            (length buffer.old.bytes) (state_of desk.new.book desk.new.place) buffer.new.filled buffer.new.bytes) }
+        ensures counted { desk.old.place.long ≡ false → OnOk result (InputCounted self.entry.way (length desk.old.numbers)
+            (state_of desk.old.book desk.old.place) (length buffer.old.bytes) (state_of desk.new.book desk.new.place)
+            buffer.new.filled buffer.new.bytes desk.old.bytes desk.new.bytes) }
+        ensures on { desk.old.place.refused ≡ 0 → OnOk result (self.entry.way.replays ≡ true → desk.new.place.refused ≡ 0) }
     {
         buffer.filled = 0;
+        // Kept: a bound that no input reaches, since a loop with no end needs the handle `Wait`, and by a rule of the project none is allowed.
         for _ in 0..u64::MAX {
             let more = self.read_more(desk.place, buffer)?;
             if more == 0 {
@@ -138,6 +143,8 @@ impl<'a> Session<'a> {
     fn take_file(self, desk: &mut Desk, file: Entry) -> Result<(), Stopped>
         ensures entered_if { OnOk result (EnteredIf (not (ended self.entry.way desk.old.place)) self.entry.way (length desk.old.numbers)
             (state_of desk.old.book desk.old.place) desk.old.journal file.entry.bytes.now (state_of desk.new.book desk.new.place) desk.new.journal) }
+        ensures loads { MayEnter self.entry.way (length desk.old.numbers) (state_of desk.old.book desk.old.place) file.entry.bytes.now
+            → Loads self.entry.way (length desk.old.numbers) (state_of desk.old.book desk.old.place) file.entry.bytes.now }
         ensures ended { ended self.entry.way desk.old.place ≡ true → IsOk result }
         ensures bytes { desk.new.bytes ≡ desk.old.bytes }
         ensures stopped { OnErr result (desk.new.journal ≡ None) }
@@ -160,8 +167,8 @@ impl<'a> Session<'a> {
         }
     }
 
-    // Answers standard input and a file's bytes, and says at last that all was answered where that is asked for and it was. What is typed is never taken
-    // as a journal that is replayed is, so always under the new admission rule.
+    // Answers standard input and a file's bytes, and says at last that all was answered where that is asked for and it was. What is typed is never
+    // taken as a journal that is replayed is, so always under the new admission rule.
     pub fn answer_all(self, desk: &mut Desk, from: Sources, says_end: bool)
         requires { self.way.replays ≡ false }
     {

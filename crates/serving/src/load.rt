@@ -5,24 +5,21 @@ ghost use Rattle.printing.specs.Written.{followed};
 ghost use Rattle.dialogue.specs.Turns.{all_journal};
 ghost use Rattle.dialogue.specs.Answers.{state_of};
 ghost use Rattle.serving.specs.Delivery.{Grown};
-ghost use Rattle.serving.specs.Load.{AreBytes, batch_text, batch_line, Entered};
+ghost use Rattle.serving.specs.Load.{AreBytes, batch_text, batch_line, MayEnter, Loads, Entered};
 
 use crate::buffers::Entry;
 use crate::desk::Desk;
 use crate::session::Session;
-use answering::put_kept;
+use answering::{put_kept, put_made};
 use journal::Request;
 use printing::Out;
 use storage::Stopped;
 
-// Writes bytes to the front of a slice, as numbers.
-fn put_numbers(bytes: &[u8], numbers: &mut [i64])
-    requires { length bytes.now ≤ length numbers.old }
-    ensures { numbers.new ≡ sets numbers.old 0 (map pos bytes.now) }
+// A byte as a number.
+fn number(byte: u8) -> i64
+    ensures { result ≡ pos byte }
 {
-    for (i, byte) in bytes.iter().enumerate() {
-        numbers[i] = i64::from(*byte);
-    }
+    i64::from(byte)
 }
 
 // The line that a file's bytes make. It is that of a kept call, whose numbers are the bytes.
@@ -32,7 +29,7 @@ fn put_line(out: &mut Out, bytes: &[u8], numbers: &mut [i64])
     ensures put { out.new ≡ followed out.old (batch_line bytes.now) }
     ensures are_bytes { AreBytes bytes.now }
 {
-    put_numbers(bytes, numbers);
+    put_made(bytes, numbers, number);
     put_kept(out, Request::Batch(bytes.len()), numbers)
 }
 
@@ -42,8 +39,10 @@ impl<'a> Session<'a> {
         ensures entered { OnOk result (Entered self.entry.way (length desk.old.numbers) (state_of desk.old.book desk.old.place) file.entry.bytes.now
             (state_of desk.new.book desk.new.place)) }
         ensures grown { OnOk result (Grown self.entry.way.replays desk.old.journal
-            (length (all_journal self.entry.way (length desk.old.numbers) (state_of desk.old.book desk.old.place) (batch_text file.entry.bytes.now ∷ [])))
-            desk.new.journal) }
+            (length (all_journal self.entry.way (length desk.old.numbers) (state_of desk.old.book desk.old.place)
+            (batch_text file.entry.bytes.now ∷ []))) desk.new.journal) }
+        ensures loads { MayEnter self.entry.way (length desk.old.numbers) (state_of desk.old.book desk.old.place) file.entry.bytes.now
+            → Loads self.entry.way (length desk.old.numbers) (state_of desk.old.book desk.old.place) file.entry.bytes.now }
         ensures bytes { desk.new.bytes ≡ desk.old.bytes }
         ensures stopped { OnErr result (desk.new.journal ≡ None) }
     {

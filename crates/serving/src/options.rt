@@ -6,7 +6,7 @@ use storage::{argument, argument_count};
 
 // What the arguments ask for: the options, whether the usage or the version is asked for, whether there is one that is none of these, the place of
 // the journal's name among the arguments, whether the next one is the name of the file to be entered, and the place of that name.
-// Kept: each flag is a choice of its own, and none says whether another field holds a value.
+// Kept: each flag is a choice of its own; `awaits` may stand beside the place of an earlier --load, which an enum of the two would lose.
 #[derive(Clone, Copy, Default)]
 pub struct Options {
     pub bail: bool,
@@ -21,18 +21,27 @@ pub struct Options {
     pub load: Option<usize>,
 }
 
-// Whether an argument begins as an option does.
-fn is_dashed(argument: &[u8]) -> bool
-    ensures { result ≡ is_dashed argument.now }
-{
-    argument.starts_with(b"-")
+// An argument, and its place among all.
+#[derive(Clone, Copy)]
+struct Argument<'a> {
+    place: usize,
+    text: &'a [u8],
 }
 
-// Whether an argument is an option.
-fn is(argument: &[u8], option: &[u8]) -> bool
-    ensures { result ≡ is argument.now option.now }
-{
-    argument == option
+impl<'a> Argument<'a> {
+    // Whether it begins as an option does.
+    fn is_dashed(self) -> bool
+        ensures { result ≡ is_dashed self.entry.text.now }
+    {
+        self.text.starts_with(b"-")
+    }
+
+    // Whether it is an option.
+    fn is(self, option: &[u8]) -> bool
+        ensures { result ≡ is self.entry.text.now option.now }
+    {
+        self.text == option
+    }
 }
 
 impl Options {
@@ -43,20 +52,21 @@ impl Options {
         Options::default()
     }
 
-    // What is asked for with one argument more, at a place: an option, or the one name of a journal, which does not begin as an option does.
+    // What is asked for with one argument more: an option, or the one name of a journal, which does not begin as an option does.
     #[tactic(auto, unfolding(crate::specs::Options::with_option))]
-    fn with_option(self, place: usize, argument: &[u8]) -> Options
-        ensures { result ≡ with_option self place argument.now }
+    fn with_option(self, argument: Argument) -> Options
+        ensures { result ≡ with_option self argument.entry.place argument.entry.text.now }
     {
-        let bail = is(argument, b"--bail");
-        let end = is(argument, b"--end");
-        let batch = is(argument, b"--batch");
-        let read = is(argument, b"--read");
-        let help = is(argument, b"--help") | is(argument, b"-h");
-        let version = is(argument, b"--version");
-        let load = is(argument, b"--load");
+        // Kept: names compared one by one: tried in `journal`'s `lodge`, with two names, a match on byte strings left 15 goals open.
+        let bail = argument.is(b"--bail");
+        let end = argument.is(b"--end");
+        let batch = argument.is(b"--batch");
+        let read = argument.is(b"--read");
+        let help = argument.is(b"--help") | argument.is(b"-h");
+        let version = argument.is(b"--version");
+        let load = argument.is(b"--load");
         let named = !(bail | end | batch | read | help | version | load);
-        let free = !is_dashed(argument) & self.name.is_none();
+        let free = !argument.is_dashed() & self.name.is_none();
         Options {
             bail: self.bail | bail,
             end: self.end | end,
@@ -65,34 +75,38 @@ impl Options {
             help: self.help | help,
             version: self.version | version,
             wrong: self.wrong | (named & !free) | (load & self.load.is_some()),
-            name: if named & free { Some(place) } else { self.name },
+            name: if named & free {
+                Some(argument.place)
+            } else {
+                self.name
+            },
             awaits: load,
             load: self.load,
         }
     }
 
-    // What is asked for with the name of the file to be entered, at a place, which does not begin as an option does.
+    // What is asked for with the name of the file to be entered, which does not begin as an option does.
     #[tactic(auto, unfolding(crate::specs::Options::with_load))]
-    fn with_file(self, place: usize, argument: &[u8]) -> Options
-        ensures { result ≡ with_load self place argument.now }
+    fn with_file(self, argument: Argument) -> Options
+        ensures { result ≡ with_load self argument.entry.place argument.entry.text.now }
     {
         Options {
-            wrong: self.wrong | is_dashed(argument),
+            wrong: self.wrong | argument.is_dashed(),
             awaits: false,
-            load: Some(place),
+            load: Some(argument.place),
             ..self
         }
     }
 
-    // What is asked for with one argument more, at a place.
+    // What is asked for with one argument more.
     #[tactic(auto, unfolding(crate::specs::Options::with_argument))]
-    fn with_argument(self, place: usize, argument: &[u8]) -> Options
-        ensures { result ≡ with_argument self place argument.now }
+    fn with_argument(self, argument: Argument) -> Options
+        ensures { result ≡ with_argument self argument.entry.place argument.entry.text.now }
     {
         if self.awaits {
-            self.with_file(place, argument)
+            self.with_file(argument)
         } else {
-            self.with_option(place, argument)
+            self.with_option(argument)
         }
     }
 
@@ -108,9 +122,13 @@ impl Options {
 pub fn asked_for(rt: &HostRuntime) -> Options {
     let mut options = Options::none();
     let mut buffer = io::buffer();
+    // Kept: a loop, since a fold's closure would have to change the lent buffer.
     for place in 1..argument_count(rt) {
         let n = argument(rt, place, &mut buffer).unwrap_or(0);
-        options = options.with_argument(place, &buffer[..n]);
+        options = options.with_argument(Argument {
+            place,
+            text: &buffer[..n],
+        });
     }
     options
 }

@@ -1,13 +1,13 @@
 // The replay of a journal.
-ghost use Rattle.std.specs.Prelude.{◌≡◌, length};
+ghost use Rattle.std.specs.Prelude.{◌≡◌, false, length, OnOk};
 ghost use Rattle.std.specs.Result.{is_ok};
-ghost use Rattle.serving.specs.Replay.{is_rest, passes};
+ghost use Rattle.dialogue.specs.Answers.{state_of};
+ghost use Rattle.serving.specs.Replay.{is_rest, passes, Replayed};
 
 use crate::buffers::Buffer;
 use crate::desk::Desk;
 use crate::session::Session;
 use dialogue::Place;
-use std::num::wrapping_add_u64;
 use storage::{Stopped, about, about_line, show_dropped};
 
 // More bytes than any version of the ledger kept in a line, with its newline: what stands behind the last newline and is as long is no rest of one.
@@ -22,7 +22,9 @@ fn is_rest(place: Place, rest: &[u8]) -> bool
 }
 
 impl<'a> Session<'a> {
-    // What stands behind the last newline is said: it is dropped, or passed over where the journal is only read. It stops where it may not stand there.
+    // What stands behind the last newline is said: it is dropped, or passed over where the journal is only read. It stops where it may not stand
+    // there.
+    // Kept: a flag for what is said of the rest, since a closure in its stead would be made of the same flag at the one call.
     fn pass(self, place: Place, rest: &[u8], drops: bool) -> Result<(), Stopped>
         ensures { is_ok result ≡ passes place (length rest.now) }
     {
@@ -33,7 +35,7 @@ impl<'a> Session<'a> {
             about_line(
                 self.rt,
                 self.handles.name,
-                wrapping_add_u64(place.line, 1),
+                place.line.wrapping_add(1),
                 b"has no end and is no part of a kept line; nothing is changed",
             );
             return Err(Stopped);
@@ -50,10 +52,13 @@ impl<'a> Session<'a> {
         Ok(())
     }
 
-    // Replays the journal that is open to its end, and says why it can't be gone on with.
-    pub fn replay(self, desk: &mut Desk, drops: bool) -> Result<(), Stopped> {
-        let mut buffer = Buffer::new();
-        self.take_parts(desk, &mut buffer)?;
+    // Replays the journal that is open to its end, and says why it can't be gone on with. What stands behind its last newline is in the buffer.
+    pub fn replay(self, desk: &mut Desk, buffer: &mut Buffer, drops: bool) -> Result<(), Stopped>
+        ensures { desk.old.place.long ≡ false → OnOk result (Replayed self.entry.way (length desk.old.numbers)
+            (state_of desk.old.book desk.old.place) (state_of desk.new.book desk.new.place) buffer.new.filled buffer.new.bytes
+            desk.old.bytes desk.new.bytes) }
+    {
+        self.take_parts(desk, buffer)?;
         self.pass(desk.place, buffer.rest(), drops)
     }
 }

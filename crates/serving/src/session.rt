@@ -7,6 +7,7 @@ use dialogue::{Place, Way};
 use storage::Handles;
 
 // The system, the files of the journal, and the way to take the lines of an input: of the journal where one is replayed, else of standard input.
+// Kept: the desk goes beside it, since a session is copied with another way (`last`), which one that holds a desk lent to be changed is not.
 #[derive(Clone, Copy)]
 pub struct Session<'a> {
     pub rt: &'a HostRuntime,

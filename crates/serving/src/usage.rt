@@ -3,9 +3,10 @@ ghost use Rattle.std.specs.Prelude.{◌≡◌};
 ghost use Rattle.printing.specs.Written.{followed};
 ghost use Rattle.serving.specs.End.{end_line};
 
+use crate::delivery::put_out;
 use dialogue::Place;
 use printing::Out;
-use storage::{Stream, failed, write_whole};
+use storage::{Stream, write_whole};
 
 // How the program is called.
 pub fn put_usage(rt: &HostRuntime, stream: Stream) {
@@ -49,7 +50,5 @@ pub fn put_end(rt: &HostRuntime, place: Place) {
     let mut buffer = io::buffer();
     let mut line = Out::new(&mut buffer);
     put_end_line(&mut line, place);
-    if let Err(error) = write_whole(rt, Stream::Output, line.written()) {
-        let _ = failed(rt, b"standard output", error);
-    }
+    let _ = put_out(rt, line.written());
 }

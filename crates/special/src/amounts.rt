@@ -15,6 +15,7 @@ fn sum(list: &[i64]) -> i64
     requires { Amounts list.now }
     ensures { result ≡ sum_of list.now }
 {
+    // Kept: tried `list.iter().sum()`: that each partial sum fits (`sum-requires-clause-fits`) stayed open; std's lemma is of unsigned numbers.
     let mut total = 0;
     for amount in list {
         total += *amount;

@@ -15,6 +15,7 @@ const AMOUNT: i64 = 1000000000000;
 fn all_between(list: &[i64], low: i64, high: i64) -> bool
     ensures { result ≡ every (between low high) list.now }
 {
+    // Kept: tried `(low..=high).contains(x)` in the closure: that a call leaves the closure as it was stayed open in `returns`.
     list.iter().all(|x| low <= *x && *x <= high)
 }
 

@@ -15,6 +15,7 @@ use refusal::Refusal;
 
 // What a special guarantee is worked out from: the rates of the medium and of the low voltage, a mark for each of the low voltage's, and
 // by semester the zero settlements and the repaid excesses of the medium and of the low voltage.
+// Kept: parallel lists, and marks as numbers: the C interface lends seven lists, whose lengths (19) and marks (11) have causes of their own.
 #[derive(Clone, Copy)]
 pub struct Lists<'a> {
     pub medium: &'a [i64],

@@ -12,6 +12,7 @@ use refusal::Refusal;
 const BELOW: i64 = -100001;
 
 // The three largest of the rates seen, largest first, and how many were seen.
+// Kept: a number below every rate where none is seen: `mean` is asked only from three on, and three Options would be taken apart there.
 #[derive(Clone, Copy)]
 pub struct Best {
     pub a: i64,
@@ -26,6 +27,7 @@ impl Best {
         requires { self.n + 1 < 2 ^ 64 }
         ensures { (kept result ≡ take 3 (insert rate (kept self))) × (result.n ≡ self.n + 1) }
     {
+        // Kept: four branches, since `max` and `min` of the rate and the three agree with `insert` only where the three fall, which is not required.
         let n = self.n + 1;
         if self.a < rate {
             Best {
@@ -75,6 +77,7 @@ fn best_of(rates: &[i64], marks: &[u64]) -> Best
         c: BELOW,
         n: 0,
     };
+    // Kept: a `fold` is no plainer: its closure would have to require how many were seen (as `with` does); a `zip` would end with `marks`.
     for i in (0..rates.len()).rev() {
         if mark_at(marks, i) == 0 {
             best = best.with(rates[i]);

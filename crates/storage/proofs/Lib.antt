@@ -1,2 +1,3 @@
+pub mod Modes
 pub mod Names
 pub mod Numbers

@@ -2,25 +2,21 @@
 ghost use Rattle.std.specs.Prelude.{◌≡◌};
 ghost use Rattle.std.specs.Io.{ReadsAtMost};
 
+use crate::errors::{EINVAL, ENAMETOOLONG};
 use std::env::FillError;
 use std::io;
 use std::io::Error;
 use std::rt::Env;
 
-// The errors of an argument that is longer than its buffer, and of one that is not there.
-const ENAMETOOLONG: i32 = 36;
-
-const EINVAL: i32 = 22;
-
 // Puts an argument at the start of a buffer, and answers how many bytes it has. The program's own name is argument 0.
+// Kept: the length and not the text, as `Read` answers it: a public promise on the buffer (`ReadsAtMost`), by which callers cut it.
 pub fn argument(rt: &HostRuntime, at: usize, buffer: &mut [u8]) -> io::Result<usize>
     ensures { ReadsAtMost result buffer.new }
 {
-    match rt.arg(at, buffer) {
-        Ok(n) => Ok(n),
-        Err(FillError::TooLong) => Err(Error::from_raw_os_error(ENAMETOOLONG)),
-        Err(FillError::NotPresent) => Err(Error::from_raw_os_error(EINVAL)),
-    }
+    rt.arg(at, buffer).map_err(|error| match error {
+        FillError::TooLong => Error::from_raw_os_error(ENAMETOOLONG),
+        FillError::NotPresent => Error::from_raw_os_error(EINVAL),
+    })
 }
 
 // Whether there is an argument at a place.

@@ -1,5 +1,6 @@
 // Regular files, opened, made and cut.
-ghost use Rattle.std.specs.Prelude.{◌≡◌, ℕ, ◌-◌, ◌<◌, ◌≤◌, ◌≢◌, length, slice_index};
+// Kept: `rt` and a name side by side, here and below: std takes `rt` and a path, and a lock's or a directory's name would need a struct anew.
+ghost use Rattle.std.specs.Prelude.{◌≡◌, ℕ, ◌-◌, ◌<◌, ◌≤◌, ◌≢◌, length, slice_index, IfOk};
 
 use crate::known::{facts_at, facts_of};
 use crate::messages::{Stopped, Trouble, said};
@@ -13,26 +14,18 @@ use std::{fs, io};
 // Whether a name may be opened: it leads to a regular file or to none. If not, nothing is opened: a pipe would wait.
 pub fn may_open(rt: &HostRuntime, name: &[u8]) -> Result<(), Trouble> {
     match facts_at(rt, name) {
-        Ok(facts) => {
-            if facts.regular {
-                Ok(())
-            } else {
-                Err(Trouble::NotRegular)
-            }
-        }
-        Err(error) => {
-            if error.kind() == ErrorKind::NotFound && !name.is_empty() {
-                Ok(())
-            } else {
-                Err(Trouble::System(error))
-            }
-        }
+        Ok(facts) if facts.regular => Ok(()),
+        Ok(_) => Err(Trouble::NotRegular),
+        Err(error) if error.kind() == ErrorKind::NotFound && !name.is_empty() => Ok(()),
+        Err(error) => Err(Trouble::System(error)),
     }
 }
 
 // A file as it was opened, if it is a regular one beside the standard streams. One in the place of a standard stream is closed before a word is said,
 // or the word would stand in the file.
-pub fn checked(opened: io::Result<File>) -> Result<File, Trouble> {
+pub fn checked(opened: io::Result<File>) -> Result<File, Trouble>
+    ensures { IfOk result (λ file. opened ≡ Ok file) }
+{
     let file = opened?;
     if file.as_raw_fd() < 3 {
         return Err(Trouble::NotOpened);
@@ -43,6 +36,7 @@ pub fn checked(opened: io::Result<File>) -> Result<File, Trouble> {
     Ok(file)
 }
 
+// Kept: four ways to open, three by options of their own: one function would take the options, which each caller would then write out.
 // The file at a name, opened for reading.
 fn opened_to_read(rt: &HostRuntime, name: &[u8]) -> io::Result<File> {
     File::open(rt, path_in(name)?)
@@ -124,23 +118,22 @@ fn settle(rt: &HostRuntime, name: &[u8], file: File) -> Result<(), Stopped> {
 
 // Makes a file, empty and on disk; if that fails, it is said, and there is no file.
 fn make(rt: &HostRuntime, name: &[u8]) -> Result<(), Stopped> {
-    let file = said(rt, name, created(rt, name).map_err(Trouble::System))?;
-    let settled = settle(rt, name, file);
-    if settled.is_err() {
+    let file = said(rt, name, created(rt, name))?;
+    settle(rt, name, file).inspect_err(|_| {
         let _ = remove(rt, name);
-    }
-    settled
+    })
 }
 
+// Kept: as `take_named` in locks.rt: one function would take a kind, and call and mend as closures, and be longer than both matches.
 // Opens a regular file for reading and writing, making it if it is absent; if it can't be had, that is said.
 pub fn open_or_make(rt: &HostRuntime, name: &[u8]) -> Result<File, Stopped> {
-    let mut opened = opened_to_update(rt, name);
-    if let Err(error) = &opened {
-        if error.kind() == ErrorKind::NotFound {
+    let opened = match opened_to_update(rt, name) {
+        Err(error) if error.kind() == ErrorKind::NotFound => {
             make(rt, name)?;
-            opened = opened_to_update(rt, name);
+            opened_to_update(rt, name)
         }
-    }
+        opened => opened,
+    };
     said(rt, name, checked(opened))
 }
 

@@ -1,16 +1,15 @@
 // The files that the program has open beside the standard streams, and where its lines come from.
 ghost use Rattle.std.specs.Prelude.{◌≡◌, ◌↔◌, IfOk, IsSome, IsOk};
 ghost use Rattle.std.specs.Io.{ReadsAtMost};
+ghost use Rattle.std.specs.Result.{result_ok};
 
+use crate::errors::EBADF;
 use crate::files::open_read;
-use crate::messages::{Stopped, said};
+use crate::messages::{Stopped, Trouble, said};
 use crate::waiting::read_from;
 use std::fs::File;
 use std::io;
 use std::io::Error;
-
-// The error of a descriptor that is not open.
-const EBADF: i32 = 9;
 
 // The journal's name, its file, and the file of its lock, which stays open as long as the program runs.
 #[derive(Drop)]
@@ -41,6 +40,17 @@ impl<'a> Handles<'a> {
         }
     }
 
+    // What was asked of the file with the journal's name; a trouble is said.
+    pub(crate) fn said<T: Drop, E: Into<Trouble>>(
+        &self,
+        rt: &HostRuntime,
+        asked: Result<T, E>,
+    ) -> Result<T, Stopped>
+        ensures { result_ok result ≡ result_ok asked }
+    {
+        said(rt, self.name, asked)
+    }
+
     // The journal's file.
     pub fn journal_file(&self) -> io::Result<&File>
         ensures { IfOk result (λ file. self.now.journal ≡ Some file.now) }
@@ -53,11 +63,8 @@ impl<'a> Handles<'a> {
         ensures opened { IsOk result ↔ IsSome self.new.journal }
         ensures lock { self.new.lock ≡ self.old.lock }
     {
-        self.journal = said(rt, self.name, open_read(rt, self.name)).ok();
-        match &self.journal {
-            Some(_) => Ok(()),
-            None => Err(Stopped),
-        }
+        self.journal = self.said(rt, open_read(rt, self.name)).ok();
+        self.journal.is_some().then_some(()).ok_or(Stopped)
     }
 
     // Closes the journal's file.

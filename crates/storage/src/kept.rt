@@ -1,16 +1,14 @@
 // The file of a kept journal.
-ghost use Rattle.std.specs.Prelude.{◌≡◌, ◌-◌, ◌&&◌, nat_le, nat_lt, length, IfOk, IsSome, OnOk};
+ghost use Rattle.std.specs.Prelude.{◌≡◌, ◌-◌, ◌&&◌, nat_le, nat_lt, length, IfOk, IsSome, OnErr, OnOk};
 ghost use Rattle.storage.specs.Kept.{grown_by, Continued};
 
 use crate::files::{checked, cut, may_open, open_or_make, opened_to_append};
 use crate::handles::Handles;
 use crate::known::{Facts, Identity, facts_at, facts_of, facts_on, is_same, leads_to};
-use crate::locks::{check_lock, drop_lock, take_lock};
-use crate::messages::{Stopped, Trouble, said};
+use crate::messages::{Stopped, Trouble};
 use crate::waiting::write_to;
 use std::fs::File;
 use std::io;
-use std::num::wrapping_add_u64;
 
 // A journal that was just opened to be kept: the numbers of its file, if they could be had, and those of its lock.
 #[derive(Clone, Copy, PartialEq, Eq)]
@@ -33,9 +31,8 @@ impl Journal {
         ensures { result ≡ grown_by self bytes }
     {
         Journal {
-            file: self.file,
-            lock: self.lock,
-            end: wrapping_add_u64(self.end, bytes as u64),
+            end: self.end.wrapping_add(bytes as u64),
+            ..self
         }
     }
 }
@@ -43,32 +40,6 @@ impl Journal {
 // Whether a stream, by the name that the system keeps for it, is a file, or that can't be told.
 fn may_be(rt: &HostRuntime, stream: &str, file: Identity) -> bool {
     facts_on(rt, stream).map_or(true, |facts| facts.identity == file)
-}
-
-// That a name does not lead to the file of a standard stream, and can't lead to it: what is kept would be read again, or answers would stand among the
-// calls.
-fn check_streams(rt: &HostRuntime, name: &[u8]) -> Result<(), Trouble> {
-    if let Ok(facts) = facts_at(rt, name) {
-        if may_be(rt, "/proc/self/fd/2", facts.identity) {
-            return Err(Trouble::IsErrors);
-        }
-        if may_be(rt, "/proc/self/fd/0", facts.identity)
-            || may_be(rt, "/proc/self/fd/1", facts.identity)
-        {
-            return Err(Trouble::IsStream);
-        }
-    }
-    Ok(())
-}
-
-// The file opened for appending, if it is the one that is kept.
-fn open_append(rt: &HostRuntime, name: &[u8], kept: Identity) -> Result<File, Trouble> {
-    let file = checked(opened_to_append(rt, name))?;
-    if is_same(facts_of(&file), kept) {
-        Ok(file)
-    } else {
-        Err(Trouble::Elsewhere)
-    }
 }
 
 // Whether a file of so many bytes has grown by no more than some behind an end.
@@ -79,6 +50,32 @@ fn has_grown(size: u64, end: u64, bytes: u64) -> bool
 }
 
 impl<'a> Handles<'a> {
+    // That the journal's name does not lead to the file of a standard stream, and can't lead to it: what is kept would be read again, or answers
+    // would stand among the calls.
+    fn check_streams(&self, rt: &HostRuntime) -> Result<(), Trouble> {
+        if let Ok(facts) = facts_at(rt, self.name) {
+            if may_be(rt, "/proc/self/fd/2", facts.identity) {
+                return Err(Trouble::IsErrors);
+            }
+            if may_be(rt, "/proc/self/fd/0", facts.identity)
+                || may_be(rt, "/proc/self/fd/1", facts.identity)
+            {
+                return Err(Trouble::IsStream);
+            }
+        }
+        Ok(())
+    }
+
+    // The journal's file opened for appending, if it is the one that is kept.
+    fn open_append(&self, rt: &HostRuntime, kept: Identity) -> Result<File, Trouble> {
+        let file = checked(opened_to_append(rt, self.name))?;
+        if is_same(facts_of(&file), kept) {
+            Ok(file)
+        } else {
+            Err(Trouble::Elsewhere)
+        }
+    }
+
     // The facts of the journal's file.
     fn facts(&self) -> io::Result<Facts> {
         facts_of(self.journal_file()?)
@@ -93,17 +90,13 @@ impl<'a> Handles<'a> {
     pub fn open_kept(&mut self, rt: &HostRuntime) -> Result<Opened, Stopped>
         ensures journal { OnOk result (IsSome self.new.journal) }
         ensures lock { OnOk result (IsSome self.new.lock) }
+        ensures refused { OnErr result (self.new.journal ≡ self.old.journal) }
     {
-        said(rt, self.name, may_open(rt, self.name))?;
-        said(rt, self.name, check_streams(rt, self.name))?;
-        let lock = take_lock(rt, self)?;
-        match open_or_make(rt, self.name) {
-            Ok(file) => Ok(self.opened(rt, file, lock)),
-            Err(stopped) => {
-                drop_lock(rt, self.name, lock);
-                Err(stopped)
-            }
-        }
+        self.said(rt, may_open(rt, self.name))?;
+        self.said(rt, self.check_streams(rt))?;
+        let lock = self.take_lock(rt)?;
+        let file = open_or_make(rt, self.name).inspect_err(|_| self.drop_lock(rt, lock))?;
+        Ok(self.opened(rt, file, lock))
     }
 
     // The journal that was just opened with its lock, and whose file is now among the open ones.
@@ -112,7 +105,7 @@ impl<'a> Handles<'a> {
         ensures lock { self.new.lock ≡ self.old.lock }
         ensures held { result.lock ≡ lock }
     {
-        let facts = said(rt, self.name, facts_of(&file).map_err(Trouble::System));
+        let facts = self.said(rt, facts_of(&file));
         self.journal = Some(file);
         Opened {
             file: facts.ok().map(|facts| facts.identity),
@@ -125,7 +118,7 @@ impl<'a> Handles<'a> {
         if !leads_to(rt, self.name, file) {
             return Err(Trouble::Elsewhere.say(rt, self.name));
         }
-        check_lock(rt, self.name, lock)
+        self.check_lock(rt, lock)
     }
 
     // Cuts off what the file has behind its complete lines, so that it ends there.
@@ -140,8 +133,8 @@ impl<'a> Handles<'a> {
         Ok(())
     }
 
-    // The journal ready to be appended to, after its complete lines, which are so many bytes, were replayed; what the file has behind them is cut off.
-    // If that fails it is said.
+    // The journal ready to be appended to, after its complete lines, which are so many bytes, were replayed; what the file has behind them is cut
+    // off. If that fails it is said.
     pub fn continue_kept(
         &mut self,
         rt: &HostRuntime,
@@ -150,14 +143,15 @@ impl<'a> Handles<'a> {
     ) -> Result<Journal, Stopped>
         ensures continued { IfOk result (λ journal. Continued opened end journal) }
         ensures journal { OnOk result (IsSome self.new.journal) }
+        ensures refused { OnErr result (self.new.journal ≡ self.old.journal) }
         ensures lock { self.new.lock ≡ self.old.lock }
     {
         let Some(file) = opened.file else {
             return Err(Stopped);
         };
         self.check_held(rt, file, opened.lock)?;
-        said(rt, self.name, self.cut_rest(end))?;
-        let append = said(rt, self.name, open_append(rt, self.name, file))?;
+        self.said(rt, self.cut_rest(end))?;
+        let append = self.said(rt, self.open_append(rt, file))?;
         self.journal = Some(append);
         Ok(Journal {
             file,
@@ -168,7 +162,7 @@ impl<'a> Handles<'a> {
 
     // That the journal is as this program left it; if not, that is said.
     fn check_left(&self, rt: &HostRuntime, journal: Journal) -> Result<(), Stopped> {
-        let facts = said(rt, self.name, self.facts().map_err(Trouble::System))?;
+        let facts = self.said(rt, self.facts())?;
         if facts.size != journal.end {
             return Err(Trouble::Changed.say(rt, self.name));
         }
@@ -177,12 +171,9 @@ impl<'a> Handles<'a> {
 
     // Whether the file, to which so many bytes failed to be appended, is cut back to its end.
     fn is_cut_back(&self, end: u64, bytes: u64) -> bool {
-        match self.facts() {
-            Ok(facts) => {
-                facts.size == end || has_grown(facts.size, end, bytes) && self.cut(end).is_ok()
-            }
-            Err(_) => false,
-        }
+        self.facts().is_ok_and(|facts| {
+            facts.size == end || has_grown(facts.size, end, bytes) && self.cut(end).is_ok()
+        })
     }
 
     // Writes the bytes at the journal's end and forces them to disk.
@@ -221,6 +212,6 @@ impl<'a> Handles<'a> {
         ensures lock { self.new.lock ≡ self.old.lock }
     {
         self.journal = None;
-        drop_lock(rt, self.name, opened.lock);
+        self.drop_lock(rt, opened.lock);
     }
 }

@@ -1,6 +1,7 @@
 // What the system knows of a file, open or at a name.
-ghost use Rattle.std.specs.Prelude.{◌≡◌, false, ◌&&◌, ◌==◌, MatchResult};
-ghost use Rattle.storage.specs.Known.{facts_in};
+// Kept: `rt` and a name side by side, here and below, as std takes `rt` and a path (src/files.rt).
+ghost use Rattle.std.specs.Prelude.{◌≡◌, false, MatchResult};
+ghost use Rattle.storage.specs.Known.{facts_in, is_of};
 
 use crate::texts::path_in;
 use std::fs::{File, Metadata};
@@ -15,7 +16,7 @@ pub struct Identity {
 }
 
 // Whether a file is a regular one, its size in bytes, and the numbers by which the system knows it.
-// Kept: what a file is says nothing of whether the other fields hold a value.
+// Kept: a flag and no `Option`: a file that is not regular has a size and numbers too.
 #[derive(Clone, Copy)]
 pub struct Facts {
     pub regular: bool,
@@ -23,13 +24,13 @@ pub struct Facts {
     pub identity: Identity,
 }
 
-// The facts in what the system answered, with the numbers in it. The kind of a file stands in bits 12 to 15 of its mode, and a regular file's kind
-// is 8.
+// The facts in what the system answered, with the numbers in it.
+// Kept: no `From<&Metadata>`: std's specs say nothing of `dev()` and `ino()`, so they are parameters of which the contract speaks.
 fn facts_in(found: &Metadata, device: u64, inode: u64) -> Facts
     ensures { result ≡ facts_in found.now device inode }
 {
     Facts {
-        regular: found.mode() / 4096 % 16 == 8,
+        regular: found.is_file(),
         size: found.len(),
         identity: Identity { device, inode },
     }
@@ -54,7 +55,7 @@ pub fn facts_at(rt: &HostRuntime, name: &[u8]) -> io::Result<Facts> {
 
 // Whether facts were had, and are those of a file.
 pub fn is_same(asked: io::Result<Facts>, file: Identity) -> bool
-    ensures { MatchResult asked (λ facts. result ≡ (facts.identity.device == file.device && facts.identity.inode == file.inode)) (λ _. result ≡ false) }
+    ensures { MatchResult asked (λ facts. result ≡ is_of facts file) (λ _. result ≡ false) }
 {
     asked.is_ok_and(|facts| facts.identity == file)
 }

@@ -2,6 +2,7 @@
 #![tactic(auto)]
 
 mod arguments; // arguments.rt: the program's arguments
+mod errors; // errors.rt: the system's numbers for errors
 mod files; // files.rt: regular files, opened, made and cut
 mod handles; // handles.rt: the files that are open, and what is read
 mod kept; // kept.rt: the file of a kept journal
@@ -13,6 +14,7 @@ mod waiting; // waiting.rt: reads and writes that wait
 mod whole; // whole.rt: a whole file, read at once
 
 pub use arguments::{argument, argument_count};
+pub use errors::{EBADF, EILSEQ, EINVAL, ENAMETOOLONG};
 pub use handles::{Handles, Input};
 pub use kept::{Journal, Opened};
 pub use known::Identity;

@@ -1,5 +1,6 @@
 // The lock of a kept journal: a file beside it, with the number of the process that keeps it.
-ghost use Rattle.std.specs.Prelude.{IsSome, OnOk};
+ghost use Rattle.std.specs.Prelude.{◌≡◌, IsSome, OnOk};
+ghost use Rattle.storage.specs.Locks.{holder_in};
 
 use crate::files::{created, open_read, own, remove};
 use crate::handles::Handles;
@@ -21,7 +22,8 @@ enum Holder {
     Foreign,
 }
 
-// This process's number and a newline, at the front of a buffer. The system keeps the number at the front of the file /proc/self/stat, before a blank.
+// This process's number and a newline, at the front of a buffer. The system keeps the number at the front of the file /proc/self/stat, before a
+// blank.
 fn own_number<'a>(rt: &HostRuntime, line: &'a mut [u8; 32]) -> io::Result<&'a [u8]> {
     let mut file = File::open(rt, "/proc/self/stat")?;
     let n = read_from(rt, &mut file, &mut line[..24])?;
@@ -51,39 +53,17 @@ fn signed(rt: &HostRuntime, file: &File) -> Result<Identity, Trouble> {
     Ok(sign(rt, file)?.identity)
 }
 
-// Makes the lock with a name of its own, which leads to no file. Its descriptor stays open as long as the program runs, so that no other file gets its
-// numbers, and so does a lock of the system on it, where the file's disk has such locks. A lock that can't be signed is closed and removed before a
-// word is said.
-fn make_lock(
-    rt: &HostRuntime,
-    handles: &mut Handles,
-    lock: &[u8],
-    file: File,
-) -> Result<Identity, Stopped>
-    ensures { OnOk result (IsSome handles.new.lock) }
-{
-    match signed(rt, &file) {
-        Ok(numbers) => {
-            let _ = file.try_lock();
-            handles.lock = Some(file);
-            Ok(numbers)
-        }
-        Err(trouble) => {
-            drop(file);
-            let _ = remove(rt, lock);
-            Err(trouble.say(rt, lock))
-        }
-    }
-}
-
 // What stands in the text of a lock.
-fn holder_in(text: &[u8]) -> Holder {
+fn holder_in(text: &[u8]) -> Holder
+    ensures { result ≡ holder_in text.now }
+{
     if text.is_empty() {
         return Holder::Nobody;
     }
     process_in(text).map_or(Holder::Foreign, Holder::Process)
 }
 
+// Kept: `rt` and a lock's name side by side, here and below, as `said` and `open_read` take them; a struct would be made in three methods.
 // What stands in the lock with a name.
 fn read_holder(rt: &HostRuntime, lock: &[u8]) -> Result<Holder, Trouble> {
     let mut file = open_read(rt, lock)?;
@@ -117,91 +97,105 @@ fn is_not_shown(rt: &HostRuntime, number: u64) -> bool {
         return false;
     }
     let path = InlineText::<32>::of(format_args!("/proc/{number}"));
-    match facts_on(rt, path.as_str()) {
-        Ok(_) => false,
-        Err(error) => error.kind() == ErrorKind::NotFound,
-    }
+    facts_on(rt, path.as_str()).is_err_and(|error| error.kind() == ErrorKind::NotFound)
 }
 
 // Whether the process with a number that stands in a lock is gone. Numbers are given again, so this process's own is another's that is gone.
 fn is_gone(rt: &HostRuntime, number: u64) -> bool {
-    match is_own(rt, number) {
-        Ok(own) => own || is_not_shown(rt, number),
-        Err(_) => false,
-    }
+    is_own(rt, number).is_ok_and(|own| own || is_not_shown(rt, number))
 }
 
 // Whether another process has the system's lock on the file of a lock, or that can't be told; if it can't be opened, that is said.
 fn is_locked(rt: &HostRuntime, lock: &[u8]) -> bool {
-    match said(rt, lock, open_read(rt, lock)) {
-        Ok(file) => matches!(file.try_lock_shared(), Err(TryLockError::WouldBlock)),
-        Err(_) => true,
-    }
+    said(rt, lock, open_read(rt, lock)).map_or(true, |file| {
+        matches!(file.try_lock_shared(), Err(TryLockError::WouldBlock))
+    })
 }
 
-// That a lock is left over from a process that is gone; if not, that is said. One that stays empty was left by a process that ended between
-// making and writing it. It is read once more at the end, in case another ledger took it.
-fn check_left_over(rt: &HostRuntime, name: &[u8], lock: &[u8]) -> Result<(), Stopped> {
-    let holder = awaited_holder(rt, lock)?;
-    let number = match holder {
-        Holder::Nobody => 0,
-        Holder::Process(number) => number,
-        Holder::Foreign => return Err(Trouble::Foreign.say(rt, lock)),
-    };
-    if is_locked(rt, lock) || !(number == 0 || is_gone(rt, number)) {
-        return Err(kept_by(rt, name, number, lock));
-    }
-    match said(rt, lock, read_holder(rt, lock)) {
-        Ok(now) if now == holder => Ok(()),
-        _ => Err(Trouble::JustTaken.say(rt, lock)),
-    }
-}
-
-// Takes the lock with a name of its own, if no other process has it; if it can't be had, that is said.
-fn take_named(rt: &HostRuntime, handles: &mut Handles, lock: &[u8]) -> Result<Identity, Stopped>
-    ensures { OnOk result (IsSome handles.new.lock) }
-{
-    let mut made = created(rt, lock);
-    if let Err(error) = &made {
-        if error.kind() == ErrorKind::AlreadyExists {
-            check_left_over(rt, handles.name, lock)?;
-            said(rt, lock, remove(rt, lock).map_err(Trouble::System))?;
-            made = created(rt, lock);
+impl<'a> Handles<'a> {
+    // Makes the lock with a name of its own, which leads to no file. Its descriptor stays open as long as the program runs, so that no other file
+    // gets its numbers, and so does a lock of the system on it, where the file's disk has such locks. A lock that can't be signed is closed and
+    // removed before a word is said.
+    fn make_lock(&mut self, rt: &HostRuntime, lock: &[u8], file: File) -> Result<Identity, Stopped>
+        ensures lock { OnOk result (IsSome self.new.lock) }
+        ensures journal { self.new.journal ≡ self.old.journal }
+    {
+        match signed(rt, &file) {
+            Ok(numbers) => {
+                let _ = file.try_lock();
+                self.lock = Some(file);
+                Ok(numbers)
+            }
+            Err(trouble) => {
+                drop(file);
+                let _ = remove(rt, lock);
+                Err(trouble.say(rt, lock))
+            }
         }
     }
-    let file = said(rt, lock, made.map_err(Trouble::System))?;
-    make_lock(rt, handles, lock, file)
-}
 
-// Takes the journal's lock and answers its numbers; if it can't be had, that is said. Where this process can't know its number, none is made.
-pub fn take_lock(rt: &HostRuntime, handles: &mut Handles) -> Result<Identity, Stopped>
-    ensures { OnOk result (IsSome handles.new.lock) }
-{
-    if let Err(error) = own_number(rt, &mut [0u8; 32]) {
-        return Err(failed(rt, b"/proc/self/stat", error));
+    // That a lock is left over from a process that is gone; if not, that is said. One that stays empty was left by a process that ended between
+    // making and writing it. It is read once more at the end, in case another ledger took it.
+    fn check_left_over(&self, rt: &HostRuntime, lock: &[u8]) -> Result<(), Stopped> {
+        let holder = awaited_holder(rt, lock)?;
+        let number = match holder {
+            Holder::Nobody => None,
+            Holder::Process(number) => Some(number),
+            Holder::Foreign => return Err(Trouble::Foreign.say(rt, lock)),
+        };
+        if is_locked(rt, lock) || number.is_some_and(|number| !is_gone(rt, number)) {
+            return Err(kept_by(rt, self.name, number.unwrap_or(0), lock));
+        }
+        if said(rt, lock, read_holder(rt, lock)).is_ok_and(|now| now == holder) {
+            return Ok(());
+        }
+        Err(Trouble::JustTaken.say(rt, lock))
     }
-    let mut buffer = [0u8; 8192];
-    let lock = lock_of(handles.name, &mut buffer);
-    take_named(rt, handles, lock)
-}
 
-// That the lock of the journal with a name is still the one with these numbers; if not, that is said.
-pub fn check_lock(rt: &HostRuntime, name: &[u8], numbers: Identity) -> Result<(), Stopped> {
-    let mut buffer = [0u8; 8192];
-    let lock = lock_of(name, &mut buffer);
-    if leads_to(rt, lock, numbers) {
-        return Ok(());
+    // Takes the lock with a name of its own, if no other process has it; if it can't be had, that is said.
+    fn take_named(&mut self, rt: &HostRuntime, lock: &[u8]) -> Result<Identity, Stopped>
+        ensures lock { OnOk result (IsSome self.new.lock) }
+        ensures journal { self.new.journal ≡ self.old.journal }
+    {
+        let made = match created(rt, lock) {
+            Err(error) if error.kind() == ErrorKind::AlreadyExists => {
+                self.check_left_over(rt, lock)?;
+                said(rt, lock, remove(rt, lock))?;
+                created(rt, lock)
+            }
+            made => made,
+        };
+        let file = said(rt, lock, made)?;
+        self.make_lock(rt, lock, file)
     }
-    Err(Trouble::LockLost.say(rt, lock))
-}
 
-// Removes the lock of the journal with a name, if it is still the one with these numbers.
-pub fn drop_lock(rt: &HostRuntime, name: &[u8], numbers: Identity) {
-    let mut buffer = [0u8; 8192];
-    let lock = lock_of(name, &mut buffer);
-    if leads_to(rt, lock, numbers) {
-        if let Err(error) = remove(rt, lock) {
-            let _ = failed(rt, lock, error);
+    // Takes the journal's lock and answers its numbers; if it can't be had, that is said. Where this process can't know its number, none is made.
+    pub(crate) fn take_lock(&mut self, rt: &HostRuntime) -> Result<Identity, Stopped>
+        ensures lock { OnOk result (IsSome self.new.lock) }
+        ensures journal { self.new.journal ≡ self.old.journal }
+    {
+        own_number(rt, &mut [0u8; 32]).map_err(|error| failed(rt, b"/proc/self/stat", error))?;
+        let mut buffer = [0u8; 8192];
+        let lock = lock_of(self.name, &mut buffer);
+        self.take_named(rt, lock)
+    }
+
+    // That the journal's lock is still the one with these numbers; if not, that is said.
+    pub(crate) fn check_lock(&self, rt: &HostRuntime, numbers: Identity) -> Result<(), Stopped> {
+        let mut buffer = [0u8; 8192];
+        let lock = lock_of(self.name, &mut buffer);
+        if leads_to(rt, lock, numbers) {
+            return Ok(());
+        }
+        Err(Trouble::LockLost.say(rt, lock))
+    }
+
+    // Removes the journal's lock, if it is still the one with these numbers.
+    pub(crate) fn drop_lock(&self, rt: &HostRuntime, numbers: Identity) {
+        let mut buffer = [0u8; 8192];
+        let lock = lock_of(self.name, &mut buffer);
+        if leads_to(rt, lock, numbers) {
+            let _ = said(rt, lock, remove(rt, lock));
         }
     }
 }

@@ -1,16 +1,15 @@
 // Messages on standard error, and the troubles of files that are said there.
+// Kept: `rt` and a name side by side: what a line is about is a file, a lock, a stream or /proc by turns, so a struct would be made at each call.
 ghost use Rattle.std.specs.Prelude.{◌≡◌};
 ghost use Rattle.std.specs.Result.{result_ok};
 
+use crate::errors::EBADF;
 use crate::texts::show;
 use crate::waiting::{Stream, write_whole};
 use std::fmt;
 use std::fmt::{Display, Formatter, InlineText};
 use std::io::Error;
 use std::os::fd::AsFd;
-
-// The error of a descriptor that is not open.
-const EBADF: i32 = 9;
 
 // Something failed or is not as it must be, which was said on standard error: nothing is gone on with.
 #[derive(Clone, Copy, Debug, PartialEq, Eq)]
@@ -96,10 +95,14 @@ impl Trouble {
 }
 
 // What was asked of the file with a name; a trouble is said.
-pub fn said<T: Drop>(rt: &HostRuntime, name: &[u8], asked: Result<T, Trouble>) -> Result<T, Stopped>
+pub fn said<T: Drop, E: Into<Trouble>>(
+    rt: &HostRuntime,
+    name: &[u8],
+    asked: Result<T, E>,
+) -> Result<T, Stopped>
     ensures { result_ok result ≡ result_ok asked }
 {
-    asked.map_err(|trouble| trouble.say(rt, name))
+    asked.map_err(|error| error.into().say(rt, name))
 }
 
 // The system's text for an error, of which std's text has the number too.
@@ -113,6 +116,7 @@ fn say(rt: &HostRuntime, text: &[u8]) {
     let _ = write_whole(rt, Stream::Errors, text);
 }
 
+// Kept: pieces and no format string, since a file's name is bytes, which need be no text.
 // A line: what it is about, and what is said of it, piece by piece.
 fn say_line(rt: &HostRuntime, name: &[u8], pieces: &[&[u8]]) {
     begin(rt, name);
@@ -172,19 +176,20 @@ pub fn show_dropped(rt: &HostRuntime, name: &[u8], rest: &[u8]) {
     let mut buffer = [0u8; 4096];
     for piece in rest.chunks(4096) {
         let n = piece.len().min(buffer.len());
-        buffer[..n].copy_from_slice(&piece[..n]);
-        show(&mut buffer[..n]);
-        say(rt, &buffer[..n]);
+        let shown = &mut buffer[..n];
+        shown.copy_from_slice(&piece[..n]);
+        show(shown);
+        say(rt, shown);
     }
     say(rt, b"\n");
 }
 
 // Whether a standard stream is open: of one that is not the system gives no second descriptor, and answers this error.
 fn is_open<F: AsFd>(stream: &F) -> bool {
-    match stream.as_fd().try_clone_to_owned() {
-        Ok(_) => true,
-        Err(error) => error.raw_os_error() != Some(EBADF),
-    }
+    !stream
+        .as_fd()
+        .try_clone_to_owned()
+        .is_err_and(|error| error.raw_os_error() == Some(EBADF))
 }
 
 // Whether the three standard streams are open. What is closed is said on standard error, if that is open.

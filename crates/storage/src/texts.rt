@@ -2,18 +2,12 @@
 ghost use Rattle.std.specs.Prelude.{◌≡◌, ℕ, ◌≤◌, ◌++◌, map, length, take, IfOk};
 ghost use Rattle.storage.specs.Texts.{lock_ending, IsPathOf, shown_byte, digit_more, process_in};
 
+use crate::errors::{EILSEQ, EINVAL, ENAMETOOLONG};
 use std::io::Error;
 use std::{io, str};
 
 // The bytes of a path that the system takes, with a zero behind it.
 const PATH_MAX: usize = 4096;
-
-// The errors of a name that is no path: too many bytes, a zero among them, and no text.
-const ENAMETOOLONG: i32 = 36;
-
-const EINVAL: i32 = 22;
-
-const EILSEQ: i32 = 84;
 
 // The name of a journal's lock, at the front of a buffer: no name that can be opened is cut there.
 pub fn lock_of<'a>(name: &[u8], buffer: &'a mut [u8; 8192]) -> &'a [u8]
@@ -35,10 +29,7 @@ pub fn path_in(name: &[u8]) -> io::Result<&str>
     if name.contains(&0) {
         return Err(Error::from_raw_os_error(EINVAL));
     }
-    match str::from_utf8(name) {
-        Ok(path) => Ok(path),
-        Err(_) => Err(Error::from_raw_os_error(EILSEQ)),
-    }
+    str::from_utf8(name).map_err(|_| Error::from_raw_os_error(EILSEQ))
 }
 
 // A byte as it is shown: `?` for one that is no printed sign of ASCII.
@@ -46,7 +37,7 @@ pub fn path_in(name: &[u8]) -> io::Result<&str>
 fn shown(byte: u8) -> u8
     ensures { result ≡ shown_byte byte }
 {
-    if 32 <= byte && byte <= 126 {
+    if (b' '..=b'~').contains(&byte) {
         byte
     } else {
         b'?'
@@ -67,11 +58,7 @@ pub fn show(text: &mut [u8])
 fn digit_more(number: u64, byte: u8) -> Option<u64>
     ensures { result ≡ digit_more number byte }
 {
-    if number <= 214748363 && b'0' <= byte && byte <= b'9' {
-        Some(number * 10 + (byte - b'0') as u64)
-    } else {
-        None
-    }
+    (number <= 214748363 && byte.is_ascii_digit()).then(|| number * 10 + (byte - b'0') as u64)
 }
 
 // The process number that stands before the first newline of a text, if there is one.

@@ -34,14 +34,11 @@ fn is_passing(rt: &HostRuntime, error: Error) -> bool {
 pub fn read_from<R: Read>(rt: &HostRuntime, from: &mut R, buffer: &mut [u8]) -> io::Result<usize>
     ensures { ReadsAtMost result buffer.new }
 {
+    // Kept: a loop with no bound is `rt.forever()`, which needs the handle Wait, and no handle is allowed.
     for _ in 0..MOST {
         match from.read(buffer) {
-            Ok(n) => return Ok(n),
-            Err(error) => {
-                if !is_passing(rt, error) {
-                    return Err(error);
-                }
-            }
+            Err(error) if is_passing(rt, error) => {}
+            read => return read,
         }
     }
     Err(Error::from(ErrorKind::Interrupted))
@@ -50,6 +47,7 @@ pub fn read_from<R: Read>(rt: &HostRuntime, from: &mut R, buffer: &mut [u8]) -> 
 // Writes all bytes. If that fails, some may be written.
 pub fn write_to<W: Write>(rt: &HostRuntime, to: &mut W, bytes: &[u8]) -> io::Result<()> {
     let mut rest = bytes;
+    // Kept: the bound is as in `read_from`, and a chain would have to change `rest` from within its closure.
     for _ in 0..MOST {
         if rest.is_empty() {
             return Ok(());
@@ -57,11 +55,8 @@ pub fn write_to<W: Write>(rt: &HostRuntime, to: &mut W, bytes: &[u8]) -> io::Res
         match to.write(rest) {
             Ok(0) => return Err(Error::from(ErrorKind::WriteZero)),
             Ok(n) => rest = &rest[n..],
-            Err(error) => {
-                if !is_passing(rt, error) {
-                    return Err(error);
-                }
-            }
+            Err(error) if is_passing(rt, error) => {}
+            Err(error) => return Err(error),
         }
     }
     Err(Error::from(ErrorKind::Interrupted))

@@ -11,6 +11,7 @@ use std::io;
 fn fill(rt: &HostRuntime, mut file: File, buffer: &mut [u8]) -> io::Result<usize>
     ensures { IfOk result (λ n. n ≤ length buffer.old) }
 {
+    // Kept: a place, since the answer is how far it came; a slice moved on as in `write_to` would give it as a difference of lengths.
     let mut done = 0;
     while done < buffer.len() {
         match read_from(rt, &mut file, &mut buffer[done..])? {
@@ -26,15 +27,13 @@ fn read_shorter(rt: &HostRuntime, name: &[u8], buffer: &mut [u8]) -> Result<usiz
     ensures { IfOk result (λ n. n < length buffer.old) }
 {
     let n = fill(rt, open_read(rt, name)?, buffer)?;
-    if n < buffer.len() {
-        Ok(n)
-    } else {
-        Err(Trouble::TooLong(buffer.len()))
-    }
+    (n < buffer.len())
+        .then_some(n)
+        .ok_or(Trouble::TooLong(buffer.len()))
 }
 
-// Reads the regular file with a name to its end into the front of a slice, which must be longer than the file, and answers how many bytes it has. If it
-// can't be had, or is not shorter than the slice, that is said.
+// Reads the regular file with a name to its end into the front of a slice, which must be longer than the file, and answers how many bytes it has. If
+// it can't be had, or is not shorter than the slice, that is said.
 pub fn read_whole(rt: &HostRuntime, name: &[u8], buffer: &mut [u8]) -> Result<usize, Stopped>
     ensures { IfOk result (λ n. n < length buffer.old) }
 {

@@ -17,6 +17,7 @@ use Rattle.manual.specs.Annual.{larger, largest_total, annual_amount}
 use Rattle.manual.specs.Check.{exceeds_tolerance, exceeds_each, call_is_made, checked}
 use Rattle.manual.specs.Figures.{bound, summed, wrong_count, all_within, out_of_range}
 use Rattle.std.specs.Prelude.{Option, Some, None, Result, Ok, Err}
+use Rattle.std.specs.Result.{result_unwrap_or}
 use Rattle.manual.specs.declared.Call.{Call}
 use Rattle.refusal.specs.declared.Refusal.{Refusal}
 
@@ -48,25 +49,20 @@ module _ (n : ℕ) (r : Result ℤ Refusal) (f : Fits w32 n) (e : r ≡ summed (
       let small : n < 2 ^ 63 = omega arith in
       e ∙ ap (λ (x : ℤ). summed (x ∷ pos 0 ∷ pos 0 ∷ pos 0 ∷ pos 0 ∷ [])) (to_z_pos w64 small) ∙ one n (omega arith)
 
-  total : (x : ℤ) → r ≡ Ok x → x ≡ pos n
-  total x k = let z : ◌≡◌ {A = Result ℤ Refusal} (Ok x) (Ok (pos n)) = sym k ∙ known in cc
+  module _ (x d : ℤ) (k : x ≡ result_unwrap_or r d) where
+    bits : to_z w64 (of_z w64 x) ≡ pos n
+    bits =
+        let small : n < 2 ^ 63 = omega arith in
+        ap (λ (y : ℤ). to_z w64 (of_z w64 y)) (k ∙ ap (λ (q : Result ℤ Refusal). result_unwrap_or q d) known) ∙ to_z_pos w64 small
 
-  bits : (x : ℤ) → r ≡ Ok x → to_z w64 (of_z w64 x) ≡ pos n
-  bits x k =
-      let small : n < 2 ^ 63 = omega arith in
-      ap (λ (y : ℤ). to_z w64 (of_z w64 y)) (total x k) ∙ to_z_pos w64 small
+    pub sum-natural : T (non_neg (to_z w64 (of_z w64 x)))
+    sum-natural = rw bits tt
 
-  pub sum-natural : (x : ℤ) → r ≡ Ok x → T (non_neg (to_z w64 (of_z w64 x)))
-  sum-natural x k = rw (bits x k) tt
+    pub sum-magnitude : nat_abs (to_z w64 (of_z w64 x)) ≡ n
+    sum-magnitude = ap nat_abs bits
 
-  pub sum-magnitude : (x : ℤ) → r ≡ Ok x → nat_abs (to_z w64 (of_z w64 x)) ≡ n
-  sum-magnitude x k = ap nat_abs (bits x k)
-
-  pub sum_fits : (x : ℤ) → r ≡ Ok x → Fits w32 (nat_abs (to_z w64 (of_z w64 x)))
-  sum_fits x k = rw (sum-magnitude x k) f
-
-  pub sum-not-refused : (c : Refusal) → r ≡ Err c → 0 ≡ n
-  sum-not-refused c k = let z : ◌≡◌ {A = Result ℤ Refusal} (Err c) (Ok (pos n)) = sym k ∙ known in let w : ◌≡◌ {A = ℕ} 0 1 = cc in absurd (omega arith)
+    pub sum_fits : Fits w32 (nat_abs (to_z w64 (of_z w64 x)))
+    sum_fits = rw sum-magnitude f
 
 -- ---- 002, 5.2: the check of August 2021 against the guarantee of example 1
 
@@ -74,21 +70,9 @@ call : checked (pos 93679500) 77372900 77372900 [] ≡ Some (record { amount = 9
 unfolding checked call_is_made exceeds_tolerance exceeds_each
 call = refl
 
-injected : (a b : Call) → ◌≡◌ {A = Option Call} (Some a) (Some b) → a ≡ b
-injected a b z = cc
-
 module _ (r : Option Call) (s d : ℕ) (e : s ≡ 93679500) (h : d ≡ 77372900) (q : r ≡ checked (to_z w64 s) d d []) where
-  called : r ≡ Some (record { amount = 93679500; asked = 16306600 })
+  pub called : r ≡ Some (record { amount = 93679500; asked = 16306600 })
   called = q ∙ ap (λ (n : ℕ). checked (to_z w64 n) d d []) e ∙ ap (λ (n : ℕ). checked (pos 93679500) n n []) h ∙ call
-
-  pub asked-known : (c : Call) → r ≡ Some c → c.asked ≡ 16306600
-  asked-known c k = ap (λ (x : Call). x.asked) (injected c (record { amount = 93679500; asked = 16306600 }) (sym k ∙ called))
-
-  pub not_covered : r ≡ None → ◌≡◌ {A = ℕ} 0 16306600
-  not_covered k =
-      let z : ◌≡◌ {A = Option Call} None (Some (record { amount = 93679500; asked = 16306600 })) = sym k ∙ called in
-      let w : ◌≡◌ {A = ℕ} 0 1 = cc in
-      absurd (omega arith)
 
 -- ---- 002, section 8: the guarantee by the sums of the rates and of the settlements, not rounded before
 

@@ -5,6 +5,7 @@ use manual::annual::annual_amount;
 use std::io;
 
 // 002, 5.1, the table: its twelve months.
+// Kept: a list beside the totals, since `annual_amount` is lent a list of totals alone.
 const MONTHS: [&str; 12] = [
     "Jul-20", "Aug-20", "Sep-20", "Oct-20", "Nov-20", "Dec-20", "Jan-21", "Feb-21", "Mar-21",
     "Apr-21", "May-21", "Jun-21",

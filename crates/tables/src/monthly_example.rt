@@ -55,10 +55,7 @@ fn settled(rt: &impl Print, label: &str, month: Month) -> io::Result<()> {
 fn sum_of(settled: u32) -> u32
     ensures { result ≡ settled }
 {
-    match sum_figures(&[settled as i64, 0, 0, 0, 0]) {
-        Ok(cents) => cents as u32,
-        Err(_) => 0,
-    }
+    sum_figures(&[settled as i64, 0, 0, 0, 0]).unwrap_or(0) as u32
 }
 
 // A line with a check that 002 finds covered.
@@ -90,10 +87,7 @@ pub fn asked() -> u32
     ensures { result ≡ 16306600 }
 {
     let deposited = guarantee() as u64;
-    match check(sum_of(AUGUST) as i64, deposited, deposited, &[]) {
-        None => 0,
-        Some(call) => call.asked as u32,
-    }
+    check(sum_of(AUGUST) as i64, deposited, deposited, &[]).map_or(0, |call| call.asked) as u32
 }
 
 // The lines on a month that July and August share: its amount, the new guarantee and the difference.

@@ -1,5 +1,5 @@
 // How numbers and lines are written.
-// Kept: a label goes beside the numbers into each line's function, since a struct of them would be made at each call.
+// Kept: `rt` and a label go beside the numbers, here and in the examples, since a struct of them would be made at each call.
 use std::{fmt, io};
 
 // A number, with a comma before its last three digits and before the three ahead of them.
@@ -29,13 +29,13 @@ impl fmt::Display for Hundredths {
     }
 }
 
-// A number of ten-thousandths, with four decimals.
+// A number of ten-thousandths, with four decimals: those of its hundredths, and two more.
 #[derive(Clone, Copy)]
 pub struct TenThousandths(pub u64);
 
 impl fmt::Display for TenThousandths {
     fn fmt<W: fmt::Write>(&self, f: &mut fmt::Formatter<W>) -> fmt::Result {
-        write!(f, "{}.{:04}", Grouped(self.0 / 10000), self.0 % 10000)
+        write!(f, "{}{:02}", Hundredths(self.0 / 100), self.0 % 100)
     }
 }
 

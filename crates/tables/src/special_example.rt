@@ -12,6 +12,7 @@ const MEDIUM_RATES: [i64; 5] = [126, -18, 4, -234, 0];
 const LOW_RATES: [i64; 6] = [3253, 4048, 4723, 1326, 780, 11291];
 
 // The names of the rates in both tables.
+// Kept: a list beside the numbers, since both tables' numbers have these names, and the functions are lent lists of numbers alone.
 const RATES: [&str; 6] = ["E", "Z", "H", "Theta", "I", "Pi, not taken into account"];
 
 // 002, section 8, below the second table: Pi alone was represented in the low voltage for the first time.
@@ -24,6 +25,7 @@ const MEDIUM_ZEROS: [i64; 4] = [18633458, 39457632, 73289522, 95618724];
 const LOW_ZEROS: [i64; 4] = [2338818, 5389234, 7762366, 8919274];
 
 // The names of the semesters in both tables.
+// Kept: as `RATES`: both tables' numbers have these names, and the functions are lent lists of numbers alone.
 const SEMESTERS: [&str; 4] = [
     "2019, 1st semester",
     "2019, 2nd semester",
@@ -129,6 +131,7 @@ fn reduced(
     }
 }
 
+// Kept: these sums are written out: tried `.iter().sum()` in `medium_total`: that each partial sum fits (`sum-requires-clause-fits`) stayed open.
 // The sum of the three largest medium voltage rates, which are those of E, H and I by 002, section 8.
 fn medium_three() -> u16
     ensures { result ≡ 130 }

@@ -1,6 +1,6 @@
 -- A text read byte by byte: what the chains over it give, by the definitions.
 -- Assumes nothing.
-use Rattle.std.proofs.Common.{ℕ, suc, ◌+◌, ◌≤◌, ◌<◌, ◌≡◌, refl, sym, ap, ◌∙◌, Bool, not, ◌&&◌, ◌||◌, List, [], ◌∷◌, Option, Some, None, length, take, drop, get_or, add-one, arith, ltb-false}
+use Rattle.std.proofs.Common.{ℕ, suc, ◌+◌, ◌≤◌, ◌<◌, ◌≡◌, refl, sym, ap, ◌∙◌, Bool, not, ◌&&◌, ◌||◌, List, [], ◌∷◌, Option, Some, None, length, take, drop, get_or, unwrap_or, add-one, arith, ltb-false}
 use Rattle.std.specs.List.{list_any, list_all, position, position_or_len, prefix_len, take_while}
 use Rattle.std.proofs.lemmas.List.Quantifiers.{position-Some}
 use Rattle.std.specs.Char.{is_ascii_control}
@@ -38,11 +38,11 @@ before_comment (b ∷ l) =
     split (eqb b 35) (λ t. rw t)
     (λ t. rw (t, one_more (position_or_len (λ b. eqb b 35) l)) (ap (λ (m : List ℕ). b ∷ m) (before_comment l)))
 
-pub comment_within : (l : List ℕ) (k : ℕ) → position (λ b. eqb b 35) l ≡ Some k → k ≤ length l
-comment_within l k e = omega (arith, (position-Some (λ b. eqb b 35) l k 0 e).0)
+some_within : (l : List ℕ) (k : ℕ) → position (λ b. eqb b 35) l ≡ Some k → k ≤ length l
+some_within l k e = omega (arith, (position-Some (λ b. eqb b 35) l k 0 e).0)
 
-pub comment_cut : (l : List ℕ) (k : ℕ) → position (λ b. eqb b 35) l ≡ Some k → take k l ≡ uncommented l
-comment_cut l k e =
+some_cut : (l : List ℕ) (k : ℕ) → position (λ b. eqb b 35) l ≡ Some k → take k l ≡ uncommented l
+some_cut l k e =
     split (ltb (position_or_len (λ b. eqb b 35) l) (length l))
     (λ t.
     let f : ◌≡◌ {A = Option ℕ} (Some (position_or_len (λ b. eqb b 35) l)) (Some k) = rw t at e in
@@ -50,11 +50,19 @@ comment_cut l k e =
     rw (← g) (before_comment l))
     (λ t. let f : ◌≡◌ {A = Option ℕ} None (Some k) = rw t at e in cc)
 
-pub comment_none : (l : List ℕ) → position (λ b. eqb b 35) l ≡ None → l ≡ uncommented l
-comment_none l e =
+none-cut : (l : List ℕ) → position (λ b. eqb b 35) l ≡ None → l ≡ uncommented l
+none-cut l e =
     split (ltb (position_or_len (λ b. eqb b 35) l) (length l))
     (λ t. let f : ◌≡◌ {A = Option ℕ} (Some (position_or_len (λ b. eqb b 35) l)) None = rw t at e in cc)
     (λ t. sym (take_all (position_or_len (λ b. eqb b 35) l) l (ltb-false (position_or_len (λ b. eqb b 35) l) (length l) t)) ∙ before_comment l)
+
+pub comment_within : (l : List ℕ) (o : Option ℕ) (k : ℕ) → o ≡ position (λ b. eqb b 35) l → k ≡ unwrap_or o (length l) → k ≤ length l
+comment_within l (Some p) k e f = let g : k ≡ p = f in omega (arith, some_within l p (sym e))
+comment_within l None k e f = let g : k ≡ length l = f in omega arith
+
+pub comment_cut : (l : List ℕ) (o : Option ℕ) (k : ℕ) → o ≡ position (λ b. eqb b 35) l → k ≡ unwrap_or o (length l) → take k l ≡ uncommented l
+comment_cut l (Some p) k e f = let g : k ≡ p = f in rw g (some_cut l p (sym e))
+comment_cut l None k e f = let g : k ≡ length l = f in rw g (take_all (length l) l (omega arith) ∙ none-cut l (sym e))
 
 -- the blanks that a text begins with, and the bytes before its first blank
 pub blanks_counted : (l : List ℕ) → length (take_while blank l) ≡ blanks_in l

@@ -1,5 +1,5 @@
 // Days and months as words: their number, or a date from 2020 to 2099, 2021-10-01 and 2021-10.
-ghost use Rattle.std.specs.Prelude.{◌≡◌, ◌-◌, ◌≤◌, min, length, take, drop};
+ghost use Rattle.std.specs.Prelude.{◌≡◌, min};
 ghost use Rattle.words.specs.Numerals.{value};
 ghost use Rattle.words.specs.Dates.{is_dated, is_monthed, dated_day, dated_month, day_in, month_in, numbered_month};
 
@@ -10,16 +10,14 @@ use calendar::{day_of_date, month_of};
 pub fn small(n: u64) -> u32
     ensures { result ≡ min n 4294967295 }
 {
-    n.min(u32::MAX as u64) as u32
+    u32::try_from(n).unwrap_or(u32::MAX)
 }
 
 // The number that the digits of a part of a word give.
-fn small_part(w: &[u8], from: usize, to: usize) -> u32
-    requires ordered { from ≤ to }
-    requires within { to ≤ length w.now }
-    ensures { result ≡ min (value (take (to - from) (drop from w.now))) 4294967295 }
+fn small_part(part: &[u8]) -> u32
+    ensures { result ≡ min (value part.now) 4294967295 }
 {
-    small(digits(&w[from..to]))
+    small(digits(part))
 }
 
 // Whether a word has the form 2021-10.
@@ -61,9 +59,9 @@ fn dated_day(w: &[u8]) -> Option<u64>
         return None;
     }
     let day = day_of_date(
-        small_part(w, 0, 4),
-        small_part(w, 5, 7),
-        small_part(w, 8, 10),
+        small_part(&w[0..4]),
+        small_part(&w[5..7]),
+        small_part(&w[8..10]),
     )?;
     Some(day.0 as u64)
 }
@@ -76,7 +74,7 @@ fn dated_month(w: &[u8]) -> Option<u64>
     if !is_monthed(w) {
         return None;
     }
-    numbered_month(small_part(w, 0, 4), small_part(w, 5, 7))
+    numbered_month(small_part(&w[0..4]), small_part(&w[5..7]))
 }
 
 // A word as a day.
@@ -88,6 +86,7 @@ pub fn day_in(w: &[u8]) -> Option<u64>
 }
 
 // A word as a month.
+// Kept: as `day_in` but for the function that reads a date; one over a closure would be longer than both.
 #[tactic(auto, unfolding(crate::specs::Dates::month_in, crate::specs::Numerals::natural_of))]
 pub fn month_in(w: &[u8]) -> Option<u64>
     ensures { result ≡ month_in w.now }

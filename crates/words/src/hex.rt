@@ -41,6 +41,7 @@ pub fn is_hexadecimal(w: &[u8]) -> bool
 }
 
 // Writes the bytes of a word to the front of a slice, as numbers. What has no room is not written.
+// Kept: by index: std says nothing of the elements behind a `zip` of `iter_mut`, so with one this clause did not close.
 pub fn write_bytes(w: &[u8], numbers: &mut [i64])
     ensures { numbers.new ≡ sets numbers.old 0 (bytes_of_hex w.now) }
 {

@@ -28,14 +28,12 @@ fn comment_in(line: &[u8]) -> Option<usize>
 }
 
 // What stands before a line's comment.
-#[tactic(auto, using(crate::proofs::Scans::comment_within, crate::proofs::Scans::comment_cut, crate::proofs::Scans::comment_none))]
+#[tactic(auto, using(crate::proofs::Scans::comment_within, crate::proofs::Scans::comment_cut))]
 pub fn content(line: &[u8]) -> &[u8]
     ensures { result.now ≡ uncommented line.now }
 {
-    match comment_in(line) {
-        Some(end) => &line[..end],
-        None => line,
-    }
+    let end = comment_in(line).unwrap_or(line.len());
+    &line[..end]
 }
 
 // Whether a text has a control byte that no line may have.

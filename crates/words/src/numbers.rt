@@ -2,7 +2,7 @@
 // too small as its least.
 ghost use Rattle.std.specs.Prelude.{◌≡◌, ◌+◌, ◌-◌, ◌*◌, min, pos, neg_ℤ};
 ghost use Rattle.words.specs.Bytes.{each, digit};
-ghost use Rattle.words.specs.Numerals.{natural, value, natural_of, unsigned_of, negative_of, signed_of};
+ghost use Rattle.words.specs.Numerals.{natural, value, natural_of, unsigned_of, signed_of};
 
 // Whether each byte of a word is a digit.
 fn all_digits(w: &[u8]) -> bool
@@ -63,15 +63,7 @@ fn negated(n: u64) -> i64
 pub fn unsigned_of(w: &[u8]) -> Option<i64>
     ensures { result ≡ unsigned_of w.now }
 {
-    natural_of(w).map(|n| held_signed(n))
-}
-
-// What stands behind a minus as a negative number.
-#[tactic(auto, using(crate::proofs::NumberLaws::negated))]
-fn negative_of(w: &[u8]) -> Option<i64>
-    ensures { result ≡ negative_of w.now }
-{
-    natural_of(w).map(|n| negated(n))
+    natural_of(w).map(held_signed)
 }
 
 // A word as a number that may have a minus.
@@ -80,7 +72,7 @@ pub fn signed_of(w: &[u8]) -> Option<i64>
     ensures { result ≡ signed_of w.now }
 {
     match w {
-        [b'-', digits @ ..] => negative_of(digits),
+        [b'-', digits @ ..] => natural_of(digits).map(negated),
         _ => unsigned_of(w),
     }
 }

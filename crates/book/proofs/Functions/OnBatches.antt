@@ -10,7 +10,7 @@ use mathlib.Core.List.{List, [], ◌∷◌}
 use borrow.Author.Tests.{lt-ltb, le-ltb, ltb-true, ltb-false, eqb-true, eqb-false}
 use lib.Dec.{ltb, eqb}
 use lib.IntN.{ℤ, pos}
-use lib.ListN.{length, get_or, set}
+use lib.ListN.{length, get_or, set, length-set}
 use lib.Seq.{get_or-set_same, get_or-set_other}
 use Rattle.laws.specs.Cases.{split, clash, cond-true, cond-false}
 use Rattle.laws.specs.Least.{least, NoneBelow, least-none, least-found}
@@ -88,13 +88,14 @@ ok-kept (Err r) m s a P h v e q = clash {t = is_ok m} (ap is_ok e) v
 
 module _ (b : Book) (file : List ℕ) where
   pub judges-first : (answers : List Settled) → Judges b file 0 answers
-  judges-first answers = record { same = λ j h. absurd (omega arith) }
+  judges-first answers = record { there = omega arith; same = λ j h. absurd (omega arith) }
 
   -- one more, which is no refusal
   pub judges-next : (i : ℕ) (answers : List Settled) (s : Settled) → Judges b file i answers → i < length answers
       → settlement_says s ≡ judged b file i → Judges b file (i + 1) (set answers i s)
   judges-next i answers s js room e =
       record {
+        there = omega (arith, room, length-set answers i s);
         same = λ j h.
             split (eqb j i)
             (λ q. let is : j ≡ i = eqb-true j i q in
@@ -109,6 +110,9 @@ module _ (b : Book) (file : List ℕ) where
     where
       earlier : (j i : ℕ) → j < i + 1 → (j ≡ i → ⊥) → j < i
       earlier j i h ne = split (ltb j i) (ltb-true j i) (λ f. absurd (ne (let not = ltb-false j i f in omega arith)))
+
+  pub judges_there : (n i : ℕ) (answers : List Settled) → Judges b file n answers → i < n → i < length answers
+  judges_there n i answers js h = omega (arith, js.there)
 
   pub judges-all : (i n : ℕ) (answers : List Settled) → i ≤ n → n ≤ i → Judges b file i answers → Judges b file n answers
   judges-all i n answers low high js = let e : i ≡ n = omega arith in subst (λ (k : ℕ). Judges b file k answers) e js
@@ -268,14 +272,10 @@ module _ (b : Book) (file : List ℕ) (n i : ℕ) (answers : List Settled) (js :
         (is-answer ∙ behind-two.1 ∙ ap (λ (q : ℕ). settle_answer (file_in_words l q) (today_in l) (month_in file) (figures_at file i)) (sym is.participant)))
 
 -- What is kept of a part, whatever stands behind the last.
-pub kept_there : (file : List ℕ) (answers : List Settled) (i n : ℕ) (x : Settled) → length answers ≡ 64 → form_of file ≡ Ok n → i < n
-    → get_or answers i x ≡ get_or answers i no_answer
-kept_there file answers i n x long form h = there answers i (omega (arith, few-parts file n form))
-  where
-    there : (l : List Settled) (k : ℕ) → k < length l → get_or l k x ≡ get_or l k no_answer
-    there [] k h = absurd (omega arith)
-    there (a ∷ l) zero h = refl
-    there (a ∷ l) (suc k) h = there l k (omega arith)
+pub kept_there : (answers : List Settled) (i : ℕ) (x : Settled) → i < length answers → get_or answers i x ≡ get_or answers i no_answer
+kept_there [] i x h = absurd (omega arith)
+kept_there (a ∷ l) zero x h = refl
+kept_there (a ∷ l) (suc i) x h = kept_there l i x (omega arith)
 
 module _ (l : List ℕ) (w : WellFormed l) (file : List ℕ) where
   -- A refused batch leaves every word.
@@ -318,6 +318,6 @@ pub ruleset parts = (few-parts, all-inside, part-unknown, part-judged)
 
 pub ruleset judgements = (few-parts, all-inside, judges-first, judges-next, judges-all, judge-refused)
 
-pub ruleset loads = (load-no-batch, load-refused, load-settled)
+pub ruleset loads = (few-parts, load-no-batch, load-refused, load-settled)
 
-pub ruleset puts_parts = (few-parts, made-first, made_all, same-words, part_low, part-given, kept_there, made-next)
+pub ruleset puts_parts = (made-first, made_all, same-words, judges_there, part_low, part-given, kept_there, made-next)

@@ -10,9 +10,9 @@ use lib.Dec.{leb}
 use lib.IntN.{ℤ, pos, nat_abs}
 use lib.ListN.{length, get_or, set, length-append, length-set}
 use lib.Signed.{lt_z}
-use mir.Facts.{to_z-of_z}
+use mir.Facts.{to_z-of_z, to_z_pos}
 use mir.Syntax.{w64}
-use mir.Val.{SFits}
+use mir.Val.{SFits, to_z}
 use Rattle.laws.specs.Cases.{cond-true, cond-false, and_left, and_right}
 use Rattle.laws.specs.Integers.{above-natural}
 use Rattle.laws.specs.Read.{read}
@@ -185,7 +185,7 @@ module _ (l : List ℕ) (p : ℕ) (w : WellFormed l) (low : p ≤ 63) where
     pub record Calls (x last : ℕ) : Type 0 where
       pub calls : settlement_calls f t mo figures ≡ true
       pub few : get_or l (place p + 4) 0 < 4
-      pub total : pos (x % 9223372036854775808) ≡ e
+      pub total : to_z w64 x ≡ e
       pub amount : x ≡ nat_abs e
       pub day : last ≡ t + 10
 
@@ -203,11 +203,11 @@ module _ (l : List ℕ) (p : ℕ) (w : WellFormed l) (low : p ≤ 63) where
         let room =
         leb-false 4 (length (open_calls f))
         (sym (ap (λ (c : Bool). c && leb 4 (length (open_calls f))) said.0) ∙ none.1.1.1.0) in
-        let same : x % 9223372036854775808 ≡ nat_abs e = omega (arith, said.1, small) in
+        let low : x < 9223372036854775808 = omega (arith, said.1, small) in
         record {
           calls = said.0;
           few = omega (arith, room, open-count f t s);
-          total = ap pos same ∙ sym (above-natural (deposited f t) e above);
+          total = to_z_pos w64 low ∙ ap pos said.1 ∙ sym (above-natural (deposited f t) e above);
           amount = said.1;
           day = said.2;
         }
@@ -244,7 +244,7 @@ module _ (l : List ℕ) (p : ℕ) (w : WellFormed l) (low : p ≤ 63) where
           accrued = f.accrued;
         }
 
-    pub given-open : (m n : List ℕ) (x asked last : ℕ) (z : ℤ) → z ≡ pos (x % 9223372036854775808)
+    pub given-open : (m n : List ℕ) (x asked last : ℕ) (z : ℤ) → z ≡ to_z w64 x
         → (m ≡ written l (place p + (49 + 3 * (mo % 16))) (total_words (total_of mo z))) × TotalBack (total_of mo z)
         → (n ≡ set (written m (place p + (41 + 2 * get_or l (place p + 4) 0)) (open_call_words (call_of x last))) (place p + 4) (get_or l (place p + 4) 0 + 1))
         × CallBack (call_of x last)

@@ -1,17 +1,26 @@
--- `formed::open_calls` meets its contract: each file has at most four open calls.
+-- `formed::open_calls` meets its contract: the chain's sum is that of the open calls of all files, at most four of each.
 -- Assumes nothing.
+use mathlib.Core.Path.{◌≡◌, ◌∙◌}
+use native.Mathlib.Omega.{arith}
 use borrow.Author.Rules.{rules}
-use Rattle.formed.proofs.BookChecks.{open_none, open_turn, open-small, open-fits, open-all}
+use Rattle.std.proofs.lemmas.Iterator.{YieldsList-from_map, YieldsList-from_range}
+use Rattle.std.proofs.lemmas.Iterator.Consumers.{sum_by_from_yields_List, fits_by_from_yields_list}
+use Rattle.std.specs.List.{sum_by, range_with_len}
+use Rattle.formed.proofs.BookChecks.{count_in, open_all, open_small}
 use Rattle.formed.proofs.open_calls.Goals as goal
 
-pub loop-p-init : goal.loop-p-init
-loop-p-init c = (open_none c.args.words.now, search rules)
-
-pub overflow_add-count-in-loop-p-2 : goal.overflow_add-count-in-loop-p-2
-overflow_add-count-in-loop-p-2 c = search (open-fits, rules)
-
-pub loop-p-preserved : goal.loop-p-preserved
-loop-p-preserved c = (search (open_turn, rules), search (open-small, rules))
+pub sum-requires-clause-fits : goal.sum-requires-clause-fits
+sum-requires-clause-fits c =
+    let g = count_in c.args.words.now in
+    fits_by_from_yields_list g (range_with_len 0 64) _ _
+    (YieldsList-from_map _ g (YieldsList-from_range 0 64 64 c.map.ensures.source (omega arith)) c.map.ensures.closure (λ x r q k. search rules))
+    (omega (arith, open_small c.args.words.now c.requires.1))
 
 pub returns : goal.returns
-returns c = (search (open-all, rules), search rules)
+returns c =
+    let l = c.args.words.now in
+    let g = count_in l in
+    let sum : c.sum.result ≡ sum_by g (range_with_len 0 64) =
+    sum_by_from_yields_List g (range_with_len 0 64) _ _ c.sum.ensures.ran
+    (YieldsList-from_map _ g (YieldsList-from_range 0 64 64 c.map.ensures.source (omega arith)) c.map.ensures.closure (λ x r q k. search rules)) in
+    (sum ∙ open_all l, omega (arith, sum, open_small l c.requires.1))

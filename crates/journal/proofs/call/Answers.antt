@@ -8,54 +8,54 @@ use Rattle.journal.specs.Grammar.{named_call, calls_of}
 use Rattle.journal.proofs.LineLaws.{here, later, no_more, call_at, no_call, plain_is}
 use Rattle.journal.proofs.call.Goals as goal
 
-pub returns-then-eq-clause-whole : goal.returns-then-eq-clause-whole
+pub returns-then-eq : goal.returns-then-eq
 unfolding named_call calls_of call_names
-returns-then-eq-clause-whole c =
+returns-then-eq c =
     call_at 0 _ _ _ _ _
     (here _ _ _ _ (c.eq.ensures ∙ ap (pointwise eqb c.args.name.now) c.as_slice.ensures) c.if-eq.true)
-    (plain_is _ _ _ c.fresh.ensures.whole)
+    (plain_is _ _ _ c.fresh.ensures)
 
-pub returns-then-eq-2-clause-whole : goal.returns-then-eq-2-clause-whole
+pub returns-then-eq-2 : goal.returns-then-eq-2
 unfolding named_call calls_of call_names
-returns-then-eq-2-clause-whole c =
+returns-then-eq-2 c =
     call_at 1 _ _ _ _ _
     (later _ _ _ _ _ (c.eq.ensures ∙ ap (pointwise eqb c.args.name.now) c.as_slice.ensures) c.if-eq.false
     (here _ _ _ _ (c.eq-else-eq.ensures ∙ ap (pointwise eqb c.args.name.now) c.as_slice-else-eq.ensures) c.if-eq-2.true))
-    (plain_is _ _ _ c.admit.ensures.whole)
+    (plain_is _ _ _ c.admit.ensures)
 
-pub returns-then-eq-3-clause-whole : goal.returns-then-eq-3-clause-whole
+pub returns-then-eq-3 : goal.returns-then-eq-3
 unfolding named_call calls_of call_names
-returns-then-eq-3-clause-whole c =
+returns-then-eq-3 c =
     call_at 2 _ _ _ _ _
     (later _ _ _ _ _ (c.eq.ensures ∙ ap (pointwise eqb c.args.name.now) c.as_slice.ensures) c.if-eq.false
     (later _ _ _ _ _ (c.eq-else-eq.ensures ∙ ap (pointwise eqb c.args.name.now) c.as_slice-else-eq.ensures) c.if-eq-2.false
     (here _ _ _ _ (c.eq-else-eq-2.ensures ∙ ap (pointwise eqb c.args.name.now) c.as_slice-else-eq-2.ensures) c.if-eq-3.true)))
-    (plain_is _ _ _ c.lodge.ensures.whole)
+    (plain_is _ _ _ c.lodge.ensures)
 
-pub returns-then-eq-4-clause-whole : goal.returns-then-eq-4-clause-whole
+pub returns-then-eq-4 : goal.returns-then-eq-4
 unfolding named_call calls_of call_names
-returns-then-eq-4-clause-whole c =
+returns-then-eq-4 c =
     call_at 3 _ _ _ _ _
     (later _ _ _ _ _ (c.eq.ensures ∙ ap (pointwise eqb c.args.name.now) c.as_slice.ensures) c.if-eq.false
     (later _ _ _ _ _ (c.eq-else-eq.ensures ∙ ap (pointwise eqb c.args.name.now) c.as_slice-else-eq.ensures) c.if-eq-2.false
     (later _ _ _ _ _ (c.eq-else-eq-2.ensures ∙ ap (pointwise eqb c.args.name.now) c.as_slice-else-eq-2.ensures) c.if-eq-3.false
     (here _ _ _ _ (c.eq-else-eq-3.ensures ∙ ap (pointwise eqb c.args.name.now) c.as_slice-else-eq-3.ensures) c.if-eq-4.true))))
-    (plain_is _ _ _ c.release.ensures.whole)
+    (plain_is _ _ _ c.release.ensures)
 
-pub returns-then-eq-5-clause-whole : goal.returns-then-eq-5-clause-whole
+pub returns-then-eq-5 : goal.returns-then-eq-5
 unfolding named_call calls_of call_names
-returns-then-eq-5-clause-whole c =
+returns-then-eq-5 c =
     call_at 4 _ _ _ _ _
     (later _ _ _ _ _ (c.eq.ensures ∙ ap (pointwise eqb c.args.name.now) c.as_slice.ensures) c.if-eq.false
     (later _ _ _ _ _ (c.eq-else-eq.ensures ∙ ap (pointwise eqb c.args.name.now) c.as_slice-else-eq.ensures) c.if-eq-2.false
     (later _ _ _ _ _ (c.eq-else-eq-2.ensures ∙ ap (pointwise eqb c.args.name.now) c.as_slice-else-eq-2.ensures) c.if-eq-3.false
     (later _ _ _ _ _ (c.eq-else-eq-3.ensures ∙ ap (pointwise eqb c.args.name.now) c.as_slice-else-eq-3.ensures) c.if-eq-4.false
     (here _ _ _ _ (c.eq-else-eq-4.ensures ∙ ap (pointwise eqb c.args.name.now) c.as_slice-else-eq-4.ensures) c.if-eq-5.true)))))
-    c.settle.ensures.whole
+    c.settle.ensures
 
-pub returns-then-eq-6-clause-whole : goal.returns-then-eq-6-clause-whole
+pub returns-then-eq-6 : goal.returns-then-eq-6
 unfolding named_call calls_of call_names
-returns-then-eq-6-clause-whole c =
+returns-then-eq-6 c =
     call_at 5 _ _ _ _ _
     (later _ _ _ _ _ (c.eq.ensures ∙ ap (pointwise eqb c.args.name.now) c.as_slice.ensures) c.if-eq.false
     (later _ _ _ _ _ (c.eq-else-eq.ensures ∙ ap (pointwise eqb c.args.name.now) c.as_slice-else-eq.ensures) c.if-eq-2.false
@@ -63,11 +63,11 @@ returns-then-eq-6-clause-whole c =
     (later _ _ _ _ _ (c.eq-else-eq-3.ensures ∙ ap (pointwise eqb c.args.name.now) c.as_slice-else-eq-3.ensures) c.if-eq-4.false
     (later _ _ _ _ _ (c.eq-else-eq-4.ensures ∙ ap (pointwise eqb c.args.name.now) c.as_slice-else-eq-4.ensures) c.if-eq-5.false
     (here _ _ _ _ (c.eq-else-eq-5.ensures ∙ ap (pointwise eqb c.args.name.now) c.as_slice-else-eq-5.ensures) c.if-eq-6.true))))))
-    (plain_is _ _ _ c.annual.ensures.whole)
+    (plain_is _ _ _ c.annual.ensures)
 
-pub returns-then-eq-7-clause-whole : goal.returns-then-eq-7-clause-whole
+pub returns-then-eq-7 : goal.returns-then-eq-7
 unfolding named_call calls_of call_names
-returns-then-eq-7-clause-whole c =
+returns-then-eq-7 c =
     call_at 6 _ _ _ _ _
     (later _ _ _ _ _ (c.eq.ensures ∙ ap (pointwise eqb c.args.name.now) c.as_slice.ensures) c.if-eq.false
     (later _ _ _ _ _ (c.eq-else-eq.ensures ∙ ap (pointwise eqb c.args.name.now) c.as_slice-else-eq.ensures) c.if-eq-2.false
@@ -76,11 +76,11 @@ returns-then-eq-7-clause-whole c =
     (later _ _ _ _ _ (c.eq-else-eq-4.ensures ∙ ap (pointwise eqb c.args.name.now) c.as_slice-else-eq-4.ensures) c.if-eq-5.false
     (later _ _ _ _ _ (c.eq-else-eq-5.ensures ∙ ap (pointwise eqb c.args.name.now) c.as_slice-else-eq-5.ensures) c.if-eq-6.false
     (here _ _ _ _ (c.eq-else-eq-6.ensures ∙ ap (pointwise eqb c.args.name.now) c.as_slice-else-eq-6.ensures) c.if-eq-7.true)))))))
-    (plain_is _ _ _ c.advance.ensures.whole)
+    (plain_is _ _ _ c.advance.ensures)
 
-pub returns-then-eq-8-clause-whole : goal.returns-then-eq-8-clause-whole
+pub returns-then-eq-8 : goal.returns-then-eq-8
 unfolding named_call calls_of call_names
-returns-then-eq-8-clause-whole c =
+returns-then-eq-8 c =
     call_at 7 _ _ _ _ _
     (later _ _ _ _ _ (c.eq.ensures ∙ ap (pointwise eqb c.args.name.now) c.as_slice.ensures) c.if-eq.false
     (later _ _ _ _ _ (c.eq-else-eq.ensures ∙ ap (pointwise eqb c.args.name.now) c.as_slice-else-eq.ensures) c.if-eq-2.false
@@ -90,11 +90,11 @@ returns-then-eq-8-clause-whole c =
     (later _ _ _ _ _ (c.eq-else-eq-5.ensures ∙ ap (pointwise eqb c.args.name.now) c.as_slice-else-eq-5.ensures) c.if-eq-6.false
     (later _ _ _ _ _ (c.eq-else-eq-6.ensures ∙ ap (pointwise eqb c.args.name.now) c.as_slice-else-eq-6.ensures) c.if-eq-7.false
     (here _ _ _ _ (c.eq-else-eq-7.ensures ∙ ap (pointwise eqb c.args.name.now) c.as_slice-else-eq-7.ensures) c.if-eq-8.true))))))))
-    (plain_is _ _ _ c.statement.ensures.whole)
+    (plain_is _ _ _ c.statement.ensures)
 
-pub returns-then-eq-9-clause-whole : goal.returns-then-eq-9-clause-whole
+pub returns-then-eq-9 : goal.returns-then-eq-9
 unfolding named_call calls_of call_names
-returns-then-eq-9-clause-whole c =
+returns-then-eq-9 c =
     call_at 8 _ _ _ _ _
     (later _ _ _ _ _ (c.eq.ensures ∙ ap (pointwise eqb c.args.name.now) c.as_slice.ensures) c.if-eq.false
     (later _ _ _ _ _ (c.eq-else-eq.ensures ∙ ap (pointwise eqb c.args.name.now) c.as_slice-else-eq.ensures) c.if-eq-2.false
@@ -107,9 +107,9 @@ returns-then-eq-9-clause-whole c =
     (here _ _ _ _ (c.eq-else-eq-8.ensures ∙ ap (pointwise eqb c.args.name.now) c.as_slice-else-eq-8.ensures) c.if-eq-9.true)))))))))
     (plain_is _ _ _ c.closed.ensures.whole)
 
-pub returns-then-eq-10-clause-whole : goal.returns-then-eq-10-clause-whole
+pub returns-then-eq-10 : goal.returns-then-eq-10
 unfolding named_call calls_of call_names
-returns-then-eq-10-clause-whole c =
+returns-then-eq-10 c =
     call_at 9 _ _ _ _ _
     (later _ _ _ _ _ (c.eq.ensures ∙ ap (pointwise eqb c.args.name.now) c.as_slice.ensures) c.if-eq.false
     (later _ _ _ _ _ (c.eq-else-eq.ensures ∙ ap (pointwise eqb c.args.name.now) c.as_slice-else-eq.ensures) c.if-eq-2.false
@@ -121,11 +121,11 @@ returns-then-eq-10-clause-whole c =
     (later _ _ _ _ _ (c.eq-else-eq-7.ensures ∙ ap (pointwise eqb c.args.name.now) c.as_slice-else-eq-7.ensures) c.if-eq-8.false
     (later _ _ _ _ _ (c.eq-else-eq-8.ensures ∙ ap (pointwise eqb c.args.name.now) c.as_slice-else-eq-8.ensures) c.if-eq-9.false
     (here _ _ _ _ (c.eq-else-eq-9.ensures ∙ ap (pointwise eqb c.args.name.now) c.as_slice-else-eq-9.ensures) c.if-eq-10.true))))))))))
-    c.special.ensures.whole
+    c.special.ensures
 
-pub returns-then-eq-11-clause-whole : goal.returns-then-eq-11-clause-whole
+pub returns-then-eq-11 : goal.returns-then-eq-11
 unfolding named_call calls_of call_names
-returns-then-eq-11-clause-whole c =
+returns-then-eq-11 c =
     call_at 10 _ _ _ _ _
     (later _ _ _ _ _ (c.eq.ensures ∙ ap (pointwise eqb c.args.name.now) c.as_slice.ensures) c.if-eq.false
     (later _ _ _ _ _ (c.eq-else-eq.ensures ∙ ap (pointwise eqb c.args.name.now) c.as_slice-else-eq.ensures) c.if-eq-2.false
@@ -140,9 +140,9 @@ returns-then-eq-11-clause-whole c =
     (here _ _ _ _ (c.eq-else-eq-10.ensures ∙ ap (pointwise eqb c.args.name.now) c.as_slice-else-eq-10.ensures) c.if-eq-11.true)))))))))))
     (plain_is _ _ _ c.closed-then-eq-11.ensures.whole)
 
-pub returns-then-eq-12-clause-whole : goal.returns-then-eq-12-clause-whole
+pub returns-then-eq-12 : goal.returns-then-eq-12
 unfolding named_call calls_of call_names
-returns-then-eq-12-clause-whole c =
+returns-then-eq-12 c =
     call_at 11 _ _ _ _ _
     (later _ _ _ _ _ (c.eq.ensures ∙ ap (pointwise eqb c.args.name.now) c.as_slice.ensures) c.if-eq.false
     (later _ _ _ _ _ (c.eq-else-eq.ensures ∙ ap (pointwise eqb c.args.name.now) c.as_slice-else-eq.ensures) c.if-eq-2.false
@@ -156,11 +156,11 @@ returns-then-eq-12-clause-whole c =
     (later _ _ _ _ _ (c.eq-else-eq-9.ensures ∙ ap (pointwise eqb c.args.name.now) c.as_slice-else-eq-9.ensures) c.if-eq-10.false
     (later _ _ _ _ _ (c.eq-else-eq-10.ensures ∙ ap (pointwise eqb c.args.name.now) c.as_slice-else-eq-10.ensures) c.if-eq-11.false
     (here _ _ _ _ (c.eq-else-eq-11.ensures ∙ ap (pointwise eqb c.args.name.now) c.as_slice-else-eq-11.ensures) c.if-eq-12.true))))))))))))
-    c.batch.ensures.whole
+    c.batch.ensures
 
-pub returns-then-eq-13-clause-whole : goal.returns-then-eq-13-clause-whole
+pub returns-then-eq-13 : goal.returns-then-eq-13
 unfolding named_call calls_of call_names
-returns-then-eq-13-clause-whole c =
+returns-then-eq-13 c =
     call_at 12 _ _ _ _ _
     (later _ _ _ _ _ (c.eq.ensures ∙ ap (pointwise eqb c.args.name.now) c.as_slice.ensures) c.if-eq.false
     (later _ _ _ _ _ (c.eq-else-eq.ensures ∙ ap (pointwise eqb c.args.name.now) c.as_slice-else-eq.ensures) c.if-eq-2.false
@@ -177,9 +177,9 @@ returns-then-eq-13-clause-whole c =
     (here _ _ _ _ (c.eq-else-eq-12.ensures ∙ ap (pointwise eqb c.args.name.now) c.as_slice-else-eq-12.ensures) c.if-eq-13.true)))))))))))))
     (plain_is _ _ _ c.closed-then-eq-13.ensures.whole)
 
-pub returns-else-eq-13-clause-whole : goal.returns-else-eq-13-clause-whole
+pub returns-else-eq-13 : goal.returns-else-eq-13
 unfolding call_names
-returns-else-eq-13-clause-whole c =
+returns-else-eq-13 c =
     no_call _ _ _
     (later _ _ _ _ _ (c.eq.ensures ∙ ap (pointwise eqb c.args.name.now) c.as_slice.ensures) c.if-eq.false
     (later _ _ _ _ _ (c.eq-else-eq.ensures ∙ ap (pointwise eqb c.args.name.now) c.as_slice-else-eq.ensures) c.if-eq-2.false

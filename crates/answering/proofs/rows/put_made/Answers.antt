@@ -1,16 +1,22 @@
--- `answering::rows::put_made` meets its contract: the numbers so far are made at the front.
+-- `answering::rows::put_made` meets its contract: what is made of the values that are left, put from place i on, gives what all of them give.
 -- Assumes nothing.
-use Rattle.std.proofs.Common.{arith, rules, ◌≡◌, SFits, get_or, pos}
-use Rattle.std.specs.Int.{w64}
-use Rattle.std.proofs.lemmas.Int.{to_z-of_z}
-use Rattle.answering.proofs.RowLaws.{made_more}
+use Rattle.std.proofs.Common.{rules}
+use Rattle.answering.proofs.RowLaws.{made_more, made_all, made_front}
 use Rattle.answering.proofs.rows.put_made.Goals as goal
 
 pub loop-i-preserved : goal.loop-i-preserved
 loop-i-preserved g c = (
   search rules,
   λ rule gives.
-      let f : SFits w64 (get_or c.args.numbers.now c.loop-i.i (pos 0)) = search rules in
-      let e : c.rule.result ≡ rule (get_or c.args.numbers.now c.loop-i.i (pos 0)) = gives _ _ (rw (to_z-of_z w64 _ f) at c.rule.ensures) in
-      made_more rule _ _ _ _ (omega arith) (omega arith) (c.loop-i.invariant.1 rule gives) e,
+      made_more rule c.args.row.now c.args.made.now c.loop-i.made c.loop-i.i (c.loop-i.invariant.1 rule gives) c.index-row-i.result
+      c.index-row-i.result c.rule.result c.loop-i-test.true c.index-row-i.is (gives c.index-row-i.result c.rule.result c.rule.ensures),
 )
+
+pub returns-clause-front : goal.returns-clause-front
+returns-clause-front g c = λ rule gives.
+    made_front rule c.args.row.now c.args.made.now c.loop-i.made c.requires.0
+    (made_all rule c.args.row.now c.args.made.now c.loop-i.made c.loop-i.i (c.loop-i.invariant.1 rule gives) c.loop-i-test.false)
+
+pub returns-clause-whole : goal.returns-clause-whole
+returns-clause-whole g c = λ rule gives.
+    made_all rule c.args.row.now c.args.made.now c.loop-i.made c.loop-i.i (c.loop-i.invariant.1 rule gives) c.loop-i-test.false

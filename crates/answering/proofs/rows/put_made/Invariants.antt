@@ -1,10 +1,11 @@
--- `answering::rows::put_made` meets its contract: the numbers so far are made at the front.
+-- `answering::rows::put_made` meets its contract: what is made of the values that are left, put from place i on, gives what all of them give.
 -- Assumes nothing.
-use Rattle.std.proofs.Common.{◌≡◌, map, length, take, ℤ}
+use Rattle.std.proofs.Common.{◌≡◌, map, length, drop}
+use lib.Seq.{sets}
 use Rattle.answering.proofs.rows.put_made.Given as goal
 
 abbrev pub invariant-loop-i : goal.invariant-loop-i
 invariant-loop-i g l =
     (length l.made ≡ length l.initial.made)
-    × ((rule : ℤ → g.row.T.Denot) → ((z : ℤ) (y : g.row.T.Denot) → goal.F-post g l.rule z y → y ≡ rule z)
-    → take l.i l.made ≡ map rule (take l.i l.numbers))
+    × ((rule : g.row.S.Denot → g.row.T.Denot) → ((x : g.row.S.Denot) (y : g.row.T.Denot) → goal.F-post g l.rule x y → y ≡ rule x)
+    → sets l.made l.i (map rule (drop l.i l.row)) ≡ sets l.initial.made 0 (map rule l.row))

@@ -1,7 +1,8 @@
 -- `book::settlements::put_called` meets its contract: the total, the call and the count are what a settlement that called leaves, whatever it asked.
 -- Assumes nothing.
+use mathlib.Core.Path.{◌∙◌}
 use borrow.Author.Rules.{rules}
-use mir.Facts.{to_z_pos}
+use mir.Facts.{to_z-of_z}
 use mir.Syntax.{w64}
 use Rattle.book.proofs.Functions.OnWords.{call-room}
 use Rattle.book.proofs.Functions.SettlementsPut.{few-open, called-long, given-open}
@@ -18,5 +19,5 @@ shape_of-words c = called-long _ _ _ _ _ _ _ _ _ _ (rw c.place-at.ensures at c.p
 
 pub returns : goal.returns
 returns c = λ asked figures b.
-    given-open _ _ c.requires.0 c.requires.1 _ figures _ _ _ asked _ _ (to_z_pos w64 (search rules)) (rw c.place-at.ensures at c.put_month.ensures)
+    given-open _ _ c.requires.0 c.requires.1 _ figures _ _ _ asked _ _ (to_z-of_z {w = w64} (search rules) ∙ c.cast_signed.ensures) (rw c.place-at.ensures at c.put_month.ensures)
     (rw c.place-at.ensures at c.put_open_call.ensures) b

@@ -4,4 +4,4 @@ use Rattle.book.proofs.Functions.SettlementsPut.{month-put}
 use Rattle.book.proofs.settlements.put_month.Goals as goal
 
 pub returns : goal.returns
-returns c = month-put _ _ _ _ _ _ c.ranges.total c.ring_place.ensures c.put.ensures
+returns c = month-put _ _ _ _ _ _ c.ranges.total c.ring_place.ensures c.put_row.ensures

@@ -4,8 +4,8 @@ use Rattle.std.proofs.Common.{rules, arith, refl}
 use Rattle.journal.proofs.ListLaws.{listing_goes, listing_fault, listing_ends, list_within, special_is, special_fault, parsed_err}
 use Rattle.journal.proofs.lists.special.Goals as goal
 
-pub returns-in_err-length-clause-whole : goal.returns-in_err-length-clause-whole
-returns-in_err-length-clause-whole c =
+pub returns-in_err-length : goal.returns-in_err-length
+returns-in_err-length c =
     parsed_err _ _ c.from_residual.result _ _ c.from_residual.ensures.1
     (special_fault _ _ _ _ (listing_fault _ _ _ _ _ _ _ _ _ c.loop-i-test.true c.loop-i.invariant _ c.list.new.words c.in_err-length.ensures.filled))
 
@@ -18,6 +18,7 @@ pub loop-i-preserved : goal.loop-i-preserved
 loop-i-preserved c =
     listing_goes _ _ _ _ _ _ _ _ _ c.loop-i-test.true c.loop-i.invariant c.in_ok-length.length c.list.new.words c.in_ok-length.ensures.filled c.in_ok-length.ensures.whole
 
-pub returns-clause-whole : goal.returns-clause-whole
-returns-clause-whole c =
-    special_is _ _ _ _ _ _ (listing_ends _ _ _ _ _ _ _ _ _ c.loop-i-test.false (omega arith) refl c.loop-i.invariant) c.closed.ensures.whole
+pub returns : goal.returns
+returns c =
+    special_is _ _ _ _ _ _ (listing_ends _ _ _ _ _ _ _ _ _ c.loop-i-test.false (omega arith) refl c.loop-i.invariant)
+    (rw c.from.ensures at c.closed.ensures.whole)

@@ -5,12 +5,12 @@ use Rattle.layout.proofs.files.cover_at.Goals as goal
 
 pub overflow_add-sum : goal.overflow_add-sum
 overflow_add-sum c =
-    cover-fits c.args.words.now c.args.at c.args.from.0 c.args.through.0 c.loop-k.k _ _ c.loop-k-test.true c.read-slot.ensures c.counts-sum.ensures _
+    cover-fits c.args.words.now c.args.at c.args.from.0 c.args.through.0 c.loop-k.k _ _ c.loop-k-test.true c.read_row-slot.ensures c.counts-sum.ensures _
     c.loop-k.invariant c.requires.1
 
 pub loop-k-preserved : goal.loop-k-preserved
 loop-k-preserved c =
-    cover-step c.args.words.now c.args.at c.args.from.0 c.args.through.0 c.loop-k.k _ _ c.loop-k-test.true c.read-slot.ensures c.counts-sum.ensures _
+    cover-step c.args.words.now c.args.at c.args.from.0 c.args.through.0 c.loop-k.k _ _ c.loop-k-test.true c.read_row-slot.ensures c.counts-sum.ensures _
     c.loop-k.invariant
 
 pub returns : goal.returns

@@ -1,8 +1,8 @@
 -- `layout::rows::put_rows` meets its contract: a row that is put follows those before it.
 -- Assumes nothing.
+use Prim.Native.Nat.{◌+◌, ◌*◌}
 use native.Mathlib.Omega.{arith}
 use mathlib.Core.Path.{refl, ◌∙◌}
-use Prim.Native.Nat.{◌+◌, ◌*◌}
 use Rattle.layout.proofs.Flat.{rows-first, rows-next, rows-all}
 use Rattle.layout.proofs.rows.put_rows.Goals as goal
 
@@ -16,9 +16,8 @@ loop-k-preserved g c =
     record {
       long = c.put.auto.words ∙ c.loop-k.invariant.long;
       rows =
-          rows-next r.row_words r.WORDS g.met.R.Row.long r.Back _ _ _ _ _ (c.args.at + (c.PLACE.result + c.WORDS.result * c.loop-k.k)) _ _
-          c.loop-k-test.true c.loop-k.invariant.rows c.index-rows-k.is (rw (c.PLACE.ensures, c.WORDS.ensures) (omega arith)) c.put.ensures.0
-          c.put.ensures.1;
+          rows-next r.row_words r.WORDS g.met.R.Row.long r.Back _ _ _ _ _ (c.args.at + c.WORDS.result * c.loop-k.k) _ _
+          c.loop-k-test.true c.loop-k.invariant.rows c.index-rows-k.is (rw c.WORDS.ensures (omega arith)) c.put.ensures.0 c.put.ensures.1;
     }
 
 pub returns : goal.returns

@@ -1,6 +1,5 @@
 -- `layout::rows::put_rows` meets its contract. The invariant: the rows that were passed are written.
 -- Assumes nothing.
-use Prim.Native.Nat.{◌+◌}
 use mathlib.Core.Path.{◌≡◌}
 use lib.ListN.{length}
 use Rattle.layout.specs.Files.{SoFar}
@@ -9,5 +8,5 @@ use Rattle.layout.proofs.rows.put_rows.Given as goal
 abbrev pub invariant-loop-k : goal.invariant-loop-k
 invariant-loop-k g l = record {
   long : length l.words ≡ length l.fn.words;
-  rows : SoFar g.R.Row.row_words g.R.Row.Back l.rows l.fn.words (l.at + g.R.Row.PLACE) l.k l.words;
+  rows : SoFar g.R.Row.row_words g.R.Row.Back l.rows l.fn.words l.at l.k l.words;
 }

@@ -4,4 +4,4 @@ use Rattle.printing.specs.WrittenLaws.{joined_one}
 use Rattle.printing.proofs.calls.put_special.Goals as goal
 
 pub returns : goal.returns
-returns c = joined_one _ _ _ _ _ c.text.ensures c.put_lists.ensures
+returns c = joined_one _ _ _ _ _ c.text.ensures (rw c.in_turn.ensures at c.put_lists.ensures)

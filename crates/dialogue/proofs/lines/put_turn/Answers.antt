@@ -1,8 +1,0 @@
--- `dialogue::lines::put_turn` meets its contract: whether the line is kept and ends the first stretch is tested, and what it adds is put.
--- Assumes nothing.
-use Rattle.dialogue.proofs.LineLaws.{turned}
-use Rattle.std.proofs.Common.{rules}
-use Rattle.dialogue.proofs.lines.put_turn.Goals as goal
-
-pub returns : goal.returns
-returns c = search (turned, rules)
