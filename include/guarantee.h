@@ -55,6 +55,8 @@ enum {
     GUARANTEE_PARTS_ORDER = 21,       /* a batch's parts don't follow one another from its pairs to the end of the file */
     GUARANTEE_PART_LENGTH = 22,       /* a part's length isn't that of its rows, or its participant has an earlier part */
     GUARANTEE_ROLE_RETIRED = 23,      /* the role, 1, is no longer registered */
+    GUARANTEE_NO_DELETION = 24,       /* a deletion is made in August and September only, of each participant once */
+    GUARANTEE_UNDER_DELETION = 25,    /* an annual run of a participant that is under deletion */
     GUARANTEE_NOT_A_BOOK = 100        /* the words aren't GUARANTEE_WORDS many: none was read or written */
 };
 
@@ -97,6 +99,13 @@ typedef struct GuaranteeAnnual {
     uint64_t amount;
     uint64_t months;
 } GuaranteeAnnual;
+
+/* What a deletion answers: its amount, and 1 if it became a call, 0 if not. */
+typedef struct GuaranteeDeletion {
+    uint64_t refusal;
+    uint64_t amount;
+    uint64_t called;
+} GuaranteeDeletion;
 
 /* What an advance answers: how many days it opened. */
 typedef struct GuaranteeAdvanced {
@@ -142,6 +151,14 @@ uint64_t guarantee_fresh(uint64_t *words, size_t length, uint32_t day);
  * retired; a book that was saved with such a participant keeps it. Returns the refusal (1, 3, 4, 23). Writes only if accepted. */
 uint64_t guarantee_admit(uint64_t *words, size_t length, uint64_t participant, uint64_t role);
 
+/* Places a participant under deletion, in August or September; nothing ends that status. Its amount is the largest total of the three latest
+ * recorded months among the fourteenth to the second before today's, of fewer if fewer are recorded, and 0 if none is or that is negative. If it
+ * exceeds the firm amount and every open call, it is called, whatever the cover: it is open today and ten more days, and then becomes firm if it is
+ * higher. Where the day after these is 1 October and an annual run has set an amount, that amount is firm instead. No annual run is made of the
+ * participant any more; an amount that one has set stays. Lodgings, releases and settlements go on as before. The order of refusals is 1, 2, 24, 13.
+ * Writes only if accepted: refused with 13, the participant isn't under deletion. */
+GuaranteeDeletion guarantee_delete(uint64_t *words, size_t length, uint64_t participant);
+
 /* ---- the treasury officer */
 
 /* Lodges cash at an empty position of a participant. It counts from now on. Returns the refusal (1, 2, 5, 6, 8). Writes only if accepted. */
@@ -179,7 +196,8 @@ GuaranteeSettled guarantee_settle(uint64_t *words, size_t length, uint64_t parti
 GuaranteeBatch guarantee_batch(uint64_t *words, size_t length, const uint8_t *file, size_t bytes);
 
 /* Runs the annual calculation of a participant, from 1 to 10 September: the largest total from July of the year before to this June, or the
- * role's minimum if that is larger, becomes the firm amount on 1 October. The order of refusals is 1, 2, 14. Writes only if accepted. */
+ * role's minimum if that is larger, becomes the firm amount on 1 October. For a participant under deletion it is refused with 25. The
+ * order of refusals is 1, 2, 14, 25. Writes only if accepted. */
 GuaranteeAnnual guarantee_annual_run(uint64_t *words, size_t length, uint64_t participant);
 
 /* Works out a special guarantee (the manual, section 7), of no book: the rates of the medium and of the low voltage in hundredths of a percent,
@@ -209,7 +227,7 @@ uint64_t guarantee_check(const uint64_t *words, size_t length);
 /* A participant's statement today. The order of refusals is 1, 2. */
 GuaranteeStatement guarantee_statement(const uint64_t *words, size_t length, uint64_t participant);
 
-/* How many calls for more were made, of all participants, admissions' included. It is never refused for a book. */
+/* How many calls for more were made, of all participants, admissions' and deletions' included. It is never refused for a book. */
 GuaranteeCount guarantee_calls_made(const uint64_t *words, size_t length);
 
 #ifdef __cplusplus

@@ -1,4 +1,5 @@
-"""Paper 01's 'Figures to reproduce' that concern the book, and paper 02's batch, D and role retired, by the reference: python3 reference/check.py
+"""Paper 01's 'Figures to reproduce' that concern the book, and paper 02's batch, D, role retired and deletion, by the reference:
+python3 reference/check.py
 
 Each figure is reached by a history from a fresh book, so that cover, firm amount and charges are the reading's own. The batches are bytes worked
 out by hand, on both sides of each bound. Exits 1 on a difference.
@@ -355,13 +356,278 @@ def first_stretch():
     same('the role', h.people[0].role, 1)
 
 
+# ---- leaving participants (paper 02, ask 4)
+
+# 2021: 31 July is day 577, 1 August 578, 31 August 608, 1 September 609, 20 September 628, 30 September 638, 1 October 639. August is month 19,
+# September month 20 and October month 21.
+
+def deletion(amount, called):
+    return (11, amount, called, 0, 0, 0)
+
+
+def record(h, p, totals):
+    """Totals of months, each given by how many months back it lies, in the order in which they are settled."""
+    for back, e in totals:
+        same(f'{back} months back, {e}', h.settle(p, month(h.today) - back, [e, 0, 0, 0, 0])[1], e)
+
+
+def producer(day, totals=()):
+    """A history that begins on a day with a producer, who has no minimum, and its totals."""
+    h = History(day)
+    h.admit(0, 3)
+    record(h, 0, totals)
+    return h
+
+
+def deletion_days():
+    """Every day of August and September and none beside them: by hand the first and the last, also of 2020, a leap year, and of 2099."""
+    for day in (0, 59, 212, 274, 577, 639, 640, 29066, 29128, LAST_DAY):
+        same(f'deletion on day {day}', producer(day).delete(0), History.refused(24))
+    for day in (213, 243, 244, 273, 578, 608, 609, 638, 29067, 29097, 29098, 29127):
+        same(f'deletion on day {day}', producer(day).delete(0), deletion(0, 0))
+    for year in (2020, 2021, 2024, 2099):
+        months = [date(day).month for day in range(day_number(year, 1, 1), day_number(year, 12, 31)) if producer(day).delete(0)[0] == 11]
+        same(f'days of a deletion in {year}', (len(months), set(months)), (61, {8, 9}))
+
+
+def deletion_amounts():
+    """The largest total of the three latest recorded months, on 1 September 2021: P is 20, and months 6 to 18 count. No total is checked there."""
+    for what, totals, amount in (
+            ('no month', [], 0), ('July 2021', [(2, 5)], 5), ('July 2020', [(14, 5)], 5), ('a credit', [(2, -5)], 0), ('0', [(2, 0)], 0),
+            ('one cent', [(9, 1)], 1), ('two months', [(2, 10), (3, 20)], 20), ('three months', [(2, 10), (3, 20), (4, 30)], 30),
+            ('the first of three', [(2, 30), (3, 20), (4, 10)], 30), ('the second of three', [(2, 10), (3, 30), (4, 20)], 30),
+            ('four months', [(2, 10), (3, 20), (4, 30), (5, 40)], 30), ('the oldest settled first', [(5, 40), (4, 30), (3, 20), (2, 10)], 30),
+            ('the oldest settled last', [(2, 1), (3, 2), (4, 3), (14, 99)], 3), ('three credits', [(2, -1), (3, -2), (4, -3)], 0),
+            ('three credits and an older total', [(2, -1), (3, -2), (4, -3), (5, 40)], 0), ('two credits', [(2, -1), (3, -2), (5, 40), (6, 50)], 40),
+            ('gaps', [(14, 9), (8, 8), (5, 7)], 9), ('gaps, and a fourth', [(14, 9), (8, 8), (5, 7), (2, 1)], 8),
+            ('the three oldest', [(14, 9), (13, 8), (12, 7)], 9), ('a total replaced by a lower one', [(2, 50), (2, 7)], 7),
+            ('a total replaced by a higher one', [(2, 7), (3, 9), (2, 50)], 50), ('all 13', [(back, back) for back in range(2, 15)], 4),
+            ('all 13, the latest the largest', [(back, 20 - back) for back in range(2, 15)], 18)):
+        h = producer(609, totals)
+        same(f'deletion, {what}', h.delete(0), deletion(amount, int(amount > 0)))
+        same(f'deletion, {what}, its call', h.people[0].calls(), [(amount, 619)] if amount else [])
+    h = producer(609)
+    same('16 figures of 10^12', h.settle(0, 18, [10 ** 12] * 16), recorded(16 * 10 ** 12))
+    same('their deletion', h.delete(0), deletion(16 * 10 ** 12, 1))
+    # June 2020, month 5, is P - 14 in August 2021 and P - 15 in September.
+    for days, amount in ((0, 99), (1, 7)):
+        h = producer(608, [(14, 99), (13, 7)])
+        go(h, days)
+        same(f'June 2020, {days} days later', h.delete(0), deletion(amount, 1))
+    # In 2020 there are no months before January: August sees months 0 to 5.
+    h = producer(213, [(7, 4), (6, 3), (5, 2), (4, 1)])
+    same('August 2020', h.delete(0), deletion(3, 1))
+
+
+def deletion_compared():
+    """With the firm amount and every open call, and with nothing else: a trader with its minimum of 1,000,000, called on 1 August or firm then."""
+    for what, day, cash, total, expected in (
+            ('below the open minimum', 578, 0, 999999, deletion(999999, 0)), ('equal to it', 578, 0, 1000000, deletion(1000000, 0)),
+            ('one above it', 578, 0, 1000001, deletion(1000001, 1)), ('the cover is above it', 578, 5000000, 1000001, deletion(1000001, 1)),
+            ('below the firm minimum', 567, 0, 999999, deletion(999999, 0)), ('equal to that', 567, 0, 1000000, deletion(1000000, 0)),
+            ('one above that', 567, 0, 1000001, deletion(1000001, 1)), ('the cover is equal', 567, 1000001, 1000001, deletion(1000001, 1)),
+            ('20% above the cover', 567, 1000000, 1200000, deletion(1200000, 1)), ('19% above it', 567, 1000000, 1190000, deletion(1190000, 1))):
+        h = History(day)
+        h.admit(0, 2)
+        if cash:
+            h.lodge(0, 0, 'cash', cash)
+        go(h, 578 - day)
+        record(h, 0, [(3, total)])
+        same(f'deletion, {what}', h.delete(0), expected)
+        same(f'deletion, {what}, calls made', h.calls_made(), (8, 1 + expected[2], 0, 0, 0, 0))
+        same(f'deletion, {what}, open calls', h.people[0].open_calls(578), [1000000] * (day == 578) + [total] * expected[2])
+
+
+def deletion_causes():
+    """1, 2, 24, 13 of a deletion, and 1, 2, 14, 25 of an annual run; what is refused changes nothing."""
+    h = producer(577, [(3, 70)])
+    for p, number in ((64, 1), (256, 1), (1, 2), (63, 2), (0, 24)):
+        same(f'31 July, delete {p}', h.delete(p), History.refused(number))
+    go(h, 1)
+    for p, number in ((64, 1), (1, 2)):
+        same(f'1 August, delete {p}', h.delete(p), History.refused(number))
+    same('not under deletion yet', h.people[0].deletion(), None)
+    same('1 August, delete 0', h.delete(0), deletion(70, 1))
+    same('a second time', h.delete(0), History.refused(24))
+    same('an annual run in August', h.annual(0), History.refused(14))
+    go(h, 31)
+    same('1 September, delete 0', h.delete(0), History.refused(24))
+    for p, number in ((64, 1), (1, 2), (0, 25)):
+        same(f'1 September, annual {p}', h.annual(p), History.refused(number))
+    h.admit(1, 3)
+    same('the annual run of another', h.annual(1), (5, 0, 0, 0, 0, 0))
+    go(h, 10)
+    same('11 September, annual 0', h.annual(0), History.refused(14))
+    go(h, 20)
+    same('1 October, no next amount', h.statement(0), statement(70, 0, 639 - 588, (639 - 588) * 100000000))
+    same('1 October, delete 0', h.delete(0), History.refused(24))
+    same('1 October, delete 1', h.delete(1), History.refused(24))
+    go(h, 335)
+    same('1 September 2022, annual 0', h.annual(0), History.refused(25))
+    same('1 September 2022, delete 0', h.delete(0), History.refused(24))
+    same('calls made', h.calls_made(), (8, 1, 0, 0, 0, 0))
+
+
+def deletion_fifth():
+    """31 August 2021: four open calls until 10 September. A deletion that would be the fifth is refused, and its participant stays as it was."""
+    def full(more):
+        h = producer(608)
+        for e in (10, 20, 30, 40):
+            same('an open call', settle(h, 0, e), called(e, e, 618))
+        record(h, 0, [(3, more)])
+        return h
+
+    same('four open, equal to the last', full(40).delete(0), deletion(40, 0))
+    h = full(41)
+    same('a fifth', h.delete(0), History.refused(13))
+    same('the totals are lowered', settle(h, 0, 39, 3), recorded(39))
+    same('and it is tried again', h.delete(0), deletion(40, 0))
+    same('a settlement of one under deletion', settle(h, 0, 41), History.refused(13))
+    h = full(41)
+    same('a fifth', h.delete(0), History.refused(13))
+    go(h, 1)
+    same('a fifth on 1 September', h.delete(0), History.refused(13))
+    same('its annual run', h.annual(0), (5, 41, 2, 0, 0, 0))
+    go(h, 9)
+    same('10 September, still a fifth', h.delete(0), History.refused(13))
+    same('its annual run again', h.annual(0), (5, 41, 2, 0, 0, 0))
+    go(h, 1)
+    same('11 September, they are firm', h.statement(0), statement(40, 0, 1, 100000000))
+    same('then it is accepted', h.delete(0), deletion(41, 1))
+    same('once', h.delete(0), History.refused(24))
+    same('calls made', h.calls_made(), (8, 5, 0, 0, 0, 0))
+    # In the status 24 comes before 13, and outside August and September too.
+    h = full(40)
+    same('four open', h.delete(0), deletion(40, 0))
+    record(h, 0, [(3, 50)])
+    same('in the status, and it would be a fifth', h.delete(0), History.refused(24))
+    h = producer(639)
+    for e in (10, 20, 30, 40):
+        same('an open call', settle(h, 0, e), called(e, e, 649))
+    record(h, 0, [(3, 50)])
+    same('1 October, and it would be a fifth', h.delete(0), History.refused(24))
+
+
+def deletion_october():
+    """A next amount of 2,000,000 euros set on 1 September 2021, and a deletion to 3,000,000 euros on 20, 21 or 30 September: the firm amount of the
+    days from 30 September on, and what is charged with no cover at all. The call of 20 September is firm on no day."""
+    m = 100000000
+    for day, table in ((628, {638: 0, 639: 2, 640: 2, 649: 2, 650: 2}), (629, {638: 0, 639: 2, 640: 3, 649: 3, 650: 3}),
+                       (638, {638: 0, 639: 2, 640: 2, 648: 2, 649: 3, 650: 3})):
+        h = producer(609, [(3, 2 * m)])
+        same('the annual run', h.annual(0), (5, 2 * m, 1, 0, 0, 0))
+        record(h, 0, [(2, 3 * m)])
+        go(h, day - 609)
+        same(f'deletion on {day}', h.delete(0), deletion(3 * m, 1))
+        for at, firm in table.items():
+            go(h, at - h.today)
+            same(f'deletion on {day}, the firm amount of {at}', h.people[0].firm(at), firm * m)
+        mills = {628: 12 * 2 * m, 629: 1 * 2 * m + 11 * 3 * m, 638: 10 * 2 * m + 2 * 3 * m}[day]
+        same(f'deletion on {day}, charged', h.statement(0), statement(table[650] * m, 0, 12, mills))
+    # The next amount is higher: the call of 21 September raises nothing when it ends.
+    h = producer(609, [(3, 1 * m), (4, 1 * m), (5, 1 * m), (6, 2 * m)])
+    same('the annual run', h.annual(0), (5, 2 * m, 4, 0, 0, 0))
+    go(h, 20)
+    same('the deletion, below the next amount', h.delete(0), deletion(1 * m, 1))
+    go(h, 10)
+    same('1 October, the next amount', h.statement(0), statement(2 * m, 0, 1, 2 * m))
+    same('its call is open below it', h.people[0].open_calls(639), [1 * m])
+    same('a total between the two', settle(h, 0, 2 * m), covered(2 * m))
+    same('a total above both', settle(h, 0, 2 * m + 1), called(2 * m + 1, 2 * m + 1, 649))
+    go(h, 1)
+    same('2 October, it has ended', h.statement(0), statement(2 * m, 0, 2, 4 * m))
+    # The next amount is lower: the open call keeps a total from calling.
+    h = producer(609, [(3, 100)])
+    same('the annual run', h.annual(0), (5, 100, 1, 0, 0, 0))
+    record(h, 0, [(2, 300)])
+    go(h, 29)
+    same('30 September', h.delete(0), deletion(300, 1))
+    h.lodge(0, 0, 'cash', 200)
+    go(h, 1)
+    same('1 October', h.statement(0), statement(100, 200, 0, 0))
+    same('none of the cash is released', h.release(0, 0, 1), History.refused(16))
+    same('a total above the firm amount alone', settle(h, 0, 299), covered(299))
+    same('the same as the open call', settle(h, 0, 300), covered(300))
+    same('one above it', settle(h, 0, 301), called(301, 101, 649))
+    go(h, 9)
+    same('10 October, the last free day', h.statement(0), statement(100, 200, 0, 0))
+    go(h, 1)
+    same('11 October, it is firm', h.statement(0), statement(300, 200, 1, 100000000))
+    go(h, 1)
+    same('12 October, the other is', h.statement(0), statement(301, 200, 2, 200000000))
+
+
+def deletion_example():
+    """Participant A of source 002's example 1, on 1 September 2021: its three latest months are April to June with 773,729 euros at most; when July
+    is settled at 754,464, as in example 2, they are May to July, and July is the largest."""
+    table = [687801, 556887, 557260, 644620, 692868, 654313, 629674, 669566, 672286, 773729, 596570, 723508]
+
+    def participant():
+        h = History(609)
+        h.admit(0, 0)
+        record(h, 0, [(back, 100 * euros) for back, euros in zip(range(14, 2, -1), table)])
+        h.lodge(0, 0, 'cash', 2000000)
+        return h
+
+    same('before July is settled', participant().delete(0), deletion(77372900, 1))
+    h = participant()
+    same('the annual run', h.annual(0), (5, 77372900, 12, 0, 0, 0))
+    record(h, 0, [(2, 75446400)])
+    go(h, 20)
+    same('21 September', h.delete(0), deletion(75446400, 1))
+    same('calls made, the minimum and this', h.calls_made(), (8, 2, 0, 0, 0, 0))
+    same('an annual run', h.annual(0), History.refused(14))
+    go(h, 9)
+    same('30 September', h.statement(0), statement(2000000, 2000000, 0, 0))
+    go(h, 1)
+    same('1 October, 753,729 euros are missing', h.statement(0), statement(77372900, 2000000, 1, 100000000))
+    go(h, 1)
+    same('2 October', h.statement(0), statement(77372900, 2000000, 2, 200000000))
+
+
+def deletion_life():
+    """1 August 2021, a producer with cash for a fifth of its deletion's amount: none of it is released, the rest is paid on the last free day, and
+    its months are checked as ever."""
+    h = producer(578)
+    h.lodge(0, 0, 'cash', 100)
+    record(h, 0, [(4, 500)])
+    same('the cash is free', h.release(0, 0, 1), History.DONE)
+    same('the deletion', h.delete(0), deletion(500, 1))
+    same('the cash is held', h.release(0, 0, 1), History.refused(16))
+    go(h, 10)
+    same('11 August, the last free day', h.statement(0), statement(0, 99, 0, 0))
+    same('what is missing', h.lodge(0, 1, 'cash', 401), History.DONE)
+    go(h, 1)
+    same('12 August, it is firm', h.statement(0), statement(500, 500, 0, 0))
+    same('a check of June', settle(h, 0, 600), called(600, 100, 599))
+    go(h, 11)
+    same('23 August', h.statement(0), statement(600, 500, 1, 100000000))
+    go(h, 39)
+    same('1 October, the firm amount stays', h.statement(0), statement(600, 500, 40, 4000000000))
+    same('a check of August, below 20%', settle(h, 0, 599), covered(599))
+    same('not above the firm amount', settle(h, 0, 600), covered(600))
+    same('above it', settle(h, 0, 601), called(601, 101, 649))
+    same('calls made', h.calls_made(), (8, 3, 0, 0, 0, 0))
+    # In the first stretch of a history, by one with role 1: nothing of it depends on the stretch.
+    h = History(609, first_stretch=True)
+    h.admit(0, 1)
+    record(h, 0, [(2, 2000001)])
+    same('role 1, in the first stretch', h.delete(0), deletion(2000001, 1))
+    h.end_stretch()
+    same('behind it', (h.delete(0), h.annual(0)), (History.refused(24), History.refused(25)))
+    same('its two calls', h.people[0].calls(), [(2000000, 619), (2000001, 619)])
+    go(h, 11)
+    same('both are firm', h.statement(0), statement(2000001, 0, 1, 100000000))
+
+
 def main():
     for part in (calendar, examples, checks, charges, two_calls, deposits, batch_too_short, batch_not_following, batch_parts,
-                 batch_settlements, admissions, first_stretch):
+                 batch_settlements, admissions, first_stretch, deletion_days, deletion_amounts, deletion_compared, deletion_causes, deletion_fifth,
+                 deletion_october, deletion_example, deletion_life):
         part()
     for line in differences:
         print(line)
-    print(f'paper 01, figures of the book, D, batches and role retired: {done} compared, {len(differences)} different')
+    print(f'paper 01, figures of the book, D, batches, role retired and deletion: {done} compared, {len(differences)} different')
     return 1 if differences else 0
 
 

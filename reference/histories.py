@@ -9,15 +9,17 @@ answer, each refusal and each corner was met. A file is decimal numbers: `START 
     1 P PLACE AMOUNT             lodge cash             6 DAY BUDGET  advance
     2 P PLACE AMOUNT FIRST LAST  lodge a letter         7 P           statement
     3 P PLACE AMOUNT             release                8 K B1 .. BK  a batch of K bytes
-    4 P MONTH K F1 .. FK         settle                 9             the count of calls made
+    4 P MONTH K F1 .. FK         settle                 9 P           delete
+    10                           the count of calls made
 
 The first FIRST calls are the history's first stretch, made under the old admission rule, and the others are made under the new one (paper 02, ask
 3); FIRST may be 0, or above COUNT. Every history ends with a statement of each participant admitted by then and the question for the count. The
-answers are those to the text as written: `history START`, then six numbers for each call; to a batch `9 N 0 0 0 0`, or `10 NUMBER INDEX 0 0 0`.
-Corners are counted by what a call met, not by what it was aimed at.
+answers are those to the text as written: `history START`, then six numbers for each call; to a batch `9 N 0 0 0 0`, or `10 NUMBER INDEX 0 0 0`; to
+a deletion `11 AMOUNT CALLED 0 0 0`, CALLED being 1 or 0. Corners are counted by what a call met, not by what it was aimed at.
 """
 import argparse
 import collections
+import itertools
 import os
 import random
 import struct
@@ -26,13 +28,18 @@ import time
 
 sys.dont_write_bytecode = True
 
-from reading import LAST_DAY, MINIMUM, MOST, RETIRED, History, date, day_number, in_annual_days, is_september, month
+from reading import LAST_DAY, MINIMUM, MOST, RETIRED, History, date, day_number, firm_on, in_annual_days, in_deletion_days, is_september, month
 
 ANSWERS = {0: 'refused', 1: 'done', 2: 'called', 3: 'covered', 4: 'recorded only', 5: 'annual amount', 6: 'days opened', 7: 'statement',
-           8: 'count of calls', 9: 'batch', 10: 'batch refused'}
-NAMES = {0: 'admit', 1: 'lodge', 2: 'lodge', 3: 'release', 4: 'settle', 5: 'annual', 6: 'advance', 7: 'statement', 8: 'batch'}
+           8: 'count of calls', 9: 'batch', 10: 'batch refused', 11: 'deletion'}
+NAMES = {0: 'admit', 1: 'lodge', 2: 'lodge', 3: 'release', 4: 'settle', 5: 'annual', 6: 'advance', 7: 'statement', 8: 'batch', 9: 'delete'}
 ORDER = {'admit': (1, 3, 4, 23), 'lodge': (1, 2, 5, 6, 8, 9), 'release': (1, 2, 5, 7, 8, 15, 16), 'settle': (1, 2, 12, 10, 11, 13),
-         'annual': (1, 2, 14), 'advance': (17,), 'statement': (1, 2)}
+         'annual': (1, 2, 14, 25), 'advance': (17,), 'statement': (1, 2), 'delete': (1, 2, 24, 13)}
+# Causes of one call that never hold at once, or of which the second can't be judged where the first holds.
+APART = {'admit': ((1, 3), (4, 23)), 'lodge': ((1, 2), (1, 6), (2, 6), (5, 6)),
+         'release': ((1, 2), (1, 7), (1, 15), (1, 16), (2, 7), (2, 15), (2, 16), (5, 7), (5, 15), (5, 16), (7, 15), (7, 16)),
+         'settle': ((1, 2), (1, 13), (2, 13), (12, 13)), 'annual': ((1, 2), (1, 25), (2, 25)), 'statement': ((1, 2),),
+         'delete': ((1, 2), (1, 13), (2, 13))}
 MOST_CALLS = 400     # a history stays below each of these three
 MOST_BYTES = 60000
 MOST_FIGURES = 4000
@@ -42,6 +49,7 @@ WORD, HALF = 2 ** 64 - 1, 2 ** 32 - 1
 ALL = float('inf')   # calls of a first stretch that is the whole history
 
 CORNERS = '''
+start: around 1 August
 start: around 1 September
 start: around 20 September
 start: around 1 October
@@ -84,6 +92,22 @@ opening: next amount takes effect, firm amount the same
 opening: next amount 0 takes effect
 opening: next amount takes effect, a second one for the participant
 opening: no next amount on 1 October, firm amount above 0
+opening: next amount of one under deletion takes effect
+opening: no next amount on 1 October, under deletion since August
+opening: a second 1 October under deletion
+opening: 1 October beside a deletion's open call, the next amount is higher
+opening: 1 October beside a deletion's open call, the next amount is the same
+opening: 1 October beside a deletion's open call, the next amount is lower
+opening: 1 October beside a deletion's open call, no next amount
+opening: a deletion's call of 20 September is above the next amount, and gone with it
+opening: a deletion's call ends before 1 October
+opening: a deletion's call ends on 2 October, with a next amount in effect
+opening: a deletion's call ends on 11 October, with a next amount in effect
+opening: a deletion's call ends on 2 to 11 October, the firm amount is higher
+opening: a deletion's call ends on 2 to 11 October, the firm amount is the same
+opening: a deletion's call ends on 2 to 11 October, the firm amount is lower
+opening: a deletion's call ends, covered by what was lodged since
+opening: a deletion's call and 1 October in one advance
 opening: a letter lapses
 opening: a letter lapses and a shortfall arises
 opening: a letter begins
@@ -95,6 +119,7 @@ charge: both kinds for one participant
 charge: shortfall of 1
 charge: covered to the cent
 charge: accrued above 2^53
+charge: a day for a deletion's call alone
 admit: minimum above 0
 admit: minimum 0
 admit: admitted twice (3)
@@ -139,12 +164,17 @@ lodge: a letter's last day yesterday (9)
 lodge: a letter's last day above 29,219 (9)
 lodge: ends a shortfall exactly
 lodge: leaves a shortfall of one cent
+lodge: covers a deletion's open call exactly
 release: leaves the limit exactly, set by the firm amount
 release: leaves the limit exactly, set by an open call
 release: leaves the limit exactly, set by the next amount
+release: leaves the limit exactly, set by a deletion's open call
 release: one cent below the limit, set by the firm amount (16)
 release: one cent below the limit, set by an open call (16)
 release: one cent below the limit, set by the next amount (16)
+release: one cent below the limit, set by a deletion's open call (16)
+release: refused for a deletion's open call (16)
+release: refused for the firm amount, a deletion's open call is below it (16)
 release: limit 0
 release: the sum of the open calls would have refused it
 release: cash whole
@@ -168,6 +198,7 @@ settle: P below 2 (12)
 settle: M above 959 (12)
 settle: September, M = P - 2, recorded only
 settle: September, M = P - 2, would have called
+settle: under deletion, September, M = P - 2, would have called
 settle: a total replaced
 settle: a called total replaced by a lower one, its call open
 settle: before the admission's month
@@ -197,6 +228,15 @@ check: E one above the largest open call, called
 check: only the tolerance keeps from calling
 check: only the firm amount keeps from calling
 check: only an open call keeps from calling
+check: under deletion, called
+check: under deletion, called on the day of the deletion's call
+check: under deletion, called in a later year
+check: under deletion, only the tolerance keeps from calling
+check: under deletion, fifth open call refused (13)
+check: in October, only a deletion's open call keeps from calling
+check: in October, only the firm amount keeps from calling, a deletion's open call is below it
+check: in October, called above the firm amount and a deletion's open call, of which that is higher
+check: in October, called above the firm amount and a deletion's open call, of which that is not higher
 check: a letter that has not begun would have covered it
 check: a letter until t + 11 counts, and one day less would call
 check: a letter until t + 10 doesn't count, and one day more would cover
@@ -238,10 +278,90 @@ annual: next amount 0
 annual: below the firm amount
 annual: a second run, amount higher
 annual: a second run, amount lower
+annual: under deletion (25)
+annual: under deletion, a next amount is set (25)
+annual: under deletion in a later year (25)
+annual: under deletion, outside 1 to 10 September (14)
+annual: accepted, another is under deletion
+annual: accepted, its deletion was refused with 13
 annual: a larger total was refused with 13
 annual: a larger total was in a refused batch
 annual: the amount is the total of a batch
 annual: September 2020
+delete: called
+delete: not called
+delete: 31 July (24)
+delete: 1 August
+delete: 31 August
+delete: 1 September
+delete: 30 September
+delete: 1 October (24)
+delete: elsewhere (24)
+delete: under deletion, in August or September (24)
+delete: under deletion, on the day of the deletion (24)
+delete: under deletion, outside August and September (24)
+delete: under deletion, in a later year (24)
+delete: participant above 63 (1)
+delete: participant not admitted (2)
+delete: under deletion, it would be a fifth open call (24)
+delete: outside August and September, it would be a fifth open call (24)
+delete: no month recorded
+delete: one month recorded
+delete: two months recorded
+delete: three months recorded
+delete: more than three months recorded
+delete: 13 months recorded
+delete: an older total is larger than those of the three latest months
+delete: a gap between the three latest months
+delete: P - 14 is among the three latest months
+delete: the amount is that of P - 14
+delete: the amount is that of P - 2
+delete: P - 14 counts, and a larger total in P - 15 doesn't
+delete: fewer than three months, and a larger total in P - 15
+delete: the three months that were settled last would give another amount
+delete: a larger total of one of the three latest months was replaced
+delete: a larger total was refused with 13
+delete: a larger total was in a refused batch
+delete: the amount is the total of a batch
+delete: months before the admission's
+delete: the totals of three months are below 0
+delete: the totals of one or two months are below 0
+delete: the totals of the three latest months are below 0, an older one above
+delete: amount 0 of a recorded month
+delete: amount 1, called
+delete: below the minimum
+delete: amount above 10^12
+delete: August or September 2020
+delete: September 2099
+delete: equal to the firm amount
+delete: one above the firm amount, called
+delete: equal to the largest open call
+delete: one above the largest open call, called
+delete: only the firm amount keeps from calling
+delete: only an open call keeps from calling
+delete: called, the cover is above it
+delete: called, the cover is that amount
+delete: called, less than 20% above the cover
+delete: called, the next amount is above it
+delete: called, the next amount is below it
+delete: not called, the cover is below it
+delete: called behind a call of the same day
+delete: the fourth open call
+delete: four calls open, not called
+delete: fifth open call refused (13)
+delete: fifth open call refused (13), in September
+delete: fifth open call refused (13), the cover is above it
+delete: accepted behind a refusal (13), called
+delete: accepted behind a refusal (13), not called
+delete: accepted behind a refusal (13) of the same day
+delete: in August, called
+delete: 20 September, called, a next amount is set
+delete: 21 September, called, a next amount is set
+delete: 30 September, called, a next amount is set
+delete: 30 September, called, no next amount is set
+delete: on the day of the annual run
+delete: in the first stretch
+delete: behind the first stretch, admitted in it
 batch: accepted, one part
 batch: accepted, 2 to 5 parts
 batch: accepted, 6 to 63 parts
@@ -253,6 +373,7 @@ batch: accepted, M = P - 2
 batch: accepted, M = P - 14
 batch: accepted, a call is made
 batch: accepted, several calls are made
+batch: accepted, one under deletion is called
 batch: accepted, a fourth open call
 batch: accepted, called and covered
 batch: accepted, covered
@@ -339,6 +460,8 @@ role 1 behind the first stretch: an annual run raised to the minimum
 role 1 behind the first stretch: an annual run above the minimum
 role 1 behind the first stretch: a next amount of before takes effect
 role 1 behind the first stretch: a next amount takes effect
+role 1 behind the first stretch: a deletion, below the minimum
+role 1 behind the first stretch: a deletion, above the minimum
 people: above 63 (1)
 people: not admitted (2)
 people: participant 63
@@ -371,6 +494,8 @@ def apply(book, kind, args):
         return book.statement(*args)
     if kind == 8:
         return book.batch(bytes(args[1:]))
+    if kind == 9:
+        return book.delete(*args)
     return book.calls_made()
 
 
@@ -391,7 +516,7 @@ def causes(book, kind, args):
     """Every cause of refusal that holds of a call, as far as it can be judged beside the others; the reference gives the first in order."""
     if kind == 8:
         return [number for number, _ in batch_causes(book, bytes(args[1:]))]
-    if kind == 9:
+    if kind == 10:
         return []
     if kind == 6:
         return [17] if args[0] > LAST_DAY or args[0] < book.today else []
@@ -421,7 +546,27 @@ def causes(book, kind, args):
         holds[13] = who is not None and len(who.open_calls(t)) > 3 and who.would_call(t, m, figures)
     if kind == 5:
         holds[14] = not (date(t).month == 9 and date(t).day <= 10)
+        holds[25] = who is not None and who.deletion() is not None
+    if kind == 9:
+        holds[24] = not 8 <= date(t).month <= 9 or (who is not None and who.deletion() is not None)
+        holds[13] = who is not None and len(who.open_calls(t)) > 3 and largest_latest(who, t) > max(who.open_calls(t) + [who.firm(t)])
     return [n for n in ORDER[NAMES[kind]] if holds.get(n)]
+
+
+def recorded(who, here):
+    """The recorded months among P - 15 and P - 2, with their totals; P - 15 is one too old."""
+    totals = {m: who.total(m) for m in range(max(here - 15, 0), max(here - 1, 0))}
+    return {m: e for m, e in totals.items() if e is not None}
+
+
+def latest_months(who, t):
+    """The three latest recorded months that a deletion looks at, or fewer."""
+    return sorted(m for m in recorded(who, month(t)) if m >= month(t) - 14)[-3:]
+
+
+def largest_latest(who, t):
+    """What a deletion would amount to on a day."""
+    return max(max((who.total(m) for m in latest_months(who, t)), default=0), 0)
 
 
 class File:
@@ -499,6 +644,8 @@ class Recorder:
         self.retired = set()                     # participants whose admission was refused with 23
         self.retired_days = set()                # the days on which role 1 was admitted
         self.early_runs = set()                  # participants whose last annual run was made in the first stretch
+        self.tried = {}                          # participants whose deletion was refused with 13, and the day of the last time
+        self.admitted_early = set()              # participants that were admitted in the first stretch
         self.kinds, self.refusals, self.pairs, self.corners = (collections.Counter() for _ in range(4))
         self.met_start()
 
@@ -526,7 +673,7 @@ class Recorder:
         self.bytes += len(line) + 1
         self.figures += args[2] if kind == 4 else 0
         self.batches += args[0] if kind == 8 else 0
-        self.spared = self.spared if kind in (7, 9) else []
+        self.spared = self.spared if kind in (7, 10) else []
         opened = answer[0] == 6 and answer[1] > 0
         self.met('stretch: its last call opens days', opened and place == self.first - 1)
         self.met('stretch: the first call behind it opens days', opened and place == self.first > 0)
@@ -556,7 +703,7 @@ class Recorder:
         self.calls = MOST_CALLS - 1
         for p in sorted(self.book.people):
             self.call(7, p)
-        self.call(9)
+        self.call(10)
 
     def met_stretch(self):
         """What the number of the first stretch's calls met, when all calls are made."""
@@ -570,6 +717,7 @@ class Recorder:
     def met_start(self):
         t = self.start
         d = date(t)
+        self.met('start: around 1 August', (d.month, d.day) in ((7, 30), (7, 31), (8, 1), (8, 2)))
         self.met('start: around 1 September', (d.month, d.day) in ((8, 30), (8, 31), (9, 1), (9, 2)))
         self.met('start: around 20 September', d.month == 9 and 18 <= d.day <= 22)
         self.met('start: around 1 October', (d.month, d.day) in ((9, 29), (9, 30), (10, 1), (10, 2)))
@@ -595,6 +743,8 @@ class Recorder:
         self.met('admit: on 1 October', d.month == 10 and d.day == 1)
         self.met('admit: last free day above 29,219', MINIMUM[role] > 0 and self.t + 10 > LAST_DAY)
         self.met('people: participant 63', p == 63)
+        if self.book.first_stretch:
+            self.admitted_early.add(p)
         return ok
 
     def met_retired(self, p, ok):
@@ -644,6 +794,8 @@ class Recorder:
         left = who.firm(t) - who.cover(t)
         self.met('lodge: ends a shortfall exactly', short > 0 and left == 0)
         self.met('lodge: leaves a shortfall of one cent', short > 1 and left == 1)
+        gone = self.deletion_call(who)
+        self.met("lodge: covers a deletion's open call exactly", gone and gone[1] >= t and who.firm(t) < gone[0] == who.cover(t))
         if letter:
             self.met("lodge: a letter's last day today", last == t)
             self.met("lodge: a letter's last day tomorrow", last == t + 1)
@@ -660,12 +812,19 @@ class Recorder:
         lodged = [args for _, kind, args in who.acts if kind == 'lodge' and args[0] == place]
         held, cover, floor = who.position(place, t), who.cover(t), who.release_floor(t)
         firm, coming, calls = who.firm(t), who.next_amount(t), who.open_calls(t)
+        gone = self.deletion_call(who)
+        gone = gone[0] if gone and gone[1] >= t else None
         ok = self.call(3, p, place, amount)
         ahead = held and held[0] == 'letter' and held[2] > t
         left = cover - (0 if ahead else amount)
         by = ('the firm amount' if firm == floor else 'an open call' if floor in calls else 'the next amount')
         alone = (firm, coming or 0, max(calls, default=0)).count(floor) == 1 and floor > 0
+        by_deletion = alone and floor == gone
         if ok[0] == 0:
+            self.met("release: one cent below the limit, set by a deletion's open call (16)", ok[1] == 16 and left == floor - 1 and by_deletion)
+            self.met("release: refused for a deletion's open call (16)", ok[1] == 16 and by_deletion and left >= max(firm, coming or 0))
+            self.met("release: refused for the firm amount, a deletion's open call is below it (16)",
+                     ok[1] == 16 and gone is not None and gone <= left < firm == floor and alone)
             self.met(f'release: one cent below the limit, set by {by} (16)', ok[1] == 16 and left == floor - 1 and alone)
             self.met('release: a letter that has not begun, cover too small (16)', ok[1] == 16 and ahead)
             self.met('role 1 behind the first stretch: a release refused for its minimum (16)',
@@ -679,6 +838,7 @@ class Recorder:
             self.met('release: amount 0 (8)', ok[1] == 8 and amount == 0)
             return ok
         self.met(f'release: leaves the limit exactly, set by {by}', left == floor and alone)
+        self.met("release: leaves the limit exactly, set by a deletion's open call", left == floor and by_deletion)
         self.met('release: limit 0', floor == 0)
         self.met('release: accepted, and D is below the floor', who.deposited(t) < floor)
         self.met('release: the sum of the open calls would have refused it', sum(calls) > left)
@@ -712,6 +872,7 @@ class Recorder:
             self.met('settle: figures out of range whose sum is in it (11)', ok[1] == 11 and abs(e) <= MOST)
             self.met('check: fifth open call refused (13)', ok[1] == 13)
             self.met('check: fifth open call refused (13), and the cover today is above E', ok[1] == 13 and cover > e)
+            self.met('check: under deletion, fifth open call refused (13)', ok[1] == 13 and who.deletion())
             if ok[1] == 13:
                 self.fifths.append((p, m, e))
             return ok
@@ -728,6 +889,7 @@ class Recorder:
         if m == month_now - 2 and is_september(month_now):
             self.met('settle: September, M = P - 2, recorded only')
             self.met('settle: September, M = P - 2, would have called', e > d and all(rules))
+            self.met('settle: under deletion, September, M = P - 2, would have called', e > d and all(rules) and who.deletion())
         if ok[0] == 4:
             self.met('check: four open, recorded only', len(calls) == 4)
             return ok
@@ -753,6 +915,8 @@ class Recorder:
         self.met('role 1 behind the first stretch: only its minimum keeps from calling',
                  self.kept_role(who) and not made and e > d and rules[0] and max(calls + [firm]) == MINIMUM[RETIRED])
         self.met_deposits(who, made, e, d, cover, later, letters)
+        if who.deletion():
+            self.met_under_deletion(who, made, e, d, firm, calls, rules)
         self.met('check: fourth open call made', made and len(calls) == 3)
         self.met('check: four open, covered', not made and len(calls) == 4)
         again = [day for day, kind, args in who.acts[:-1] if kind == 'settle' and args[2]]
@@ -783,6 +947,26 @@ class Recorder:
         self.met('check: on 29,208 a letter until 29,219 counts', t == 29208 and not made and last > 0 and would_call(d - last))
         self.met("check: from 29,209 on a letter until 29,219 doesn't count", t >= 29209 and made and not would_call(d + last))
         self.met('check: from 29,209 on cash covers', t >= 29209 and not made and 0 < e <= d)
+
+    def deletion_call(self, who):
+        """The call that a participant's deletion made, (amount, last free day), or None."""
+        gone = who.deletion()
+        return (gone[1], gone[0] + 10) if gone and gone[2] else None
+
+    def met_under_deletion(self, who, made, e, d, firm, calls, rules):
+        """What a check met of a participant under deletion; the firm amount and the open calls are those before it."""
+        t, gone = self.t, self.deletion_call(who)
+        self.met('check: under deletion, called', made)
+        self.met("check: under deletion, called on the day of the deletion's call", made and gone and gone[1] == t + 10)
+        self.met('check: under deletion, called in a later year', made and date(t).year > date(who.deletion()[0]).year)
+        self.met('check: under deletion, only the tolerance keeps from calling', e > d and rules == (False, True, True))
+        if date(t).month == 10 and gone and gone[1] >= t:
+            self.met("check: in October, only a deletion's open call keeps from calling",
+                     e > d and rules == (True, True, False) and [amount for amount in calls if amount >= e] == [gone[0]])
+            self.met("check: in October, only the firm amount keeps from calling, a deletion's open call is below it",
+                     e > d and rules == (True, False, True) and gone[0] < e)
+            self.met("check: in October, called above the firm amount and a deletion's open call, of which that is " +
+                     ('higher' if gone[0] > firm else 'not higher'), made)
 
     def released_letters(self, who):
         """The amounts of letters that were released while they were in force today, by whether they would have been deposited."""
@@ -831,6 +1015,7 @@ class Recorder:
         self.met('batch: accepted, M = P - 14', m == here - 14)
         self.met('batch: accepted, a call is made', any(calls))
         self.met('batch: accepted, several calls are made', sum(calls) > 1)
+        self.met('batch: accepted, one under deletion is called', any(made and who.deletion() for made, (_, _, who) in zip(calls, parts)))
         self.met('batch: accepted, a fourth open call', any(made and count == 3 for made, count in zip(calls, open_calls)))
         self.met('batch: accepted, called and covered', any(calls) and not all(calls))
         self.met('batch: accepted, covered', checked and not all(calls))
@@ -938,7 +1123,14 @@ class Recorder:
             if ok[1] == 14:
                 near = {(8, 31): '31 August', (9, 11): '11 September'}.get((d.month, d.day), 'elsewhere')
                 self.met(f'annual: {near} (14)')
+                self.met('annual: under deletion, outside 1 to 10 September (14)', who.deletion())
+            elif ok[1] == 25:
+                self.met('annual: under deletion (25)')
+                self.met('annual: under deletion, a next amount is set (25)', before is not None)
+                self.met('annual: under deletion in a later year (25)', date(who.deletion()[0]).year < d.year)
             return ok
+        self.met('annual: accepted, another is under deletion', any(other.deletion() for other in self.book.people.values()))
+        self.met('annual: accepted, its deletion was refused with 13', p in self.tried and date(self.tried[p]).year == d.year)
         amount, months, here = ok[1], ok[2], month(t)
         totals = {m: who.total(m) for m in range(max(here - 15, 0), here - 1)}
         totals = {m: e for m, e in totals.items() if e is not None}
@@ -968,6 +1160,111 @@ class Recorder:
                                                                           'raised to the minimum' if months else 'of no months'))
         (self.early_runs.add if self.book.first_stretch else self.early_runs.discard)(who)
         return ok
+
+    def delete(self, p):
+        t, who, d = self.t, self.book.people.get(p), date(self.t)
+        if not who:
+            ok = self.call(9, p)
+            self.met('delete: participant above 63 (1)', ok[1] == 1)
+            self.met('delete: participant not admitted (2)', ok[1] == 2)
+            return ok
+        before, firm, calls, cover, coming = who.deletion(), who.firm(t), who.open_calls(t), who.cover(t), who.next_amount(t)
+        amount, full, inside = largest_latest(who, t), len(calls) == 4, d.month in (8, 9)
+        rises = amount > max(calls + [firm])
+        ok = self.call(9, p)
+        if ok[:2] == (0, 24):
+            if before:
+                self.met('delete: under deletion, ' + ('in August or September' if inside else 'outside August and September') + ' (24)')
+                self.met('delete: under deletion, on the day of the deletion (24)', before[0] == t)
+                self.met('delete: under deletion, in a later year (24)', inside and date(before[0]).year < d.year)
+                self.met('delete: under deletion, it would be a fifth open call (24)', inside and full and rises)
+            else:
+                near = {(7, 31): '31 July', (10, 1): '1 October'}.get((d.month, d.day), 'elsewhere')
+                self.met(f'delete: {near} (24)')
+                self.met('delete: outside August and September, it would be a fifth open call (24)', full and rises)
+        elif ok[0] == 0:
+            self.met('delete: fifth open call refused (13)')
+            self.met('delete: fifth open call refused (13), in September', d.month == 9)
+            self.met('delete: fifth open call refused (13), the cover is above it', cover > amount)
+            self.tried[p] = t
+        else:
+            assert ok[1:3] == (amount, int(rises))
+            self.met_deletion(p, who, amount, rises, firm, calls, cover, coming)
+            self.met_latest(p, who, amount)
+        return ok
+
+    def met_deletion(self, p, who, amount, called, firm, calls, cover, coming):
+        """What an accepted deletion met: its day, whether it called, and what it was compared with or not."""
+        t, d = self.t, date(self.t)
+        day, top, least = (d.month, d.day), max(calls, default=0), MINIMUM[who.role]
+        self.met('delete: called' if called else 'delete: not called')
+        for at, said in (((8, 1), '1 August'), ((8, 31), '31 August'), ((9, 1), '1 September'), ((9, 30), '30 September')):
+            self.met(f'delete: {said}', day == at)
+        for dom in (20, 21, 30):
+            self.met(f'delete: {dom} September, called, a next amount is set', day == (9, dom) and called and coming is not None)
+        self.met('delete: 30 September, called, no next amount is set', day == (9, 30) and called and coming is None)
+        self.met('delete: in August, called', d.month == 8 and called)
+        self.met('delete: on the day of the annual run', t in [run for run, _ in who.runs()])
+        self.met('delete: August or September 2020', d.year == 2020)
+        self.met('delete: September 2099', (d.year, d.month) == (2099, 9))
+        self.met('delete: in the first stretch', self.book.first_stretch)
+        self.met('delete: behind the first stretch, admitted in it', p in self.admitted_early and not self.book.first_stretch)
+        self.met('role 1 behind the first stretch: a deletion, ' + ('below' if amount < least else 'above') + ' the minimum',
+                 self.kept_role(who) and amount != least)
+        self.met('delete: amount 1, called', amount == 1 and called)
+        self.met('delete: below the minimum', 0 < amount < least)
+        self.met('delete: amount above 10^12', amount > MOST)
+        self.met('delete: equal to the firm amount', amount == firm > 0)
+        self.met('delete: one above the firm amount, called', called and amount == firm + 1)
+        self.met('delete: equal to the largest open call', amount == top > 0)
+        self.met('delete: one above the largest open call, called', called and calls != [] and amount == top + 1)
+        self.met('delete: only the firm amount keeps from calling', top < amount <= firm)
+        self.met('delete: only an open call keeps from calling', firm < amount <= top)
+        self.met('delete: called, the cover is above it', called and cover > amount)
+        self.met('delete: called, the cover is that amount', called and cover == amount)
+        self.met('delete: called, less than 20% above the cover', called and cover < amount and 5 * amount < 6 * cover)
+        self.met('delete: called, the next amount is above it', called and (coming or 0) > amount)
+        self.met('delete: called, the next amount is below it', called and coming is not None and coming < amount)
+        self.met('delete: not called, the cover is below it', not called and cover < amount)
+        self.met('delete: called behind a call of the same day', called and t + 10 in [last for _, last in who.calls()[:-1]])
+        self.met('delete: the fourth open call', called and len(calls) == 3)
+        self.met('delete: four calls open, not called', not called and len(calls) == 4)
+        if p in self.tried:
+            self.met('delete: accepted behind a refusal (13), ' + ('called' if called else 'not called'))
+            self.met('delete: accepted behind a refusal (13) of the same day', self.tried[p] == t)
+
+    def met_latest(self, p, who, amount):
+        """What the months met that an accepted deletion looked at."""
+        here, latest = month(self.t), latest_months(who, self.t)
+        totals = recorded(who, here)
+        window = {m: e for m, e in totals.items() if m >= here - 14}
+        n, top = len(window), max((window[m] for m in latest), default=0)
+        self.met('delete: ' + ('no month' if n == 0 else 'one month' if n == 1 else 'two months' if n == 2 else 'three months' if n == 3 else
+                               'more than three months') + ' recorded')
+        self.met('delete: 13 months recorded', n == 13)
+        self.met('delete: an older total is larger than those of the three latest months', n > 3 and max(window.values()) > amount)
+        self.met('delete: a gap between the three latest months', len(latest) == 3 and latest[2] - latest[0] > 2)
+        self.met('delete: P - 14 is among the three latest months', here - 14 in latest)
+        for back in (14, 2):
+            self.met(f'delete: the amount is that of P - {back}',
+                     here - back in latest and [m for m in latest if totals[m] == amount] == [here - back] and amount > 0)
+        older = totals.get(here - 15, 0) > amount
+        self.met("delete: P - 14 counts, and a larger total in P - 15 doesn't", older and here - 14 in latest)
+        self.met('delete: fewer than three months, and a larger total in P - 15', older and n < 3)
+        settled = [args[0] for _, kind, args in who.acts if kind == 'settle' and args[0] in window][::-1]
+        last = sorted(window, key=lambda m: settled.index(m))[:3]
+        self.met('delete: the three months that were settled last would give another amount', n and max(0, *(window[m] for m in last)) != amount)
+        self.met('delete: a larger total of one of the three latest months was replaced',
+                 any(kind == 'settle' and args[0] in latest and sum(args[1]) > amount for _, kind, args in who.acts))
+        for said, refused in (('was refused with 13', self.fifths), ('was in a refused batch', self.undone)):
+            self.met(f'delete: a larger total {said}', any(
+                q == p and e > amount and here - 14 <= m <= here - 2 and m in sorted({*window, m})[-3:] for q, m, e in refused))
+        self.met('delete: the amount is the total of a batch', any(totals[m] == amount == self.batched.get((p, m)) for m in latest))
+        self.met("delete: months before the admission's", latest != [] and latest[0] < month(who.day))
+        self.met('delete: the totals of three months are below 0', len(latest) == 3 and top < 0)
+        self.met('delete: the totals of one or two months are below 0', n in (1, 2) and top < 0)
+        self.met('delete: the totals of the three latest months are below 0, an older one above', n > 3 and top < 0 < max(window.values()))
+        self.met('delete: amount 0 of a recorded month', n > 0 and top == 0)
 
     def advance(self, day, budget):
         t, people = self.t, self.book.people
@@ -1031,6 +1328,8 @@ class Recorder:
                 self.met('opening: a letter lapses and a shortfall arises', t < last < now and short[last] == 0 and short[last + 1] > 0)
                 self.met('opening: a letter begins', t < first <= now)
                 self.met('opening: a letter begins and a shortfall ends', t + 1 < first <= now and short[first] == 0 and short[first - 1] > 0)
+        if who.deletion():
+            self.met_left(who, t, coming, short, octobers)
         values = set(short.values())
         self.met('role 1 behind the first stretch: its minimum becomes firm', self.kept_role(who) and t <= who.day + 10 < now)
         self.met('role 1 behind the first stretch: a day is charged', self.kept_role(who) and max(values) > 0)
@@ -1043,6 +1342,44 @@ class Recorder:
         self.met('charge: covered to the cent', who.firm(now) > 0 and who.cover(now) == who.firm(now))
         self.met('charge: accrued above 2^53', who.accrued() > 2 ** 53)
 
+    def met_left(self, who, t, coming, short, octobers):
+        """What the opened days after t met, for a participant under deletion."""
+        now, (made, amount, _), gone = self.t, who.deletion(), self.deletion_call(who)
+        if octobers:
+            o = octobers[0]
+            self.met('opening: next amount of one under deletion takes effect', coming is not None)
+            self.met('opening: no next amount on 1 October, under deletion since August',
+                     coming is None and date(made).month == 8 and date(made).year == date(o).year and who.firm(o) > 0)
+            self.met('opening: a second 1 October under deletion', date(octobers[-1]).year > date(made).year)
+            if gone and gone[1] >= o:
+                self.met("opening: 1 October beside a deletion's open call, " +
+                         ('no next amount' if coming is None else 'the next amount is ' +
+                          ('higher' if coming > amount else 'the same' if coming == amount else 'lower')))
+            self.met("opening: a deletion's call of 20 September is above the next amount, and gone with it",
+                     gone and gone[1] == o - 1 and coming is not None and coming < amount)
+        if not gone or now <= gone[1]:
+            return
+        ends = gone[1] + 1
+        day = date(ends)
+        others = [call for call in who.calls() if call != gone]
+        # Of a day that was charged the cover is the firm amount less the shortfall.
+        self.met("charge: a day for a deletion's call alone", any(
+            0 < short.get(at, 0) and firm_on(at, who.periods(), others) <= who.firm(at) - short[at] for at in (max(t + 1, ends), now)))
+        if t >= ends:
+            return
+        self.met("opening: a deletion's call ends before 1 October", day.month < 10)
+        self.met("opening: a deletion's call and 1 October in one advance", octobers and octobers[0] < ends)
+        index = next(i for i, (_, kind, _) in enumerate(who.acts) if kind == 'delete')
+        self.met("opening: a deletion's call ends, covered by what was lodged since",
+                 who.firm(ends) == amount and short[ends] == 0 and who.cover(ends, who.acts[:index]) < amount)
+        if day.month == 10 and day.day > 1:
+            took = day_number(day.year, 10, 1) in [r for r, _ in who.periods()]
+            self.met("opening: a deletion's call ends on 2 October, with a next amount in effect", took and day.day == 2)
+            self.met("opening: a deletion's call ends on 11 October, with a next amount in effect", took and day.day == 11)
+            was = who.firm(gone[1])
+            self.met("opening: a deletion's call ends on 2 to 11 October, the firm amount is " +
+                     ('higher' if was > amount else 'the same' if was == amount else 'lower'))
+
     def statement(self, p):
         self.met("batch: refused, then a statement of an earlier part's participant", p in self.spared)
         ok = self.call(7, p)
@@ -1050,7 +1387,7 @@ class Recorder:
         return ok
 
     def count(self):
-        return self.call(9)
+        return self.call(10)
 
 
 class Maker(Recorder):
@@ -1060,7 +1397,7 @@ class Maker(Recorder):
         self.rng, self.theme = rng, theme
         self.aimed = 6 < first < ALL and rng.random() < 0.5     # whether the first stretch ends by a scene
         self.names = names                       # the participants to admit
-        self.days = MOST_DAYS if len(names) <= 5 else 300 if len(names) <= 20 else 150
+        self.days = MOST_DAYS if len(names) <= 5 or theme == 'leaving' else 300 if len(names) <= 20 else 150
         self.everyone = False                    # whether a batch for all 64 was entered
         self.scale = {p: rng.choice((1, 1, 10, 100, 1000, 10 ** 4, 10 ** 5, 10 ** 6, 10 ** 6, 2 * 10 ** 7, 10 ** 8, 10 ** 8, 10 ** 9, 10 ** 11))
                       for p in range(64)}
@@ -1600,6 +1937,223 @@ class Maker(Recorder):
                     self.scene_admit()
         return None
 
+    # -- leaving participants --------------------------------------------------------------------------------------------------------------
+
+    def stayers(self, most=1):
+        """Admitted participants that aren't under deletion, at most so many; somebody new where there is none."""
+        staying = [p for p, who in self.book.people.items() if not who.deletion()]
+        if not staying or (len(staying) == 1 and self.likely(0.3)):
+            self.scene_admit()
+            staying = [p for p, who in self.book.people.items() if not who.deletion()]
+        return self.rng.sample(sorted(staying), min(most, len(staying))) or [self.who()[0]]
+
+    def reach(self, *days):
+        """Goes to one of the days that lie ahead and not too far; whether it could."""
+        near = [day for day in days if self.t < day <= LAST_DAY and day - self.t <= self.days * 2 // 3]
+        if near:
+            self.go(self.rng.choice(near))
+        return near != []
+
+    def autumn(self):
+        """The year of the next August or September that isn't over."""
+        d = date(self.t)
+        return d.year if d.month < 10 else min(d.year + 1, 2099)
+
+    def record_latest(self, p):
+        """Totals of months that a deletion looks at, or nearly: few or many, at the window's ends, in any order, now and then all below 0."""
+        here, who = month(self.t), self.book.people[p]
+        window = list(range(max(here - 14, 0), here - 1))
+        some = self.among([], window[:1], window[:2], window[:3], window[-1:], window[-3:], window[-4:], window[-5:], [window[-1], window[0]], window,
+                          self.rng.sample(window, 3), self.rng.sample(window, 5))
+        low, high = self.among((1, 9), (1, 9), (0, 3), (-9, 9), (-9, -1), (-9, -1))
+        latest = sorted({*some, *(m for m in window if who.total(m) is not None)})[-3:]
+        for m in self.rng.sample(some, len(some)):
+            e = self.scale[p] * self.rng.randint(low, high) + self.among(0, 0, 1)
+            self.settle(p, m, self.figures_of(self.scale[p] * 12 if m not in latest and self.likely(0.5) else e))
+
+    def aim_deletion(self, p, aim):
+        """Totals by which a deletion amounts to this: larger ones of the latest months are replaced, and one of the latest gets it."""
+        who, here = self.book.people[p], month(self.t)
+        for m in latest_months(who, self.t):
+            if who.total(m) > aim:
+                self.settle(p, m, self.figures_of(aim - self.among(0, 1, self.amount(p))))
+        latest = latest_months(who, self.t)
+        if len(latest) < 3:
+            latest = [m for m in range(max(here - 14, 0), here - 1) if who.total(m) is None]
+        if not is_september(here) and len(latest) > 1:
+            latest = [m for m in latest if m != here - 2]       # which would be checked
+        self.settle(p, self.rng.choice(latest), self.figures_of(min(aim, 16 * MOST)))
+
+    def aims(self, p):
+        """Amounts of a deletion at what it is compared with, and at what it isn't."""
+        who, t = self.book.people[p], self.t
+        firm, calls, cover, coming = who.firm(t), who.open_calls(t), who.cover(t), who.next_amount(t)
+        top = max(calls + [firm])
+        some = [firm, firm + 1, firm + 1, top, top + 1, top + 1, top + self.amount(p), self.amount(p), self.amount(p), 0, -1, cover, cover + 1,
+                cover - 1, max(top, cover) + 1, (top + cover) // 2, MINIMUM[who.role] - 1, 1]
+        if coming is not None:
+            some += [coming, coming, coming + 1, coming - 1, (firm + coming) // 2, (top + coming) // 2, coming + self.amount(p)] * 2
+        return some
+
+    def scene_delete(self):
+        """A deletion in August or September or around them, of whatever months are recorded."""
+        year, near = self.autumn(), self.theme == 'leaving'
+        if not in_deletion_days(self.t) and self.likely(0.1 if near else 0.4):
+            self.delete(self.anyone(0.1))
+        if not near and day_number(year, 8, 1) - self.t > 60 and self.likely(0.7):
+            return None
+        days = [day_number(year, *day) for day in ((7, 31), (8, 1), (8, 1), (8, 31), (8, 31), (9, 1), (9, 11), (9, 19), (9, 30), (10, 1))]
+        days += [day_number(year, 8, self.rng.randint(1, 31)), day_number(year, 9, self.rng.randint(1, 30))]
+        if not in_deletion_days(self.t) or self.likely(0.5):
+            self.reach(*days[:self.among(2, 5, len(days))])
+        p, = self.stayers()
+        if not in_deletion_days(self.t):
+            return self.delete(p) if self.likely(0.3) else None
+        if self.likely(0.25):
+            p = min(self.stayers(64), key=lambda q: len(recorded(self.book.people[q], month(self.t))))
+            if self.turn_to_september(p):
+                return self.delete(p)
+        if self.likely(0.45):
+            self.record_latest(p)
+        if self.likely(0.35):
+            self.pay(p, self.among(0, 1, self.amount(p)))
+        if self.likely(0.5):
+            self.aim_deletion(p, self.rng.choice(self.aims(p)))
+        self.delete(p)
+        return self.after_deletion(p)
+
+    def turn_to_september(self, p):
+        """In August large totals of the months at the window's old end, and then September, in which the oldest is out of it; whether it is."""
+        here = month(self.t)
+        for m in self.rng.sample(range(max(here - 14, 0), max(here - 14, 0) + 2), 2):
+            self.settle(p, m, self.figures_of(self.scale[p] * self.among(3, 7, 12)))
+        if is_september(here):
+            return False
+        return self.reach(*[day_number(date(self.t).year, 9, dom) for dom in (1, 1, 2, 30)])
+
+    def after_deletion(self, p):
+        """A second deletion, an annual run, and the days on which the call of the first ends."""
+        if self.likely(0.2):
+            self.delete(p)
+        if self.likely(0.3):
+            self.annual(p)
+        if self.likely(0.15):
+            self.count()
+        if self.likely(0.15):
+            self.statement(p)
+        if self.likely(0.3):
+            self.scene_limit(p)
+        if self.likely(0.2):
+            who = self.book.people[p]
+            self.settle(p, self.check_month(), self.figures_of(min(max(who.release_floor(self.t), 2 * who.cover(self.t)) + 1, 16 * MOST)))
+        if self.likely(0.5):
+            self.follow([p])
+
+    def follow(self, names):
+        """The days of the calls of deletions and 1 October, one by one or at once, with settlements, releases and payments between them."""
+        gone = {p: self.book.people[p].deletion() for p in names if self.book.people[p].deletion()}
+        if not gone:
+            return
+        made = [day for day, _, _ in gone.values()]
+        october = day_number(date(made[0]).year, 10, 1)
+        for day in sorted({october - 1, october, october + self.rng.randint(0, 9), *(day + n for day in made for n in (10, 11, 12))}):
+            if day > self.t and self.likely(0.65) and self.reach(day):
+                for p in gone:
+                    self.beside(p)
+        for p in gone:
+            if self.likely(0.7):
+                self.statement(p)
+
+    def beside(self, p):
+        """What a participant under deletion does on a day: totals around the firm amount and the open calls, releases at the limit, payments."""
+        who, t = self.book.people[p], self.t
+        firm, calls = who.firm(t), who.open_calls(t)
+        if self.likely(0.3):
+            self.statement(p)
+        if date(t).month == 10:
+            some = [firm, firm + 1, max(calls + [firm]) + 1] + calls + [amount + 1 for amount in calls] + [(firm + amount) // 2 for amount in calls]
+            for e in self.rng.sample(some, self.among(1, 1, 2, 3)):
+                self.settle(p, self.check_month(), self.figures_of(e))
+        if self.likely(0.3):
+            self.scene_limit(p)
+        elif min(calls, default=firm + 1) <= firm and self.likely(0.6):
+            self.pay(p, self.among(0, 1, self.amount(p)), 1)
+        for _ in range(self.among(0, 0, 1, 2)):
+            if self.place(who, True) is not None:
+                self.release_at(p, self.place(who, True))
+        if self.likely(0.2):
+            self.pay(p, self.among(0, 0, -1, 1), 0.8)
+        if self.likely(0.1):
+            self.among(self.delete, self.annual)(p)
+
+    def scene_outlive(self):
+        """Deletions behind annual runs, whose calls outlive 1 October or just don't."""
+        if not in_annual_days(self.t):
+            year = date(self.t).year + ((date(self.t).month, date(self.t).day) > (9, 10))
+            if year > 2099 or (self.theme != 'leaving' and day_number(year, 9, 1) - self.t > 60 and self.likely(0.7)) \
+                    or not self.reach(*[day_number(year, 9, dom) for dom in (1, 3, 7, 10)]):
+                return self.scene_delete()
+        year, names = date(self.t).year, self.stayers(self.among(1, 1, 2, 3))
+        for p in names:
+            self.record(p, self.among(0, 1, 2, 3, 5))
+            if self.likely(0.9):
+                self.annual(p)
+            if self.likely(0.2):
+                self.pay(p, self.among(0, 1, self.amount(p)), 1)
+        days = [day_number(year, 9, self.among(11, 19, 20, 20, 20, 21, 21, 21, 22, 25, 29, 30, 30, 30)) for _ in names]
+        for p, day in zip(names, sorted(days)):
+            if day > self.t and self.likely(0.85):
+                self.reach(day)
+            if self.likely(0.15):
+                self.record_latest(p)
+            self.aim_deletion(p, self.rng.choice(self.aims(p)))
+            if self.likely(0.15):
+                self.annual(p)
+            self.delete(p)
+        if self.likely(0.85):
+            return self.follow(names)
+        return self.after_deletion(names[0])
+
+    def scene_fifth(self):
+        """Four open calls in August, and a deletion then or in the first days of September that would be a fifth; and again, changed or later."""
+        year = self.autumn()
+        if date(self.t).month != 8:
+            days = [day_number(year, 8, dom) for dom in (1, 15, 22, 25, 28, 30, 31, 31, 31)] + [day_number(year, 7, 31)] * self.likely(0.15)
+            if (self.theme != 'leaving' and days[0] - self.t > 60 and self.likely(0.7)) or not self.reach(*days):
+                return self.scene_delete()
+        p, = self.stayers()
+        who = self.book.people[p]
+        if self.likely(0.3):
+            self.pay(p, self.amount(p))
+        for _ in range(self.among(1, 2, 3, 3, 4, 4, 4, 4)):
+            top = max(who.open_calls(self.t) + [who.firm(self.t), -(-6 * who.deposited(self.t) // 5) - 1])
+            if len(who.open_calls(self.t)) < 4:
+                self.settle(p, self.check_month(), self.figures_of(min(top + (1 if self.likely(0.5) else self.amount(p)), 16 * MOST)))
+        if not who.open_calls(self.t):
+            return self.scene_delete()
+        if self.likely(0.6) and date(self.t).month == 8:
+            last = min(last for _, last in who.calls() if last >= self.t)
+            self.reach(*range(day_number(year, 9, 1), last + 1))
+        if self.likely(0.25):
+            self.pay(p, self.amount(p), 1)
+        if self.likely(0.2):
+            self.delete(p)                                      # of the called month: not above its call
+        for _ in range(2):
+            if not who.deletion():
+                top = max(who.open_calls(self.t) + [who.firm(self.t)])
+                self.aim_deletion(p, top + self.among(0, 1, 1, 1, self.amount(p), -1))
+                self.delete(p)
+                if self.likely(0.3):
+                    self.statement(p)
+                if in_annual_days(self.t) and self.likely(0.5):
+                    self.annual(p)
+                if self.likely(0.5):
+                    self.reach(*[last + 1 for _, last in who.calls() if last >= self.t])
+        if len(who.open_calls(self.t)) == 4 and self.likely(0.5):
+            self.aim_deletion(p, max(who.open_calls(self.t)) + 1)
+            self.delete(p)
+        return self.after_deletion(p)
+
     def go(self, day):
         """Advances to a day; by a budget that allows it, or by one that stops there."""
         n = day - self.t
@@ -1619,7 +2173,7 @@ class Maker(Recorder):
                 if held and held[0] == 'letter':
                     days += [held[2] - 1, held[2], held[3], held[3] + 1, held[3] + 2]
         for year in (d.year, d.year + 1):
-            for mon, dom in ((8, 31), (9, 1), (9, 10), (9, 11), (9, 20), (9, 21), (9, 30), (10, 1), (10, 2)):
+            for mon, dom in ((7, 31), (8, 1), (8, 31), (9, 1), (9, 10), (9, 11), (9, 20), (9, 21), (9, 30), (10, 1), (10, 2)):
                 days.append(day_number(year, mon, dom))
         days += [LAST_DAY - 11, LAST_DAY - 10, LAST_DAY - 9, LAST_DAY - 1, LAST_DAY]
         return [day for day in days if t < day <= min(LAST_DAY, t + max(self.days // 3, 1))]
@@ -1658,12 +2212,12 @@ class Maker(Recorder):
         bad = self.likely
         p, who = self.who()
         q = self.stranger() if bad(0.25) else p
-        kind = self.among('lodge', 'lodge', 'release', 'release', 'settle', 'admit', 'annual', 'statement')
+        kind = self.among('lodge', 'lodge', 'release', 'release', 'settle', 'admit', 'annual', 'statement', 'delete')
         at = self.wrong_place() if bad(0.3) else self.rng.randrange(8)
         amount = self.wrong_amount() if bad(0.5) else self.amount(p)
         if kind == 'lodge':
             chosen = self.place(who, bad(0.4))
-            at = chosen if chosen is not None and bad(0.7) else at
+            at = chosen if chosen is not None and bad(0.7 if q == p else 0.3) else at
             if bad(0.7):
                 self.lodge(q, at, amount, *(self.wrong_letter() if bad(0.7) else self.letter()))
             else:
@@ -1684,6 +2238,8 @@ class Maker(Recorder):
             self.scene_wrong_admit()
         elif kind == 'annual':
             self.annual(q)
+        elif kind == 'delete':
+            self.delete(self.stranger() if bad(0.5) else q)
         else:
             self.statement(self.stranger())
         if bad(0.2):
@@ -1885,17 +2441,18 @@ class Maker(Recorder):
             self.statement(self.anyone(0.03))
 
     SCENES = ('admit', 'pay', 'lodge', 'letter', 'release', 'limit', 'check', 'even', 'rise', 'late', 'months', 'wrong_settle', 'turn', 'annual',
-              'summer', 'october', 'advance', 'wrong', 'ask', 'batch', 'lapse', 'retired')
+              'summer', 'october', 'advance', 'wrong', 'ask', 'batch', 'lapse', 'retired', 'delete', 'outlive', 'fifth')
     WEIGHTS = {
-        'mixed': (2, 5, 4, 3, 5, 4, 7, 4, 3, 5, 4, 2, 2, 3, 1, 2, 9, 6, 6, 8, 4, 2),
-        'annual': (2, 4, 3, 2, 4, 4, 4, 2, 1, 3, 3, 1, 1, 12, 4, 5, 6, 3, 4, 8, 2, 1),
-        'autumn': (3, 4, 3, 3, 4, 4, 5, 3, 2, 4, 3, 1, 3, 3, 1, 9, 9, 3, 5, 6, 2, 2),
-        'checks': (2, 5, 2, 1, 3, 2, 10, 7, 7, 7, 4, 3, 3, 1, 2, 1, 6, 3, 4, 8, 7, 1),
-        'guarantees': (2, 5, 8, 8, 9, 9, 2, 1, 1, 3, 1, 1, 1, 2, 1, 2, 7, 4, 5, 5, 5, 1),
-        'refusals': (2, 3, 3, 2, 4, 2, 3, 1, 3, 2, 5, 6, 1, 2, 1, 1, 6, 18, 5, 10, 2, 5),
-        'crowd': (26, 4, 3, 1, 3, 3, 5, 2, 2, 2, 3, 1, 1, 4, 1, 2, 6, 4, 6, 9, 3, 3),
-        'end': (4, 5, 5, 3, 5, 4, 7, 4, 5, 3, 3, 2, 1, 2, 1, 1, 6, 4, 5, 7, 7, 2),
-        'begin': (3, 5, 4, 3, 5, 3, 5, 3, 2, 4, 5, 2, 5, 4, 2, 3, 9, 4, 5, 7, 3, 2),
+        'mixed': (2, 5, 4, 3, 5, 4, 7, 4, 3, 5, 4, 2, 2, 3, 1, 2, 9, 6, 6, 8, 4, 2, 1, 1, 1),
+        'annual': (2, 4, 3, 2, 4, 4, 4, 2, 1, 3, 3, 1, 1, 12, 4, 5, 6, 3, 4, 8, 2, 1, 1, 1, 0),
+        'autumn': (3, 4, 3, 3, 4, 4, 5, 3, 2, 4, 3, 1, 3, 3, 1, 9, 9, 3, 5, 6, 2, 2, 2, 4, 1),
+        'checks': (2, 5, 2, 1, 3, 2, 10, 7, 7, 7, 4, 3, 3, 1, 2, 1, 6, 3, 4, 8, 7, 1, 1, 0, 1),
+        'guarantees': (2, 5, 8, 8, 9, 9, 2, 1, 1, 3, 1, 1, 1, 2, 1, 2, 7, 4, 5, 5, 5, 1, 1, 1, 0),
+        'refusals': (2, 3, 3, 2, 4, 2, 3, 1, 3, 2, 5, 6, 1, 2, 1, 1, 6, 18, 5, 10, 2, 5, 2, 0, 1),
+        'crowd': (26, 4, 3, 1, 3, 3, 5, 2, 2, 2, 3, 1, 1, 4, 1, 2, 6, 4, 6, 9, 3, 3, 1, 2, 1),
+        'end': (4, 5, 5, 3, 5, 4, 7, 4, 5, 3, 3, 2, 1, 2, 1, 1, 6, 4, 5, 7, 10, 2, 1, 1, 0),
+        'begin': (3, 5, 4, 3, 5, 3, 5, 3, 2, 4, 5, 2, 5, 4, 2, 3, 9, 4, 5, 7, 3, 2, 2, 2, 1),
+        'leaving': (9, 3, 2, 1, 3, 3, 3, 1, 1, 3, 3, 1, 1, 4, 1, 3, 5, 3, 4, 5, 1, 2, 9, 18, 14),
     }
 
     def make(self):
@@ -1931,6 +2488,11 @@ def start_of(theme, rng):
         return rng.choice((autumn[0], autumn[0], day_number(year, 7, 1) + rng.randint(0, 60), day_number(year, 8, 31)))
     if theme == 'autumn':
         return rng.choice(autumn)
+    if theme == 'leaving':
+        year = rng.choice((year, year, year, year, 2020, 2099))
+        august, september = day_number(year, 8, 1), day_number(year, 9, 1)
+        return rng.choice((august + rng.randint(-2, 1), august + rng.randint(0, 30), august + rng.randint(19, 30), september + rng.randint(0, 9),
+                           september + rng.randint(17, 29)))
     first = day_number(rng.randint(2021, 2098), rng.randint(1, 12), 1)
     leap = day_number(4 * rng.randint(505, 524), 3, 1)
     return rng.choice((first + rng.randint(-3, 1), first + rng.randint(0, 27), leap - rng.randint(0, 3), rng.choice(autumn)))
@@ -1944,8 +2506,9 @@ def stretch_of(calls, rng):
 def make(seed, i):
     """History number i of a seed; it depends on no other."""
     rng = random.Random(f'paper 01 history {seed} {i}')
-    theme = ('mixed', 'annual', 'checks', 'guarantees', 'autumn', 'end', 'mixed', 'refusals', 'annual', 'begin', 'checks', 'crowd')[i % 12]
-    many = rng.choice((8, 20, 64)) if theme == 'crowd' else rng.choice((1, 1, 2, 2, 3, 3, 4, 5))
+    theme = ('mixed', 'annual', 'checks', 'guarantees', 'autumn', 'end', 'mixed', 'refusals', 'annual', 'begin', 'checks', 'crowd', 'leaving',
+             'leaving', 'leaving')[i % 15]
+    many = rng.choice((8, 20, 64) if theme == 'crowd' else (5, 8, 10, 12, 16) if theme == 'leaving' else (1, 1, 2, 2, 3, 3, 4, 5))
     names = rng.sample(range(64), many)
     if many < 64 and rng.random() < 0.3:
         names[0] = 63 if 0 in names else 0 if 63 in names else rng.choice((0, 63))
@@ -1988,7 +2551,7 @@ def main():
           f'{time.time() - began:.0f} s')
     print(f'largest: {largest} bytes, {most_calls} calls, {most_figures} figures, {most_batch} bytes of batches, {most_days} days opened')
     print('answers: ' + ', '.join(f'{name} {kinds[kind]}' for kind, name in ANSWERS.items()))
-    numbers = [*range(1, 18), 20, 21, 22, 23]
+    numbers = [*range(1, 18), 20, 21, 22, 23, 24, 25]
     print('refusals: ' + ', '.join(f'{n}: {refusals[n]}' for n in numbers))
     print('first cause + another that held: ' + ', '.join(f'{name} {a}+{b}: {pairs[name, a, b]}' for name, a, b in sorted(pairs)))
     print('corners:')
@@ -1996,8 +2559,12 @@ def main():
         print(f'  {corners[corner]:6} {corner}')
     unknown = set(corners) - set(CORNERS)
     assert not unknown, unknown
-    missing = [corner for corner in CORNERS if not corners[corner]] + [n for n in numbers if not refusals[n]]
-    print(f'{len(CORNERS)} corners, {len(missing)} not met')
+    missing = [corner for corner in CORNERS if not corners[corner]] + [f'refusal {n}' for n in numbers if not refusals[n]]
+    together = [(name, a, b) for name, order in ORDER.items() for a, b in itertools.combinations(order, 2) if (a, b) not in APART.get(name, ())]
+    missing += [f'{name} {a} and {b} at once' for name, a, b in together if not pairs[name, a, b]]
+    print(f'{len(CORNERS)} corners, {len(numbers)} refusals and {len(together)} pairs of causes, {len(missing)} not met')
+    for what in missing:
+        print(f'not met: {what}')
 
 
 if __name__ == '__main__':

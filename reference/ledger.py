@@ -127,7 +127,7 @@ def file(word):
 # The arguments of the calls that have a fixed number of words; a lodging's go on after `cash` or `letter`. A batch's word may be missing.
 ARGUMENTS = {'fresh': (day,), 'admit': (natural, role), 'lodge': (natural, natural, kind), 'release': (natural, natural, natural),
              'settle': (natural, month), 'annual': (natural,), 'advance': (day, natural), 'statement': (natural,), 'calls': (), 'special': (),
-             'report': (), 'batch': (), 'role-retired': ()}
+             'report': (), 'batch': (), 'role-retired': (), 'delete': (natural,)}
 LODGED = {'cash': (natural,), 'letter': (natural, day, day)}
 
 
@@ -268,7 +268,7 @@ class Ledger:
             return self.report()
         found, *numbers = getattr(book, 'calls_made' if name == 'calls' else name)(*args)
         word, count = (('refused', 1), ('done', 0), ('called', 3), ('covered', 1), ('recorded', 1), ('annual', 2), ('opened', 1),
-                       ('statement', 5), ('calls', 1), ('batch', 1), ('refused', 2))[found]
+                       ('statement', 5), ('calls', 1), ('batch', 1), ('refused', 2), ('deletion', 2))[found]
         return ' '.join([word] + [str(number) for number in numbers[:count]])
 
     def report(self):

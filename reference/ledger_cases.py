@@ -14,6 +14,12 @@ Programs that would treat a first stretch (paper 02, ask 3) wrongly, and the cas
 - who types behind a journal without the line `role-retired` is under the old rule: `retired role that is typed`;
 - the line is appended when the journal is opened: `old journal that is only asked`; on its own: `order of the first addition`; in each run: `old
   journal with the retired role`.
+
+Programs that would treat a deletion (paper 02, ask 4) wrongly, and the cases that catch each:
+- an accepted one is not kept, or a refused one is: `kept deletions`; it is answered though it could not be kept: `failing deletion`;
+- the status or the call is lost with the next start: `kept deletions`, `journal with deletions`, `deletion killed`;
+- a deletion that was refused with 13 leaves the status: `deletion that is refused at first`;
+- it is taken for a question: `deletion and read`, `order of a deletion`.
 """
 import contextlib
 import fcntl
@@ -135,12 +141,23 @@ batch 0b0001000c0000002a0000000105ff00000000000000000000000000000000000000000000
 batch 0a0001000C0000002A0000000105fF000000000000000000000000000000000000000000000000000000000000000000000000000000
 batch 0b000
 special 0 0 0 0 0 0 0
+delete 0
 advance 2021-02-12 100
 annual 0
 statement 0
 statement 1
 calls
 report
+advance 2021-09-01 1000
+delete 64
+delete
+settle 0 2021-07 2600000 0 0 0 0
+delete 00
+delete 0
+annual 0
+delete 1 # its minimum is above it
+statement 0
+calls
 '''
 
 
@@ -186,6 +203,45 @@ admit 9 1
 advance 2021-10-01 100
 statement 0
 statement 1
+calls
+report
+'''
+
+
+# A book on 31 August 2021, month 19, whose participant 1 has four open calls, and a total of May above them. And what may follow.
+LEAVING_BOOK = joined([b'role-retired', b'fresh 2021-08-31', b'admit 0 supplier', b'admit 1 producer', b'admit 2 producer', b'lodge 0 0 cash 2000000',
+                       b'settle 0 2021-05 2500000 0 0 0 0', b'settle 2 2021-05 700 0 0 0 0'] +
+                      [b'settle 1 2021-06 %d 0 0 0 0' % n for n in (100, 200, 300, 400)] + [b'settle 1 2021-05 401 0 0 0 0'])
+LEAVING = b'''delete 1
+delete 2
+delete 2
+annual 2
+advance 2021-09-01 1
+delete 1
+annual 0
+annual 1
+annual 2
+delete 9
+delete 64
+delete 0 0
+advance 2021-09-11 100
+delete 01
+settle 0 2021-07 2600000 0 0 0 0
+advance 2021-09-21 100
+delete\t000 \r# outlives 1 October
+annual 0
+calls
+report
+advance 2021-10-02 100
+delete 2
+statement 0
+statement 1
+statement 2
+settle 0 2021-08 2600001 0 0 0 0
+settle 2 2021-08 701 0 0 0 0
+advance 2022-09-01 1000
+annual 0
+delete 1
 calls
 report
 '''
@@ -1791,6 +1847,181 @@ def load_behind_a_first_stretch(place):
     for data in (month_file(11, (0, [5] * 5), (9, [1] * 5)),) + BAD_FILES[1:]:
         loads(place, data, OLD_BOOK)
         same('the journal of a refused one', place.got(), OLD_BOOK)
+
+
+# ---- leaving participants (paper 02, ask 4)
+
+@case
+def kept_deletions(place):
+    """Accepted deletions are kept as `delete` and the number, refused ones and lines that are no call are not; the next start has the status, the
+    calls and what follows from them, wherever the first run ended."""
+    for words in ((), ('--batch',)):
+        keeps(place, LEAVING, *words, journal=LEAVING_BOOK)
+        kept = place.got()[len(LEAVING_BOOK):].split(b'\n')
+        same('the deletions in the journal', [line for line in kept if b'delete' in line], [b'delete 2', b'delete 1', b'delete 0'])
+        lines = LEAVING.split(b'\n')[:-1]
+        for n in range(1, len(lines)):
+            place.put(LEAVING_BOOK)
+            for part in (lines[:n], lines[n:]):
+                keeps(place, joined(part), *words, journal=place.got())
+            same(f'the deletions of two runs, {n} lines in the first', [line for line in place.got().split(b'\n') if b'delete' in line],
+                 [b'delete 2', b'delete 1', b'delete 0'])
+    same('the answers of the filter', place.run(data=LEAVING_BOOK + LEAVING), (filtered(LEAVING_BOOK + LEAVING), b''))
+
+
+@case
+def deletions_by_hand(place):
+    """Answers worked out by hand: 700 called on 31 August and firm from 11 September on; a fifth call refused until 10 September; 2,600,000 called on
+    21 September, which outlives the next amount of 2,500,000."""
+    place.put(LEAVING_BOOK)
+    out, said = place.keep(LEAVING)
+    same('on standard error', said, b'')
+    answers = [line for line in out.decode().split('\n') if not line.startswith(('report', 'participant', ' '))]
+    same('the answers', answers, [
+        'refused 13', 'deletion 700 1', 'refused 24', 'refused 14', 'opened 1', 'refused 13', 'annual 2500000 1', 'annual 401 2', 'refused 25',
+        'refused 2', 'refused 1', 'error 12 too many words', 'opened 10', 'deletion 401 1', 'recorded 2600000', 'opened 10', 'deletion 2600000 1',
+        'refused 14', 'calls 8', 'opened 11', 'refused 24', 'statement 2600000 2000000 600000 2 200000000', 'statement 401 0 401 22 2200000000',
+        'statement 700 0 700 22 2200000000', 'called 2600001 600001 650', 'called 701 701 650', 'opened 334', 'refused 25', 'refused 24', 'calls 10',
+        ''])
+
+
+@case
+def deletion_that_is_refused_at_first(place):
+    """A deletion that is refused with 13 is not kept and leaves no status: in that run or the next an annual run is made, and it is tried again."""
+    for more in (b'annual 1\n', b'', b'settle 1 2021-05 399 0 0 0 0\n'):
+        for words in ((), ('--batch',)):
+            keeps(place, b'delete 1\nadvance 2021-09-01 1\ndelete 1\n', *words, journal=LEAVING_BOOK)
+            holds('a refused one is kept', b'delete' not in place.got(), place.got())
+            keeps(place, more + b'delete 1\nadvance 2021-09-11 100\ndelete 1\ndelete 1\nannual 1\ncalls\n', *words, journal=place.got())
+            same('how often it is there', place.got().count(b'delete 1\n'), 1)
+            keeps(place, b'delete 1\nadvance 2022-09-01 1000\nannual 1\nreport\n', journal=place.got())
+
+
+@case
+def journal_with_deletions(place):
+    """A journal with deletions is replayed, written in any way, with or without `role-retired` before them, and is gone on with or read."""
+    start = b'fresh 2021-08-31\nadmit 0 3\nadmit 3 1\nsettle 0 2021-05 700 0 0 0 0\n'
+    for line in (b'delete 0\n', b'\tdelete  000\t# leaves\r\n', b'delete 0#\n\n', b'# it leaves\ndelete 00000000000000000000000000000\n'):
+        for journal in (start + line, start + b'role-retired\n' + line, start + line + b'role-retired\n', ledger.MARK + start + line,
+                        start + line + b'delete 3\nadvance 618 99\nadvance 630 99\n', start + line + b'calls\nstatement 0\nreport\n'):
+            keeps(place, b'statement 0\ndelete 0\ncalls\nadmit 9 1\nadvance 639 100\nadvance 639 0\nstatement 0\nreport\n', journal=journal)
+            keeps(place, b'delete 0\nadvance 2022-09-01 1000\nannual 0\nreport\n', journal=place.got())
+            reads(place, b'report\ncalls\ndelete 0\n')
+
+
+@case
+def journal_with_a_refused_deletion(place):
+    """A deletion in a journal that is refused or no call stops the ledger with nothing changed, kept or read."""
+    start = b'fresh 2021-08-31\nadmit 0 3\n'
+    place.put(GOOD_FILE, 'month.batch')
+    for journal, said in ((start + b'delete 0\ndelete 0\n', 'line 4: refused 24'), (start + b'delete 1\n', 'line 3: refused 2'),
+                          (start + b'delete 64\nadmit 1 0\n', 'line 3: refused 1'), (LEAVING_BOOK + b'delete 1\n', 'line 14: refused 13'),
+                          (b'fresh 577\nadmit 0 3\ndelete 0\n', 'line 3: refused 24'), (b'fresh 639\nadmit 0 3\ndelete 0\nadm', 'line 3: refused 24'),
+                          (start + b'delete 0\nadvance 609 1\nannual 0\n', 'line 5: refused 25'),
+                          (start + b'delete\n', 'line 3: error 3 too few words'), (start + b'delete 0 0\n', 'line 3: error 3 too many words'),
+                          (start + b'delete x\nx', 'line 3: error 3 not a number'),
+                          (start + b'delete 0\nfresh 5\n', 'line 4: error 4 fresh is not the first call')):
+        place.put(journal)
+        for words in ((place.path,), ('--batch', place.path), ('--read', place.path), (place.path, '--load', place.at('month.batch'))):
+            refuses(place, *words, texts=[f'ledger: {place.path}: {said}\n'.encode()])
+
+
+@case
+def torn_deletion(place):
+    """A part of a deletion's line behind a journal is dropped, the whole without its newline too: the participant isn't under deletion then."""
+    data = b'annual 2\nadvance 2021-09-01 1\nannual 2\ndelete 2\nannual 2\nreport\n'
+    for rest in (b'd', b'delete', b'delete ', b'delete 2', b'delete 2\r'):
+        for words in ((), ('--batch',)):
+            place.put(LEAVING_BOOK + rest)
+            answers, left = due(data, LEAVING_BOOK)
+            same('the answers', place.run(place.path, *words, data=data), (answers, (ledger.dropped(place.path, rest) + '\n').encode()))
+            same('the journal', place.got(), left)
+        place.put(LEAVING_BOOK + rest)
+        reads(place, b'report\n')
+    keeps(place, b'calls\ndelete 2', journal=LEAVING_BOOK)
+    same('a last line without newline', place.got(), LEAVING_BOOK)
+
+
+@case
+def deletion_and_read(place):
+    """--read makes no deletion, refused or not, and says that it is no question."""
+    place.put(LEAVING_BOOK)
+    reads(place, b'delete 2\nreport\ndelete 1\ndelete 99\ndelete\ndelete 2 2\nstatement 2\ncalls\n', '--end', end=True)
+    place.put(due(LEAVING, LEAVING_BOOK)[1])
+    reads(place, b'report\ncalls\nstatement 0\ndelete 0\nannual 0\n')
+
+
+@case
+def failing_deletion(place):
+    """A deletion whose line can't be appended or forced to disk is not answered and is cut off; at the next start it is not made, and may be asked
+    for again. With --batch none of its part is answered."""
+    data = b'calls\nlodge 2 0 cash 5\ndelete 2\nannual 2\nstatement 2\n'
+    for calls in (APPEND, FORCE):
+        for error in ('EIO', 'ENOSPC'):
+            place.put(LEAVING_BOOK)
+            with Talk(fault(place.path, (calls, error, 2)) + [place.command, place.path]) as talk:
+                out, said = talk.stops(data)
+            failed(place, LEAVING_BOOK, data, out, said, 1)
+            holds('its line is there', b'delete' not in place.got(), place.got())
+            keeps(place, b'advance 2021-09-01 1\nannual 2\ndelete 2\ndelete 2\nannual 2\nreport\n', journal=place.got())
+        place.put(LEAVING_BOOK)
+        with Talk(fault(place.path, (calls, 'EIO', 1)) + [place.command, '--batch', place.path]) as talk:
+            out, said = talk.stops(data[6:])
+        same('the answers to a part', out, b'')
+        failed(place, LEAVING_BOOK, data[6:], out, said, 0)
+
+
+@case
+def deletion_at_the_file_size_limit(place):
+    """Where only a part of a deletion's line fits, that part is cut off; where all of it fits, it is kept, and not what follows."""
+    data = b'calls\ndelete 2\nlodge 2 0 cash 5\n'
+    for more in (0, 1, 6, 8, 9):
+        def limit():
+            signal.signal(signal.SIGXFSZ, signal.SIG_IGN)
+            resource.setrlimit(resource.RLIMIT_FSIZE, (len(LEAVING_BOOK) + more,) * 2)
+        place.put(LEAVING_BOOK)
+        with place.talk(preexec_fn=limit, restore_signals=False) as talk:
+            out, said = talk.stops(data)
+        failed(place, LEAVING_BOOK, data, out, said, int(more == len(b'delete 2\n')))
+
+
+@case
+def order_of_a_deletion(place):
+    """The answer to a deletion is written after its line was appended and forced to disk; with --batch after that of the part."""
+    changes = due(LEAVING, LEAVING_BOOK)[1].count(b'\n') - LEAVING_BOOK.count(b'\n')
+    counts = in_order(place, [place.path], LEAVING, LEAVING_BOOK)
+    same('appends and forces', (counts['append'], counts['force']), (changes, changes))
+    counts = in_order(place, ['--batch', place.path], LEAVING, LEAVING_BOOK)
+    same('appends and forces of a part', (counts['append'], counts['force']), (1, 1))
+
+
+@case
+def deletion_killed(place):
+    """Killed before any of its calls of the system around a deletion, the ledger leaves it kept or not made, and starts again with that."""
+    data = b'calls\ndelete 2\nstatement 2\ndelete 0\n'
+    for journal, rest in ((LEAVING_BOOK, b''), (LEAVING_BOOK, b'delete 2'), (LEAVING_BOOK.replace(b'role-retired\n', b''), b'')):
+        for step in STEPS:
+            for when in (1, 2, 3, 4):
+                place.put(journal + rest)
+                try:
+                    restarts(place, journal, rest, data, killed(place, step, when, data))
+                    keeps(place, b'advance 2021-09-01 1\nannual 2\ndelete 2\nannual 0\ncalls\nreport\n', journal=place.got())
+                except Wrong as wrong:
+                    raise Wrong(f'killed before {step} {when}, {len(journal)} bytes of journal: {wrong}')
+                os.remove(place.path)
+
+
+@case
+def deletion_behind_a_first_stretch(place):
+    """A deletion as the first change behind a journal without `role-retired` gets that line before it; one with role 1 may leave too."""
+    journal = OLD_BOOK + b'settle 1 11 2000001 0 0 0 0\nadvance 608 1000\n'
+    for words in ((), ('--batch',)):
+        keeps(place, b'delete 9\ncalls\ndelete 1\ndelete 1\nadvance 609 1\nannual 1\nannual 0\nadmit 9 1\nreport\n', *words, journal=journal)
+        holds('the line is not before it', place.got().startswith(journal + b'role-retired\ndelete 1\nadvance 609 1\n'), place.got())
+        keeps(place, b'delete 0\nadvance 639 100\nstatement 0\nstatement 1\nadvance 974 1000\nannual 0\nannual 1\n', *words, journal=place.got())
+        same('how often the line is there', place.got().count(RETIRED), 1)
+        keeps(place, b'delete 9\ndelete 64\ndelete\n', *words, journal=journal)
+        same('the journal after refusals', place.got(), journal)
 
 
 # ---- all of them

@@ -208,6 +208,14 @@ settle 1 2022-01 400 0 0 0 0            #= covered 400 | not above an open call
 settle 1 2021-12 500 0 0 0 0            #= recorded 500 | no check
 # Refusal 14: annual run outside 1 to 10 September.
 annual 0                                #= refused 14
+# Refusal 24: a deletion outside August and September; and in the status already, with 25 and 13, see 'Leaving participants'.
+delete 0                                #= refused 24
+delete 1                                #= refused 24 | before 13: four calls are open, and 500 is above them
+delete 63                               #= refused 2 | before 24
+delete 64                               #= refused 1 | before 24
+delete 256                              #= refused 1
+delete 18446744073709551616             #= refused 1 | not 0
+delete 340282366920938463463374607431768211456  #= refused 1
 # Refusal 15: release above what is held, or a letter in part.
 release 0 0 2000001                     #= refused 15
 release 0 1 499                         #= refused 15 | a letter in part
@@ -331,6 +339,21 @@ settle 64 2099-12 x                     #= error not a number | before 1 and 12
 annual                                  #= error too few words
 annual x                                #= error not a number
 annual 0 0                              #= error too many words
+delete                                  #= error too few words
+delete x                                #= error not a number
+delete -1                               #= error not a number
+delete -0                               #= error not a number
+delete +0                               #= error not a number
+delete 0x0                              #= error not a number
+delete 0.0                              #= error not a number
+delete 2022-09-01                       #= error not a number
+delete supplier                         #= error not a number
+delete 0 0                              #= error too many words
+delete 0 x                              #= error too many words
+delete x 0                              #= error not a number
+delete 64 0                             #= error too many words | before 1
+delete 0 delete 0                       #= error too many words
+delete delete                           #= error not a number
 advance                                 #= error too few words
 advance 2022-03-01                      #= error too few words
 advance x                               #= error not a day
@@ -617,6 +640,139 @@ role-retired                            #= no answer | no rule but the new one, 
 admit 7 1                               #= refused 23
 calls                                   #= calls 0
 
+# ---- Leaving participants: a deletion, its causes 24 and 13, and 25 of an annual run.
+fresh 2022-07-31                        #= done | day 942, month 30
+admit 0 supplier                        #= done
+admit 1 producer                        #= done
+admit 2 res-aggregator                  #= done
+admit 3 demand-response                 #= done
+admit 63 trader                         #= done
+lodge 0 0 cash 2000000                  #= done
+delete 0                                #= refused 24 | 31 July
+delete 4                                #= refused 2 | before 24
+delete 64                               #= refused 1
+advance 2022-08-01 1                    #= opened 1 | day 943, month 31: months 17 to 29 count
+delete 3                                #= deletion 0 0 | no month is recorded
+delete 3                                #= refused 24 | in the status already
+settle 1 2021-06 900 0 0 0 0            #= recorded 900 | fourteen months back
+settle 1 2022-03 500 0 0 0 0            #= recorded 500
+settle 1 2022-05 300 0 0 0 0            #= recorded 300
+settle 1 2022-04 -5 0 0 0 0             #= recorded -5
+delete 1                                #= deletion 500 1 | March to May; June 2021 is a fourth
+calls                                   #= calls 3 | two minimums and this
+lodge 1 0 cash 100                      #= done
+release 1 0 1                           #= refused 16 | the call is open
+settle 1 2022-06 500 0 0 0 0            #= covered 500 | not above it
+settle 1 2022-06 501 0 0 0 0            #= called 501 401 953 | months are checked as before
+settle 63 2022-04 1000000 0 0 0 0       #= recorded 1000000
+delete 63                               #= deletion 1000000 0 | not above its open minimum
+statement 63                            #= statement 0 0 0 0 0
+advance 2022-08-31 100                  #= opened 30 | day 973
+statement 1                             #= statement 501 100 401 20 2000000000 | 500 and 501 from day 954 on
+annual 1                                #= refused 14 | before 25
+settle 2 2022-06 100 0 0 0 0            #= called 100 100 983
+settle 2 2022-06 200 0 0 0 0            #= called 200 200 983
+settle 2 2022-06 300 0 0 0 0            #= called 300 300 983
+settle 2 2022-06 400 0 0 0 0            #= called 400 400 983
+settle 2 2022-05 401 0 0 0 0            #= recorded 401
+delete 2                                #= refused 13 | the call would be a fifth open one
+delete 2                                #= refused 13 | and it is not in the status
+statement 2                             #= statement 0 0 0 0 0
+calls                                   #= calls 8
+advance 2022-09-01 1                    #= opened 1 | day 974, month 32
+annual 2                                #= annual 401 2 | May and June
+annual 0                                #= annual 2000000 0
+annual 1                                #= refused 25
+annual 3                                #= refused 25
+annual 4                                #= refused 2
+annual 64                               #= refused 1
+delete 2                                #= refused 13
+settle 2 2022-05 400 0 0 0 0            #= recorded 400
+delete 2                                #= deletion 400 0 | four calls are open, and it is not above the last of them
+delete 2                                #= refused 24
+annual 2                                #= refused 25 | its next amount stays
+settle 0 2022-07 3000000 0 0 0 0        #= recorded 3000000 | September
+advance 2022-09-21 100                  #= opened 20 | day 994
+statement 2                             #= statement 400 0 400 11 1100000000 | from day 984 on
+delete 0                                #= deletion 3000000 1 | July alone is recorded; above its firm minimum
+annual 0                                #= refused 14 | before 25
+calls                                   #= calls 9
+advance 2022-09-30 100                  #= opened 9
+statement 0                             #= statement 2000000 2000000 0 0 0
+advance 2022-10-01 100                  #= opened 1 | day 1004, the call's last free day
+statement 0                             #= statement 2000000 2000000 0 0 0 | the next amount
+statement 2                             #= statement 401 0 401 21 2100000000 | its next amount
+statement 1                             #= statement 501 100 401 51 5100000000 | it has none
+settle 0 2022-08 2999999 0 0 0 0        #= covered 2999999 | not above the open call
+settle 0 2022-08 3000001 0 0 0 0        #= called 3000001 1000001 1014
+release 0 0 1                           #= refused 16
+delete 0                                #= refused 24
+admit 4 producer                        #= done
+delete 4                                #= refused 24 | October
+advance 2022-10-02 1                    #= opened 1
+statement 0                             #= statement 3000000 2000000 1000000 1 100000000 | the call outlived 1 October
+lodge 0 1 cash 1000000                  #= done
+advance 2022-10-12 100                  #= opened 10
+statement 0                             #= statement 3000001 3000000 1 2 200000000
+calls                                   #= calls 10
+report
+# A next amount of 100 or of 900, and deletions on 20, 21 and 30 September.
+fresh 2022-09-01                        #= done
+admit 0 producer                        #= done
+admit 1 producer                        #= done
+admit 2 producer                        #= done
+settle 0 2022-06 100 0 0 0 0            #= recorded 100
+settle 1 2022-06 100 0 0 0 0            #= recorded 100
+settle 2 2022-03 900 0 0 0 0            #= recorded 900
+settle 2 2022-04 50 0 0 0 0             #= recorded 50
+settle 2 2022-05 40 0 0 0 0             #= recorded 40
+settle 2 2022-06 30 0 0 0 0             #= recorded 30
+annual 0                                #= annual 100 1
+annual 1                                #= annual 100 1
+annual 2                                #= annual 900 4
+settle 0 2022-07 300 0 0 0 0            #= recorded 300
+settle 1 2022-07 300 0 0 0 0            #= recorded 300
+advance 2022-09-20 100                  #= opened 19 | day 993
+delete 0                                #= deletion 300 1
+advance 2022-09-21 100                  #= opened 1
+delete 1                                #= deletion 300 1
+advance 2022-09-30 100                  #= opened 9
+delete 2                                #= deletion 50 1 | whatever the next amount is
+advance 2022-10-01 100                  #= opened 1
+statement 0                             #= statement 100 0 100 1 100000000
+statement 1                             #= statement 100 0 100 1 100000000
+statement 2                             #= statement 900 0 900 1 100000000
+settle 2 2022-08 899 0 0 0 0            #= covered 899 | above the open call, not above the firm amount
+advance 2022-10-02 100                  #= opened 1
+statement 0                             #= statement 100 0 100 2 200000000 | its call ended on 30 September
+statement 1                             #= statement 300 0 300 2 200000000 | its call ended on 1 October
+advance 2022-10-11 100                  #= opened 9
+statement 2                             #= statement 900 0 900 11 1100000000 | its call has ended and raised nothing
+calls                                   #= calls 3
+# The line of a deletion.
+\tdelete\t\r0 \r                       #= refused 24
+delete 0#= refused 24
+delete 000000000000000000000000000000   #= refused 24
+delete#= error too few words
+delete #= error too few words
+delete \x00                             #= error a control byte
+delete 0\x7f                            #= error a control byte
+delete \xd9\xa0                         #= error not a number
+delete\xff 0                            #= error no such call
+Delete 0                                #= error no such call
+DELETE 0                                #= error no such call
+delet 0                                 #= error no such call
+deletee 0                               #= error no such call
+deletes 0                               #= error no such call
+deletion 0                              #= error no such call
+delete0                                 #= error no such call
+del 0                                   #= error no such call
+de lete 0                               #= error no such call
+admit 5 delete                          #= error not a role
+statement delete                        #= error not a number
+role-retired delete                     #= error too many words
+calls                                   #= calls 3 | the book is as before
+
 # ---- A month in one file, in hexadecimal digits: month, count, pairs of offset and length, parts; the least byte first.
 fresh 2022-03-01                        #= done | month 26: month 24 = 18 is checked
 admit 0 supplier                        #= done
@@ -766,7 +922,11 @@ statement 3                             #= statement 0 9 0 0 0
 KEPT_JOURNAL = br'''\xef\xbb\xbf# The journal that is found: a byte order mark, comments, blank lines, dates and names, and a last line that a crash cut.
 # It has no line `role-retired`: all of it is a first stretch, in which role 1 was admitted.
 
-	fresh	2021-01-01     # a Friday
+	fresh	2020-09-30     # a Wednesday
+admit 10 producer
+settle 10 2020-07 5 0 0 0 0
+ delete\t010 # called to 5
+advance 2021-01-01 1000                          # a Friday
 
 admit 0 supplier
 admit 01 trader#s
@@ -787,9 +947,12 @@ lodge 0 1 cash 500000
 batch {0B00 0200 14000000 2A000000 3E000000 2A000000 0605 0500000000000000 <4> 0105 <5>}  # December 2020
 lodge\t2 0 cash 77'''
 
-KEPT_STDIN = br'''\xef\xbb\xbf# What was kept is there: six participants, 1 February 2021.
+KEPT_STDIN = br'''\xef\xbb\xbf# What was kept is there: seven participants, 1 February 2021.
 report
-calls                                            #= calls 6 | four minimums, the settlement and the one of the batch
+calls                                            #= calls 7 | four minimums, the settlement, the one of the batch and the deletion's
+statement 10                                     #= statement 5 0 5 114 11400000000 | its deletion's call, from 11 October 2020 on
+delete 10                                        #= refused 24
+annual 10                                        #= refused 14
 statement 0                                      #= statement 2000000 2500000 0 0 0
 statement 2                                      #= statement 0 0 0 0 0 | the cut line was dropped
 statement 7                                      #= statement 2000000 0 2000000 21 2100000000 | from 12 January on
@@ -829,7 +992,7 @@ batch {0b00 0100 0c000000 2b000000 0605 <5>}  #= refused 21 0
 batch                                            #= refused 20 0
 batch 0b0                                        #= error not two hexadecimal digits for each byte
 batch 0b 00                                      #= error too many words
-calls                                            #= calls 9
+calls                                            #= calls 10
 special 3 0126 +4 0                              #= error not a number
 special 3 00126 04 -0 3 3253 4048 4723 3 0 00 0 1 1000000 1 01000000 1 0 1 0  #= special 500000
 special 0 0 0 0 0 0 0                            #= refused 18
@@ -856,17 +1019,35 @@ settle 7 2020-12 2000001 0 0 0 0                 #= called 2000001 2000001 418
 settle 8 2020-12 2399999 0 0 0 0                 #= covered 2399999 | below 20%
 settle 8 2020-12 5 0 0 0 0                       #= covered 5
 release 8 0 1                                    #= refused 16 | the minimum is firm
-calls                                            #= calls 10
+calls                                            #= calls 11
+delete 8                                         #= refused 24 | not kept
 advance 2021-09-01 1000                          #= opened 201
 annual 7                                         #= annual 2000001 1
 annual 8                                         #= annual 2000000 1 | 5, raised to the minimum
 admit 9 self-supplied                            #= refused 23
+# Leaving participants. 1 September 2021, day 609.
+annual 10                                        #= refused 25 | by the deletion that was found
+delete 10                                        #= refused 24
+delete 9                                         #= refused 2
+delete 64                                        #= refused 1
+delete                                           #= error too few words
+delete 8 8                                       #= error too many words
+delete x                                         #= error not a number
+settle 6 2021-07 1000 0 0 0 0                    #= recorded 1000
+\tdelete 00000000000000000000006\r # to 1,000    #= deletion 1000 1
+delete 6                                         #= refused 24 | not kept
+annual 6                                         #= refused 25
+delete 08                                        #= deletion 5 0 | its firm minimum is above it
+annual 8                                         #= refused 25 | its next amount stays
+calls                                            #= calls 12
 advance 2021-10-01 1000                          #= opened 30
+statement 6                                      #= statement 1000 0 1000 232 23200000000 | 6 from 12 February on, 1,000 from 12 September on
+delete 7                                         #= refused 24 | October
 statement 7                                      #= statement 2000001 0 2000001 263 26300000000
 statement 8                                      #= statement 2000000 2000000 0 0 0
 report
 \xef\xbb\xbfcalls                                #= error no such call | a mark stands only at the start
-calls                                            #= calls 10
+calls                                            #= calls 12
 lodge 1 7 cash 5                                 #= error line without newline, not taken'''
 
 
@@ -882,8 +1063,8 @@ def monthly(month):
 
 def call_words(kind, args):
     """A call of histories.py as the words of a line, each with what is due there."""
-    names = ('admit', 'lodge', 'lodge', 'release', 'settle', 'annual', 'advance', 'statement', 'batch', 'calls')
-    dues = ('nr', 'nncn', 'nncndd', 'nnn', 'nm' + 's' * len(args), 'n', 'dn', 'n', 'h', '')[kind]
+    names = ('admit', 'lodge', 'lodge', 'release', 'settle', 'annual', 'advance', 'statement', 'batch', 'delete', 'calls')
+    dues = ('nr', 'nncn', 'nncndd', 'nnn', 'nm' + 's' * len(args), 'n', 'dn', 'n', 'h', 'n', '')[kind]
     args = list(args)
     if kind in (1, 2):
         args.insert(2, ('cash', 'letter')[kind - 1])
@@ -990,7 +1171,7 @@ SHORT = [b'lodge 0 0 cash 2000000', b'lodge 0 1 letter 500000 2022-03-01 2022-12
          b'release 0 0 1000000', b'release 1 0 1000000', b'release 2 7 5', b'settle 0 2022-01 2400000 0 0 0 -5', b'settle 1 24 1 2 3 4 5 6',
          b'settle 2 2021-12 900 0 0 0 0', b'settle 2 2022-07 900 0 0 0 0', b'annual 0', b'annual 2', b'advance 2022-03-12 3',
          b'advance 2022-10-01 40', b'statement 0', b'statement 1', b'statement 2', b'calls', b'report', b'admit 3 trader', b'admit 63 5',
-         b'admit 4 self-supplied', b'role-retired',
+         b'admit 4 self-supplied', b'role-retired', b'delete 0', b'delete 2', b'settle 2 2022-07 1200 0 0 0 0',
          b'batch 180001000c0000002a0000000005' + b'00' * 40, b'batch 170001000C0000002A0000000205' + b'FF' * 40,
          b'batch 18000200140000002a0000003e0000002a0000000005' + b'00' * 39 + b'7f0205' + b'01' + b'00' * 39]
 
@@ -998,7 +1179,7 @@ SHORT = [b'lodge 0 0 cash 2000000', b'lodge 0 1 letter 500000 2022-03-01 2022-12
 def random_lines():
     rng = random.Random(f'ledger tests {SEED}')
     lines, pool = [b'', b'# ---- Histories, written in many ways.'], []
-    for i, most in ((0, 90), (1, 100), (3, 80), (4, 80), (5, 80), (7, 100), (9, 50)):
+    for i, most in ((0, 90), (1, 100), (3, 80), (4, 80), (5, 80), (7, 100), (9, 50), (12, 90), (13, 90)):
         made = history_lines(rng, i, most)
         lines += made + [b'report']
         pool += made
@@ -1020,7 +1201,7 @@ def random_lines():
     return lines
 
 
-EXAMPLES = ('year', 'manual', 'month', 'letters')
+EXAMPLES = ('year', 'manual', 'month', 'letters', 'leaving')
 KEPT_EXAMPLES = {'retired': 'kept_by_1_3'}           # calls, and the journal that they are typed behind
 
 
@@ -1160,10 +1341,10 @@ def main():
         at = ' at a pair' if len(words) == 3 else ''
         key = words[0] if words[0] not in ('refused', 'error') else f'refused {words[1]}{at}' if words[0] == 'refused' else ' '.join(words[2:])
         kinds[key] = kinds.get(key, 0) + 1
-    due = [f'refused {n}' for n in (*range(1, 20), 23)] + [f'refused {n} at a pair' for n in (1, 2, 10, 11, 12, 13, 20, 21, 22)] + [
+    due = [f'refused {n}' for n in (*range(1, 20), 23, 24, 25)] + [f'refused {n} at a pair' for n in (1, 2, 10, 11, 12, 13, 20, 21, 22)] + [
         'a control byte', 'no such call', 'too few words', 'too many words', 'not a number', 'not a day', 'not a month', 'not a role',
         'neither cash nor letter', 'line too long', 'not two hexadecimal digits for each byte',
-        'batch', 'done', 'called', 'covered', 'recorded', 'annual', 'opened', 'statement', 'calls', 'special', 'report']
+        'batch', 'done', 'called', 'covered', 'recorded', 'annual', 'opened', 'statement', 'calls', 'special', 'report', 'deletion']
     print(f'filter: {stdin.count(10) + 1} lines, {len(stdin)} bytes; {stdout.count(10)} lines of answers, {len(stdout)} bytes')
     print('answers: ' + ', '.join(f'{key}: {kinds.get(key, 0)}' for key in due))
     for line in wrong + more + [f'not met: {key}' for key in due if key not in kinds]:

@@ -1,11 +1,11 @@
 """Paper 01's reading of the history, in Python's standard library: the reference that the book's answers are compared with.
 
-Written from the section 'The reading of the history' and the table of causes alone, for a batch from paper 02's ask 1, for D from its ask 2 and
-for the two admission rules from its ask 3. A participant's figures are read from its accepted calls, each with its arguments and the day it was made
-on, and from the days opened. Nothing is summed up in between: cover, D, firm amount, open calls, month totals and the next amount are worked out
-afresh from the calls whenever they are asked for. What is kept is the history itself and what the reading once gave and no later call can change:
-beside a settlement whether it called, beside an annual run its amount, beside an opened day its shortfall. An accepted batch is in the history as
-its settlements.
+Written from the section 'The reading of the history' and the table of causes alone, for a batch from paper 02's ask 1, for D from its ask 2, for
+the two admission rules from its ask 3 and for a deletion from its ask 4. A participant's figures are read from its accepted calls, each with its
+arguments and the day it was made on, and from the days opened. Nothing is summed up in between: cover, D, firm amount, open calls, month totals, the
+next amount and whether it is under deletion are worked out afresh from the calls whenever they are asked for. What is kept is the history itself and
+what the reading once gave and no later call can change: beside a settlement whether it called, beside an annual run its amount, beside a deletion its
+amount and whether it called, beside an opened day its shortfall. An accepted batch is in the history as its settlements.
 """
 import datetime
 
@@ -19,6 +19,7 @@ DEPOSITED_DAYS = 11  # what counts in a check is still in force so many days aft
 ALWAYS = float('inf')  # cash has no last day
 MOST_PARTS = 64
 RETIRED = 1  # the role that is no longer registered (paper 02, ask 3); files that have it keep it, and its minimum
+LATEST = 3  # a deletion looks at so many recorded months, the latest (paper 02, ask 4)
 
 
 def date(day):
@@ -43,6 +44,11 @@ def is_september(m):
 def in_annual_days(day):
     d = date(day)
     return d.month == 9 and 1 <= d.day <= 10
+
+
+def in_deletion_days(day):
+    """August and September, the last two months of a guarantee validity period (002, sections 1 and 6)."""
+    return date(day).month in (8, 9)
 
 
 def october_after(day):
@@ -159,6 +165,19 @@ class Participant:
         totals = [total for total in totals if total is not None]
         return max([MINIMUM[self.role]] + totals), len(totals)
 
+    def deletion_amount(self, day):
+        """The amount of a deletion on a day: the largest total of the three latest recorded months among P - 14 to P - 2, those with the largest
+        month numbers, or of as many as there are; 0 if none is recorded or that is negative. No minimum is looked at."""
+        p = month(day)
+        totals = [self.total(m) for m in range(p - 2, max(p - 14, 0) - 1, -1)]
+        totals = [total for total in totals if total is not None]
+        return max([0] + totals[:LATEST])
+
+    def deletion(self):
+        """The accepted deletion, (day, amount, whether it called), or None. From it on the participant is under deletion; nothing ends that."""
+        found = [(day, *args) for day, kind, args in self.acts if kind == 'delete']
+        return found[0] if found else None
+
     def runs(self):
         return [(day, args[0]) for day, kind, args in self.acts if kind == 'annual']
 
@@ -175,13 +194,15 @@ class Participant:
         return [(self.day, 0)] + [(october_after(day), amount) for day, amount in self.runs()]
 
     def calls(self):
-        """Every call made, oldest first: (amount, last free day)."""
+        """Every call made, oldest first: (amount, last free day). They are the admission's and those of settlements and of a deletion."""
         made = []
         if MINIMUM[self.role] > 0:
             made.append((MINIMUM[self.role], self.day + FREE_DAYS))
         for day, kind, args in self.acts:
             if kind == 'settle' and args[2]:
                 made.append((sum(args[1]), day + FREE_DAYS))
+            elif kind == 'delete' and args[1]:
+                made.append((args[0], day + FREE_DAYS))
         return made
 
     def firm(self, day):
@@ -198,6 +219,10 @@ class Participant:
         e, d = sum(figures), self.deposited(today)
         return (self.check_due(today, m) and e > d and 5 * e >= 6 * d and e > self.firm(today)
                 and all(e > amount for amount in self.open_calls(today)))
+
+    def deletion_calls(self, today, amount):
+        """Whether a deletion of this amount calls: whatever the cover and the next amount are."""
+        return amount > self.firm(today) and all(amount > called for called in self.open_calls(today))
 
     def release_floor(self, today):
         """What a release must leave: the largest of the firm amount, each open call and the next amount."""
@@ -347,15 +372,34 @@ class History:
         return (9, len(parts), 0, 0, 0, 0)
 
     def annual(self, p):
+        """An annual run, whose causes are 1, 2, 14 and, for one under deletion, 25."""
         no = self.unknown(p)
         if no:
             return no
         who = self.people[p]
         if not in_annual_days(self.today):
             return self.refused(14)
+        if who.deletion():
+            return self.refused(25)
         amount, months = who.annual_amount(self.today)
         who.acts.append((self.today, 'annual', (amount,)))
         return (5, amount, months, 0, 0, 0)
+
+    def delete(self, p):
+        """A participant is put under deletion (paper 02, ask 4); the causes are 1, 2, 24 and 13. The answer gives the amount and whether it called.
+        Refused with 13 it isn't under deletion, and may be tried again. A next amount stays, and settlements go on being checked."""
+        no = self.unknown(p)
+        if no:
+            return no
+        who, t = self.people[p], self.today
+        if not in_deletion_days(t) or who.deletion():
+            return self.refused(24)
+        amount = who.deletion_amount(t)
+        calls = who.deletion_calls(t, amount)
+        if calls and len(who.open_calls(t)) >= 4:
+            return self.refused(13)
+        who.acts.append((t, 'delete', (amount, calls)))
+        return (11, amount, int(calls), 0, 0, 0)
 
     def advance(self, day, budget):
         if day > LAST_DAY or day < self.today:

@@ -169,6 +169,14 @@ static void annual(void)
         sprintf(answer, "annual %" PRIu64 " %" PRIu64, a.amount, a.months);
 }
 
+static void deletion(void)
+{
+    GuaranteeDeletion d = guarantee_delete(book, GUARANTEE_WORDS, natural());
+    outcome(d.refusal);
+    if (d.refusal == GUARANTEE_ACCEPTED)
+        sprintf(answer, "deletion %" PRIu64 " %" PRIu64, d.amount, d.called);
+}
+
 static void statement(void)
 {
     GuaranteeStatement s = guarantee_statement(book, GUARANTEE_WORDS, natural());
@@ -217,6 +225,8 @@ static void make(const char *name)
         batch();
     else if (strcmp(name, "annual") == 0)
         annual();
+    else if (strcmp(name, "delete") == 0)
+        deletion();
     else if (strcmp(name, "advance") == 0)
         advance();
     else if (strcmp(name, "statement") == 0)

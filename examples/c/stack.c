@@ -15,7 +15,12 @@ static const int64_t figures[16] = {1500000}, rates[5] = {126, -18, 4, -234, 0},
 static const uint64_t marks[5] = {0};
 
 static void fresh(void) { guarantee_fresh(book, GUARANTEE_WORDS, 366); }
-static void admit(void) { for (uint64_t p = 0; p < 64; p++) guarantee_admit(book, GUARANTEE_WORDS, p, p % 6); }
+/* The roles in turn, with a supplier's for the retired one. */
+static void admit(void)
+{
+    for (uint64_t p = 0; p < 64; p++)
+        guarantee_admit(book, GUARANTEE_WORDS, p, p % 6 == GUARANTEE_SELF_SUPPLIED ? GUARANTEE_SUPPLIER : p % 6);
+}
 static void lodge_cash(void) { for (uint64_t p = 0; p < 512; p += 2) guarantee_lodge_cash(book, GUARANTEE_WORDS, p / 8, p % 8, 1000); }
 static void lodge_letter(void)
 {
@@ -41,6 +46,15 @@ static void batch(void)
 }
 static void advance(void) { guarantee_advance(book, GUARANTEE_WORDS, 612, 1000); }
 static void annual_run(void) { for (uint64_t p = 0; p < 64; p++) guarantee_annual_run(book, GUARANTEE_WORDS, p); }
+/* A larger month is settled before each, so that it calls. */
+static void deletion(void)
+{
+    static const int64_t larger[5] = {20000000};
+    for (uint64_t p = 0; p < 64; p++) {
+        guarantee_settle(book, GUARANTEE_WORDS, p, 18, larger, 5);
+        guarantee_delete(book, GUARANTEE_WORDS, p);
+    }
+}
 static void statement(void) { for (uint64_t p = 0; p < 65; p++) guarantee_statement(book, GUARANTEE_WORDS, p); }
 static void calls_made(void) { guarantee_calls_made(book, GUARANTEE_WORDS); }
 static void today(void) { guarantee_today(book, GUARANTEE_WORDS); }
@@ -48,8 +62,8 @@ static void special(void) { guarantee_special(rates, 5, rates, 5, marks, 5, zero
 
 static const struct { const char *name; void (*calls)(void); } rows[] = {
     {"fresh", fresh}, {"admit", admit}, {"lodge_cash", lodge_cash}, {"lodge_letter", lodge_letter}, {"release", release}, {"settle", settle},
-    {"batch", batch}, {"advance", advance}, {"annual_run", annual_run}, {"statement", statement}, {"calls_made", calls_made}, {"today", today},
-    {"special", special},
+    {"batch", batch}, {"advance", advance}, {"annual_run", annual_run}, {"delete", deletion}, {"statement", statement}, {"calls_made", calls_made},
+    {"today", today}, {"special", special},
 };
 
 static void (*chosen)(void);

@@ -18,6 +18,7 @@ def struct(name, *fields):
 SETTLED = struct('Settled', 'kind', 'total', 'asked', 'last_free_day')
 BATCH = struct('Batch', 'parts', 'pair')
 ANNUAL = struct('Annual', 'amount', 'months')
+DELETION = struct('Deletion', 'amount', 'called')
 ADVANCED = struct('Advanced', 'opened')
 STATEMENT = struct('Statement', 'firm', 'cover', 'shortfall', 'days_charged', 'accrued_mills')
 COUNT = struct('Count', 'count')
@@ -27,7 +28,8 @@ SPECIAL = struct('Special', 'cents')
 # What each function on words returns, and what it takes behind the words.
 FUNCTIONS = {'fresh': (U64, U32), 'admit': (U64, U64, U64), 'lodge_cash': (U64, U64, U64, U64), 'lodge_letter': (U64, U64, U64, U64, U32, U32),
              'release': (U64, U64, U64, U64), 'settle': (SETTLED, U64, U32, list), 'batch': (BATCH, bytes), 'annual_run': (ANNUAL, U64),
-             'advance': (ADVANCED, U32, U64), 'statement': (STATEMENT, U64), 'calls_made': (COUNT,), 'today': (DAY,), 'check': (U64,)}
+             'delete': (DELETION, U64), 'advance': (ADVANCED, U32, U64), 'statement': (STATEMENT, U64), 'calls_made': (COUNT,), 'today': (DAY,),
+             'check': (U64,)}
 LENT = {list: I64, bytes: U8}
 BOUNDS = {U8: (0, 255), U64: (0, 2 ** 64 - 1), U32: (0, 2 ** 32 - 1), I64: (-2 ** 63, 2 ** 63 - 1)}
 

@@ -57,7 +57,7 @@ def answer(book, name, *words):
     if name == 'settle':
         kind, *values = values
         return ' '.join(map(str, [guarantee.KINDS[kind]] + values[:3 if kind == 1 else 1]))
-    return ' '.join(map(str, [{'advance': 'opened'}.get(name, name)] + values)) if values else 'done'
+    return ' '.join(map(str, [{'advance': 'opened', 'delete': 'deletion'}.get(name, name)] + values)) if values else 'done'
 
 
 def main(arguments):

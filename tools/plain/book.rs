@@ -1,7 +1,7 @@
 //! The guarantee book in plain Rust, changed in place (paper 01, 'One participant's file' and 'The calls').
 
 use crate::calendar::{
-    date_of, in_annual_days, is_first_october, is_september, month_of, LAST_DAY,
+    date_of, in_annual_days, is_deletion_month, is_first_october, is_september, month_of, LAST_DAY,
 };
 
 /// How many participants, positions, open calls and places for month totals there are.
@@ -16,6 +16,9 @@ const MOST: u64 = 1_000_000_000_000;
 /// The days from a call to its last free day, and the least charge of a day with a shortfall, in mills.
 const FREE_DAYS: u32 = 10;
 const LEAST_CHARGE: u64 = 100_000_000;
+
+/// How many recorded months, the latest, a deletion looks at (paper 02, Ask 4).
+const LATEST: usize = 3;
 
 /// The six roles' minimum guarantees, in cents (002, 3.1), and the role that is no longer admitted (paper 02, Ask 3).
 const MINIMUMS: [u64; 6] = [2_000_000, 2_000_000, 1_000_000, 0, 0, 0];
@@ -44,6 +47,8 @@ pub enum Refusal {
     FewRates = 18,
     ListLengths = 19,
     RoleRetired = 23,
+    NoDeletion = 24,
+    UnderDeletion = 25,
 }
 
 /// What a position holds: nothing, cash, or a letter from its first day to its last, both included.
@@ -65,6 +70,12 @@ pub enum Settled {
 pub struct Annual {
     pub amount: u64,
     pub months: u64,
+}
+
+/// The answer to a deletion: its amount, and whether it became a call.
+pub struct Deletion {
+    pub amount: u64,
+    pub called: bool,
 }
 
 /// The answer to a question for the statement, in cents and, the accrued charge, in mills.
@@ -90,10 +101,12 @@ struct MonthTotal {
     total: i64,
 }
 
-/// One participant's file. The open calls are the first `count`, oldest first; a month's total stands at the month's number modulo 16.
+/// One participant's file; it is `leaving` where it is under deletion. The open calls are the first `count`, oldest first; a month's total stands at
+/// the month's number modulo 16.
 #[derive(Clone, Copy)]
 pub struct File {
     pub admitted: bool,
+    leaving: bool,
     pub role: u8,
     count: u8,
     firm: u64,
@@ -167,6 +180,7 @@ impl File {
     /// The file of a participant that isn't admitted.
     const NONE: File = File {
         admitted: false,
+        leaving: false,
         role: 0,
         count: 0,
         firm: 0,
@@ -264,13 +278,16 @@ impl File {
         Ok(())
     }
 
+    /// Whether a total exceeds the firm amount and every open call.
+    fn exceeds_each(&self, total: i64) -> bool {
+        let exceeds = |amount: u64| (amount as i64) < total;
+        exceeds(self.firm) && self.open_calls().iter().all(|call| exceeds(call.amount))
+    }
+
     /// Whether a total that is checked calls for more than is deposited.
     fn calls_for(&self, total: i64, deposited: u64) -> bool {
-        let exceeds = |amount: u64| (amount as i64) < total;
-        exceeds(deposited)
-            && 6 * deposited as i64 <= 5 * total
-            && exceeds(self.firm)
-            && self.open_calls().iter().all(|call| exceeds(call.amount))
+        let deposited = deposited as i64;
+        deposited < total && 6 * deposited <= 5 * total && self.exceeds_each(total)
     }
 
     /// Paper 01, 'Settle', from cause 12 on.
@@ -314,6 +331,9 @@ impl File {
         if !in_annual_days(&date) {
             return Err(Refusal::NotAnnualDays);
         }
+        if self.leaving {
+            return Err(Refusal::UnderDeletion);
+        }
         let (mut largest, mut months) = (self.minimum() as i64, 0);
         for recorded in self.totals.iter().flatten() {
             if date.month <= recorded.month + 14 && recorded.month + 3 <= date.month {
@@ -324,6 +344,39 @@ impl File {
         let amount = largest as u64;
         self.next = Some(amount);
         Ok(Annual { amount, months })
+    }
+
+    /// The recorded total of a month.
+    fn total(&self, month: u32) -> Option<i64> {
+        let found = self.totals[month as usize % TOTALS];
+        found
+            .filter(|recorded| recorded.month == month)
+            .map(|recorded| recorded.total)
+    }
+
+    /// The largest total of the three latest recorded months among P − 14 to P − 2, or of fewer; 0 if there are none, or it is negative.
+    fn deletion_amount(&self, current: u32) -> i64 {
+        let months = current.saturating_sub(14)..=current.saturating_sub(2);
+        let totals = months.rev().filter_map(|month| self.total(month));
+        totals.take(LATEST).fold(0, i64::max)
+    }
+
+    /// Paper 02, 'Leaving participants', from cause 24 on.
+    fn delete(&mut self, today: u32) -> Result<Deletion, Refusal> {
+        let current = month_of(today);
+        if self.leaving || !is_deletion_month(current) {
+            return Err(Refusal::NoDeletion);
+        }
+        let total = self.deletion_amount(current);
+        let (amount, called) = (total as u64, self.exceeds_each(total));
+        if called {
+            if self.count as usize == OPEN_CALLS {
+                return Err(Refusal::FifthCall);
+            }
+            self.call(amount, today);
+        }
+        self.leaving = true;
+        Ok(Deletion { amount, called })
     }
 
     /// Empties the positions whose letter has lapsed, and answers the cover on the day.
@@ -473,6 +526,16 @@ impl Book {
         self.file_mut(participant)?.annual_run(today)
     }
 
+    /// Places a participant under deletion (paper 02, 'Leaving participants').
+    pub fn delete(&mut self, participant: u64) -> Result<Deletion, Refusal> {
+        let today = self.today;
+        let deletion = self.file_mut(participant)?.delete(today)?;
+        if deletion.called {
+            self.made += 1;
+        }
+        Ok(deletion)
+    }
+
     /// Opens the days after today until a day, at most so many, and answers how many were opened (paper 01, 'Advance').
     pub fn advance(&mut self, day: u32, budget: u64) -> Result<u64, Refusal> {
         if LAST_DAY < day || day < self.today {
@@ -507,7 +570,7 @@ impl Book {
         })
     }
 
-    /// The count of calls made, admissions' calls included.
+    /// The count of calls made, admissions' and deletions' calls included.
     pub fn calls_made(&self) -> u64 {
         self.made
     }

@@ -57,6 +57,11 @@ pub fn is_september(month: u32) -> bool {
     month % 12 == 8
 }
 
+/// Whether a month is an August or a September, the months in which a participant is placed under deletion.
+pub fn is_deletion_month(month: u32) -> bool {
+    matches!(month % 12, 7 | 8)
+}
+
 /// Whether a date is one of 1 to 10 September, the days of the annual run.
 pub fn in_annual_days(date: &Date) -> bool {
     is_september(date.month) && date.day <= 10

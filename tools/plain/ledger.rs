@@ -63,6 +63,7 @@ impl Ledger {
             b"settle" => self.settle(words),
             b"statement" => self.statement(words),
             b"annual" => self.annual(words),
+            b"delete" => self.delete(words),
             b"advance" => self.advance(words),
             b"admit" => self.admit(words),
             b"calls" => self.calls(words),
@@ -173,6 +174,17 @@ impl Ledger {
         self.answer(answer, |out, annual| {
             out.number("annual ", annual.amount);
             out.number(" ", annual.months);
+        })
+    }
+
+    /// delete P
+    fn delete(&mut self, words: &mut Words) -> Result<(), Fault> {
+        let participant = words.natural()?;
+        words.end()?;
+        let answer = self.book.delete(participant);
+        self.answer(answer, |out, deletion| {
+            out.number("deletion ", deletion.amount);
+            out.number(" ", deletion.called as u64);
         })
     }
 

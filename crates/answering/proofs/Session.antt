@@ -15,6 +15,7 @@ use Rattle.calendar.specs.Civil.{month_of}
 use Rattle.file.specs.Answer.{Cause, accepted, decide}
 use Rattle.file.specs.declared.File.{File}
 use Rattle.file.specs.Annual.{annual_answer}
+use Rattle.file.specs.Deletion.{deletion_answer}
 use Rattle.file.specs.Lodge.{lodge_answer}
 use Rattle.file.specs.Release.{release_answer}
 use Rattle.file.specs.CheckLaws.{settled-answer}
@@ -22,7 +23,7 @@ use Rattle.file.specs.Settle.{settlement_calls, check_due, settled_answer, settl
 use Rattle.batch.specs.Batch.{form_of}
 use Rattle.batch.specs.declared.Misfit.{Misfit}
 use Rattle.layout.specs.Book.{Book}
-use Rattle.book.specs.Call.{Call, Act, on, admit, lodge, release, settle, annual_run, advance, statement, calls_made, batch}
+use Rattle.book.specs.Call.{Call, Act, on, admit, lodge, release, settle, annual_run, delete, advance, statement, calls_made, batch}
 use Rattle.book.specs.Call.{first_refused, batch_says}
 use Rattle.book.specs.Rule.{Rule, old_rule, new_rule, history}
 use Rattle.book.specs.Account.{fresh_book, fresh_answer, file_at, if_numbered, if_admitted, file_answer, part_answer, answer, applied, step, run}
@@ -133,12 +134,13 @@ settled-untold f t m figures =
     (λ e. rw (settled-answer f t m figures, e) (split (check_due (month_of t) m) (λ g. rw g refl) (λ g. rw g refl)))
 
 file-untold : (f : File) (t : ℕ) (a : Act) → tells (file_answer f t a) ≡ false
-unfolding file_answer if_admitted lodge_answer release_answer settle_answer annual_answer
+unfolding file_answer if_admitted lodge_answer release_answer settle_answer annual_answer deletion_answer
 file-untold f t (admit role) = decided-untold _ Said.done refl
 file-untold f t (lodge k h) = decided-untold _ _ (decided-untold _ Said.done refl)
 file-untold f t (release k a) = decided-untold _ _ (decided-untold _ Said.done refl)
 file-untold f t (settle m figures) = decided-untold _ _ (decided-untold _ _ (settled-untold f t m figures))
 file-untold f t annual_run = decided-untold _ _ (decided-untold _ _ refl)
+file-untold f t delete = decided-untold _ _ (decided-untold _ _ refl)
 
 registered-untold : (rule : Rule) (a : Act) (x : Said.Answer) → tells x ≡ false → tells (unless_retired rule a x) ≡ false
 registered-untold old_rule a x h = h

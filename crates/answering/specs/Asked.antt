@@ -6,7 +6,7 @@ use Rattle.file.specs.Answer.{accepted}
 use Rattle.refusal.specs.declared.Refusal.{Refusal}
 use Rattle.special.specs.Guarantee.{special_guarantee}
 use Rattle.layout.specs.Book.{Book}
-use Rattle.book.specs.Call.{Call, on, admit, lodge, release, settle, annual_run, advance, statement, calls_made, batch}
+use Rattle.book.specs.Call.{Call, on, admit, lodge, release, settle, annual_run, delete, advance, statement, calls_made, batch}
 use Rattle.book.specs.Rule.{Rule}
 use Rattle.book.specs.Account.{fresh_answer, fresh_book, answer, step}
 use Rattle.book.specs.Reached.{ReachedUnder}
@@ -78,6 +78,7 @@ asked Request.Calls zs = call calls_made
 asked (Request.Special n) zs = guarantee (guarantee_of n zs)
 asked (Request.Batch n) zs = call (batch (batch_bytes n zs))
 asked Request.RoleRetired zs = role_retired
+asked (Request.Delete p) zs = call (on p delete)
 asked Request.Report zs = nothing
 asked (Request.Error e) zs = fault e
 

@@ -17,6 +17,7 @@ takes (Answer.Recorded e) = true
 takes (Answer.Annual a m) = true
 takes (Answer.Opened d) = true
 takes (Answer.Batch n) = true
+takes (Answer.Deletion a c) = true
 takes x = false
 
 -- Whether an answer is a refusal or an error.
@@ -37,6 +38,7 @@ changes (Request.Settle p m n) = true
 changes (Request.Annual p) = true
 changes (Request.Advance t b) = true
 changes (Request.Batch n) = true
+changes (Request.Delete p) = true
 changes r = false
 
 -- Whether a request asks for a fresh book.

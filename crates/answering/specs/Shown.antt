@@ -8,7 +8,8 @@ use Rattle.printing.specs.declared.Answer.{Answer}
 
 -- The answer of the journal for each answer of the book:
 -- "done | refused N | called E ASKED LAST_FREE_DAY | covered E | recorded E | annual AMOUNT MONTHS | opened DAYS
--- | statement FIRM COVER SHORTFALL DAYS_CHARGED MILLS | calls N"; and of a batch `batch N` and `refused NUMBER INDEX`.
+-- | statement FIRM COVER SHORTFALL DAYS_CHARGED MILLS | calls N"; of a batch `batch N` and `refused NUMBER INDEX`; and of a deletion
+-- `deletion AMOUNT CALLED`.
 abbrev pub shown : Said.Answer → Answer
 shown (Said.refused n) = Answer.Refused n
 shown Said.done = Answer.Done
@@ -21,6 +22,7 @@ shown (Said.stated f c s d a) = Answer.Statement f c s d a
 shown (Said.counted n) = Answer.Calls n
 shown (Said.batched n) = Answer.Batch n
 shown (Said.refused_pair n i) = Answer.RefusedPair n i
+shown (Said.deletion a calls) = Answer.Deletion a calls
 
 -- "special CENTS", or the number of the refusal.
 abbrev pub guarantee_shown : Result ℕ Refusal → Answer

@@ -57,6 +57,7 @@ pub fn apply(book: &mut [u64], request: Request, numbers: &[i64], line: u64) -> 
                 |parts| Answer::Batch(parts as u64),
             )
         },
+        Request::Delete(p) => book::delete(book, p).shown(),
         Request::Error(why) => Answer::Error(line, why),
     }
 }

@@ -21,6 +21,7 @@ pub fn is_kept(answer: Answer) -> bool
             | Answer::Annual(..)
             | Answer::Opened(_)
             | Answer::Batch(_)
+            | Answer::Deletion(..)
     )
 }
 
@@ -49,6 +50,7 @@ pub fn is_change(request: Request) -> bool
             | Request::Annual(_)
             | Request::Advance(..)
             | Request::Batch(_)
+            | Request::Delete(_)
     )
 }
 

@@ -1,13 +1,13 @@
 // The answers of the book's calls, as answers of the journal.
 ghost use Rattle.std.specs.Prelude.{◌≡◌, MatchResult};
 ghost use Rattle.std.specs.Result.{ForOk};
-ghost use Rattle.file.specs.Answer.{Answer as Said·Answer, refused, refused_pair, done, annual, days_opened};
+ghost use Rattle.file.specs.Answer.{Answer as Said·Answer, refused, refused_pair, done, annual, days_opened, deletion};
 ghost use Rattle.file.specs.Answer.{says as Answer·says, settlement_says, statement_says};
 ghost use Rattle.refusal.specs.Numbers.{number_of};
 ghost use Rattle.answering.specs.Shown.{shown};
 
 use batch::Misfit;
-use file::{AnnualRun, Settled, Statement};
+use file::{AnnualRun, Deletion, Settled, Statement};
 use printing::Answer;
 use refusal::Refusal;
 
@@ -48,6 +48,15 @@ impl Shown for AnnualRun {
 
     fn shown(self) -> Answer {
         Answer::Annual(self.amount, self.months)
+    }
+}
+
+// A deletion.
+impl Shown for Deletion {
+    ghost says = { λ d. deletion d.amount d.called };
+
+    fn shown(self) -> Answer {
+        Answer::Deletion(self.amount, self.called)
     }
 }
 

@@ -5,6 +5,7 @@ pub mod Begins
 pub mod Answers
 pub mod DaysOpened
 pub mod OnWords
+pub mod OnDeletions
 pub mod Viewing
 pub mod OnSettlements
 pub mod SettlementsPut

@@ -12,6 +12,8 @@ pub mod Releasing
 pub mod Admitting
 pub mod Ring
 pub mod Annual
+pub mod Latest
+pub mod Deleting
 pub mod Settling
 pub mod Statements
 pub mod Shortfalls

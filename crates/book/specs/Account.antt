@@ -8,11 +8,12 @@ use Rattle.file.specs.Lodge.{lodge_answer, lodged_file}
 use Rattle.file.specs.Release.{release_answer, released_file}
 use Rattle.file.specs.Settle.{settle_answer, settled_file, settlement_calls}
 use Rattle.file.specs.Annual.{annual_answer, annual_file}
+use Rattle.file.specs.Deletion.{deletion_calls, deletion_answer, deleted_file}
 use Rattle.file.specs.Opening.{opened_file}
 use Rattle.file.specs.Statement.{file_statement}
 use Rattle.layout.specs.Book.{Book}
 use Rattle.batch.specs.Batch.{count_in, participant_at, form_of}
-use Rattle.book.specs.Call.{Act, admit, lodge, release, settle, annual_run, Call, on, advance, statement, calls_made, batch}
+use Rattle.book.specs.Call.{Act, admit, lodge, release, settle, annual_run, delete, Call, on, advance, statement, calls_made, batch}
 use Rattle.book.specs.Call.{part_act, batch_says}
 use Rattle.book.specs.Rule.{Rule, old_rule, new_rule, MadeCall}
 
@@ -52,6 +53,7 @@ file_answer f t (lodge k h) = if_admitted f (lodge_answer f t k h)
 file_answer f t (release k a) = if_admitted f (release_answer f t k a)
 file_answer f t (settle m figures) = if_admitted f (settle_answer f t m figures)
 file_answer f t annual_run = if_admitted f (annual_answer f t)
+file_answer f t delete = if_admitted f (deletion_answer f t)
 
 -- The file that an accepted call leaves.
 unfoldable pub file_after : File → ℕ → Act → File
@@ -60,14 +62,16 @@ file_after f t (lodge k h) = lodged_file f t k h
 file_after f t (release k a) = released_file f t k a
 file_after f t (settle m figures) = settled_file f t m figures
 file_after f t annual_run = annual_file f t
+file_after f t delete = deleted_file f t
 
--- How many calls for more an accepted call makes: an admission's minimum, and a settlement's.
+-- How many calls for more an accepted call makes: an admission's minimum, a settlement's, and a deletion's, which "is counted among the calls made".
 unfoldable pub calls_added : File → ℕ → Act → ℕ
 calls_added f t (admit role) = length (calls_of_admission t role)
 calls_added f t (lodge k h) = 0
 calls_added f t (release k a) = 0
 calls_added f t (settle m figures) = cond (settlement_calls f t m figures) 1 0
 calls_added f t annual_run = 0
+calls_added f t delete = cond (deletion_calls f t) 1 0
 
 -- Paper 02, Ask 3: "The regulator no longer registers Self-Supplied Customers." Whether a call admits one, role 1.
 abbrev pub admits_retired : Act → Bool
@@ -76,6 +80,7 @@ admits_retired (lodge k h) = false
 admits_retired (release k a) = false
 admits_retired (settle m figures) = false
 admits_retired annual_run = false
+admits_retired delete = false
 
 -- "Answers: 23 role 1 at admission, after 4": under the new rule such a call is refused where the old one accepts it.
 abbrev pub unless_retired : Rule → Act → Answer → Answer

@@ -2,7 +2,7 @@
 -- Assumes nothing.
 use Rattle.std.specs.Prelude.{ℕ, List, ltb, ℤ, Bool, true, false, not, cond, Result, Ok, Err}
 use Rattle.file.specs.declared.Position.{Position}
-use Rattle.file.specs.Answer.{Answer, refused, done, called, covered, recorded, annual, days_opened, stated, counted, batched, refused_pair}
+use Rattle.file.specs.Answer.{Answer, refused, done, called, covered, recorded, annual, days_opened, stated, counted, batched, refused_pair, deletion}
 use Rattle.file.specs.Answer.{accepted, says, statement_says}
 use Rattle.laws.specs.Least.{least}
 use Rattle.batch.specs.declared.Misfit.{Misfit}
@@ -23,6 +23,8 @@ pub data Act : Type 0 where
   settle : (month : ℕ) → List ℤ → Act
   -- "Annual run (participant)"
   annual_run : Act
+  -- paper 02, Ask 4: "A new call puts an admitted participant into that status", under deletion
+  delete : Act
 
 -- A call: "Each call takes the book as the call before it left it, a refused one too".
 pub data Call : Type 0 where
@@ -58,6 +60,7 @@ is_called (stated f c s d a) = false
 is_called (counted n) = false
 is_called (batched n) = false
 is_called (refused_pair n i) = false
+is_called (deletion a calls) = false
 
 -- The answer that a batch's stands for.
 abbrev pub loaded_says : Result ℕ Misfit → Answer
@@ -81,6 +84,7 @@ refusal_of (stated f c s d a) = 0
 refusal_of (counted n) = 0
 refusal_of (batched n) = 0
 refusal_of (refused_pair n i) = n
+refusal_of (deletion a calls) = 0
 
 -- The first of n settlements, each with its answer, that is refused; n where none is.
 unfoldable pub first_refused : (ℕ → Answer) → ℕ → ℕ

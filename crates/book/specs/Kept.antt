@@ -9,8 +9,8 @@ use Rattle.file.specs.Position.{slot_of}
 use Rattle.file.specs.Calls.{in_places}
 use Rattle.file.specs.Totals.{no_total, total_of}
 use Rattle.layout.specs.Book.{Book}
-use Rattle.book.specs.Call.{admit, lodge, release, settle, annual_run}
-use Rattle.book.specs.Reading.Events.{Event, Own, day_opened, act, mine, today_of, admitted_in, role_in}
+use Rattle.book.specs.Call.{admit, lodge, release, settle, annual_run, delete}
+use Rattle.book.specs.Reading.Events.{Event, Own, day_opened, act, mine, today_of, admitted_in, leaving_in, role_in}
 use Rattle.book.specs.Reading.Holdings.{position_in}
 use Rattle.book.specs.Reading.Months.{next_in}
 use Rattle.book.specs.Reading.Calls.{firm_in, open_in}
@@ -26,12 +26,14 @@ ring_in (act d (lodge j h) ∷ own) k = ring_in own k
 ring_in (act d (release j a) ∷ own) k = ring_in own k
 ring_in (act d (settle m figures) ∷ own) k = cond (eqb (m % 16) k) (total_of m (sum_of figures)) (ring_in own k)
 ring_in (act d annual_run ∷ own) k = ring_in own k
+ring_in (act d delete ∷ own) k = ring_in own k
 
 -- A participant's file by the readings, on day t.
 unfoldable pub file_in : ℕ → List Own → File
 file_in t own =
     record {
       admitted = admitted_in own;
+      leaving = leaving_in own;
       role = role_in own;
       firm = firm_in t own;
       slots = table 8 (λ k. slot_of (position_in t k own));

@@ -10,7 +10,7 @@ use Rattle.layout.specs.Book.{Book}
 use Rattle.book.specs.Call.{Call, on, advance, statement, calls_made, batch}
 use Rattle.book.specs.Rule.{Rule, new_rule, MadeCall, under}
 use Rattle.book.specs.Account.{file_at, answer, step, run}
-use Rattle.book.specs.Reading.Events.{Own, day_opened, act, mine, today_of, admitted_in, role_in}
+use Rattle.book.specs.Reading.Events.{Own, day_opened, act, mine, today_of, admitted_in, leaving_in, role_in}
 use Rattle.book.specs.Reading.Holdings.{cover_in}
 use Rattle.book.specs.Reading.Calls.{firm_in}
 use Rattle.book.specs.Reading.Charges.{charged_in, accrued_in}
@@ -30,6 +30,7 @@ decisions_of s (e ∷ before) = decision e.rule s (events_of s before) e.call �
 -- A file's figures on day t are the readings of its own calls and the days opened.
 pub record ReadsAs (t : ℕ) (f : File) (own : List Own) : Type 0 where
   pub admitted : f.admitted ≡ admitted_in own
+  pub leaving : f.leaving ≡ leaving_in own
   pub role : f.role ≡ role_in own
   pub firm : f.firm ≡ firm_in t own
   pub cover : cover_of f t ≡ cover_in t own

@@ -1,4 +1,4 @@
-// Admissions and annual runs (paper 01, 'The calls'; paper 02, Ask 3): an admission puts a new file, an annual run takes the file out of the words,
+// Admissions and annual runs (paper 01, 'The calls'; paper 02, Asks 3 and 4): an admission puts a new file, an annual run takes the file out of the words,
 // calls its method, and writes the next amount.
 ghost use Rattle.std.specs.Prelude.{◌≡◌, true, ◌≤◌};
 ghost use Rattle.layout.specs.Words.{book_of_words, file_in_words, today_in};
@@ -73,7 +73,7 @@ pub fn admit_by_old_rule(words: &mut [u64], participant: u64, role: u64) -> Outc
 impl FileView<'_> {
     ghost use Rattle.book.specs.Seen.{file_seen, today_seen};
 
-    // What an annual run answers: its amount and how many months were recorded, or cause 14.
+    // What an annual run answers: its amount and how many months were recorded, or the first of the causes 14 and 25 that holds.
     fn annual_run(self) -> Result<AnnualRun, Refusal>
         ensures { annual_says result ≡ annual_answer (file_seen self.entry) (today_seen self.entry) }
     {

@@ -15,7 +15,7 @@ use calendar::Day;
 use file::release::release_floor;
 use file::{File, OpenCall, Position, Slot};
 use layout::files::{cover_at, file_at};
-use layout::parts::{flag, number};
+use layout::parts::{is_admitted, number};
 use layout::rows::{read_row, read_rows};
 use refusal::Refusal;
 
@@ -105,7 +105,7 @@ impl<'a> FileView<'a> {
     pub fn is_admitted(self) -> bool
         ensures { result ≡ (file_seen self.entry).admitted }
     {
-        flag(self.word(1))
+        is_admitted(self.word(1))
     }
 
     // Its role.

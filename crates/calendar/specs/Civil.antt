@@ -78,6 +78,14 @@ in_september d = leb d last_day && is_september (month_of d)
 unfoldable pub in_annual_days : ℕ → Bool
 in_annual_days d = leb d last_day && (is_september (month_of d) && leb (day_of_month d) 10)
 
+-- Paper 02, Ask 4: "in August or September" (002, section 6: "the last 2 months of the Guarantee Validity Period"). Whether a month is one of the
+-- two, and whether a day of the calendar lies there.
+unfoldable pub is_deletion_month : ℕ → Bool
+is_deletion_month m = eqb (place_of m) 7 || eqb (place_of m) 8
+
+unfoldable pub in_deletion_months : ℕ → Bool
+in_deletion_months d = leb d last_day && is_deletion_month (month_of d)
+
 -- Whether a day of the calendar is a 1 October.
 unfoldable pub is_first_october : ℕ → Bool
 is_first_october d = leb d last_day && (eqb (place_of (month_of d)) 9 && eqb (day_of_month d) 1)

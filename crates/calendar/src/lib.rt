@@ -4,7 +4,7 @@
 
 ghost use Rattle.std.specs.Prelude.{◌≡◌, eqb};
 ghost use Rattle.calendar.specs.Civil.{month_of, first_day_of, day_of_month_of, is_september, in_september};
-ghost use Rattle.calendar.specs.Civil.{place_of, in_annual_days, is_first_october};
+ghost use Rattle.calendar.specs.Civil.{place_of, in_annual_days, is_deletion_month, in_deletion_months, is_first_october};
 
 mod year; // year.rt: leap years, the lengths of months, and the months of a year
 mod date; // date.rt: dates by year, month and day of the month
@@ -106,6 +106,27 @@ pub fn in_annual_days(day: Day) -> bool
     ensures { result ≡ in_annual_days day.0 }
 {
     in_september(day) && day_of_month(day) <= 10
+}
+
+// Whether a month is an August or a September.
+#[tactic(auto, unfolding(crate::specs::Civil::is_deletion_month))]
+fn is_deletion_month(month: Month) -> bool
+    ensures { result ≡ is_deletion_month month.0 }
+{
+    // Kept: as `is_september`.
+    match month.0 % 12 {
+        0..=6 => false,
+        7..=8 => true,
+        _ => false,
+    }
+}
+
+// Whether a day lies in an August or a September, in which a participant may be placed under deletion.
+#[tactic(auto, unfolding(crate::specs::Civil::in_deletion_months))]
+pub fn in_deletion_months(day: Day) -> bool
+    ensures { result ≡ in_deletion_months day.0 }
+{
+    day.0 <= LAST_DAY && is_deletion_month(month_of(day))
 }
 
 // Whether a day is a 1 October.

@@ -4,12 +4,14 @@ use Rattle.std.specs.Prelude.{ℕ, ◌≤◌, ℤ, pos, nat_abs, Result, Ok, Err
 use Rattle.refusal.specs.declared.Refusal.{Refusal}
 use Rattle.refusal.specs.Numbers.{number_of}
 use Rattle.batch.specs.declared.Misfit.{Misfit}
-use Rattle.file.specs.Answer.{Answer, refused, done, called, covered, recorded, annual, days_opened, stated, counted, batched, refused_pair}
+use Rattle.file.specs.Answer.{Answer, refused, done, called, covered, recorded, annual, days_opened, stated, counted, batched, refused_pair, deletion}
+use Rattle.layout.specs.Parts.{flag_word}
 use Rattle.clib.specs.declared.fault.Fault.{Fault}
 use Rattle.clib.specs.declared.fault.Fault.TheVariants as Faults
 use Rattle.clib.specs.declared.GuaranteeSettled.{GuaranteeSettled}
 use Rattle.clib.specs.declared.GuaranteeBatch.{GuaranteeBatch}
 use Rattle.clib.specs.declared.GuaranteeAnnual.{GuaranteeAnnual}
+use Rattle.clib.specs.declared.GuaranteeDeletion.{GuaranteeDeletion}
 use Rattle.clib.specs.declared.GuaranteeAdvanced.{GuaranteeAdvanced}
 use Rattle.clib.specs.declared.GuaranteeStatement.{GuaranteeStatement}
 use Rattle.clib.specs.declared.GuaranteeCount.{GuaranteeCount}
@@ -48,6 +50,7 @@ answer_numbers (stated f c s d a) = values f c s d a
 answer_numbers (counted n) = values n 0 0 0 0
 answer_numbers (batched n) = values n 0 0 0 0
 answer_numbers (refused_pair n i) = record { refusal = n; kind = 0; total = pos 0; first = 0; second = i; third = 0; fourth = 0; fifth = 0 }
+answer_numbers (deletion a calls) = values a (flag_word calls) 0 0 0
 
 -- What is returned for an answer that has no values.
 abbrev pub refusal_number : Answer → ℕ
@@ -65,6 +68,10 @@ batch_numbers x = let n = answer_numbers x in record { refusal = n.refusal; part
 -- For an annual run's.
 abbrev pub annual_numbers : Answer → GuaranteeAnnual
 annual_numbers x = let n = answer_numbers x in record { refusal = n.refusal; amount = n.first; months = n.second }
+
+-- For a deletion's (paper 02, Ask 4): the amount, and 1 if it became a call.
+abbrev pub deletion_numbers : Answer → GuaranteeDeletion
+deletion_numbers x = let n = answer_numbers x in record { refusal = n.refusal; amount = n.first; called = n.second }
 
 -- For an advance's.
 abbrev pub advanced_numbers : Answer → GuaranteeAdvanced

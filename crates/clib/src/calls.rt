@@ -1,14 +1,16 @@
 // The calls that change a book (paper 01, 'The calls', and paper 02).
 // Kept: by the C interface each call is lent the words anew, and each but `guarantee_fresh` asks that they are a book.
 ghost use Rattle.file.specs.declared.Position.TheVariants.{Cash, Letter};
-ghost use Rattle.book.specs.Call.{admit, lodge, release, settle, annual_run, on, advance, batch};
+ghost use Rattle.book.specs.Call.{admit, lodge, release, settle, annual_run, delete, on, advance, batch};
 ghost use Rattle.book.specs.InWords.{GivenWords, BegunWords};
-ghost use Rattle.clib.specs.Numbers.{refusal_number, settled_numbers, batch_numbers, annual_numbers, advanced_numbers};
+ghost use Rattle.clib.specs.Numbers.{refusal_number, settled_numbers, batch_numbers, annual_numbers, deletion_numbers, advanced_numbers};
 ghost use Rattle.clib.specs.Returned.{FormedIfBook, Returned};
 
 use crate::lent::in_book;
 use crate::numbers::outcome_number;
-use crate::{GuaranteeAdvanced, GuaranteeAnnual, GuaranteeBatch, GuaranteeSettled};
+use crate::{
+    GuaranteeAdvanced, GuaranteeAnnual, GuaranteeBatch, GuaranteeDeletion, GuaranteeSettled,
+};
 use calendar::{Day, Month};
 use file::Position;
 
@@ -124,6 +126,16 @@ pub extern "C" fn guarantee_annual_run(words: &mut [u64], participant: u64) -> G
         (GivenWords words.old (on participant annual_run)) result words.new }
 {
     in_book(words, |book| book::annual_run(book, participant)).into()
+}
+
+// Places a participant under deletion.
+#[unsafe(no_mangle)]
+pub extern "C" fn guarantee_delete(words: &mut [u64], participant: u64) -> GuaranteeDeletion
+    requires { FormedIfBook words.old }
+    ensures { Returned deletion_numbers words.old
+        (GivenWords words.old (on participant delete)) result words.new }
+{
+    in_book(words, |book| book::delete(book, participant)).into()
 }
 
 // Opens the days after today in turn until a day, or until a budget of days is spent.

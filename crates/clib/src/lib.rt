@@ -43,6 +43,15 @@ pub struct GuaranteeAnnual {
     pub months: u64,
 }
 
+// What a deletion answers: its amount in cents, and 1 if it became a call, 0 if not.
+#[repr(C)]
+#[derive(Clone, Copy, Default)]
+pub struct GuaranteeDeletion {
+    pub refusal: u64,
+    pub amount: u64,
+    pub called: u64,
+}
+
 // What an advance answers: how many days it opened.
 #[repr(C)]
 #[derive(Clone, Copy, Default)]

@@ -1,17 +1,19 @@
 // Answers as numbers.
 ghost use Rattle.std.specs.Prelude.{◌≡◌};
-ghost use Rattle.file.specs.Answer.{done, annual, counted, batched, days_opened, settlement_says, statement_says};
+ghost use Rattle.file.specs.Answer.{done, annual, counted, batched, days_opened, settlement_says, statement_says, deletion};
 ghost use Rattle.clib.specs.Numbers.{lent_says, refusal_says, misfit_says, refusal_number, settled_numbers, batch_numbers, annual_numbers};
 ghost use Rattle.clib.specs.Numbers.{advanced_numbers, statement_numbers, count_numbers, day_numbers, special_numbers, SmallTotal};
+ghost use Rattle.clib.specs.Numbers.{deletion_numbers};
 
 use crate::fault::{Fault, NOT_A_BOOK};
 use crate::{
     GuaranteeAdvanced, GuaranteeAnnual, GuaranteeBatch, GuaranteeCount, GuaranteeDay,
-    GuaranteeSettled, GuaranteeSpecial, GuaranteeStatement,
+    GuaranteeDeletion, GuaranteeSettled, GuaranteeSpecial, GuaranteeStatement,
 };
 use batch::Misfit;
 use calendar::Day;
-use file::{AnnualRun, Settled, Statement};
+use file::{AnnualRun, Deletion, Settled, Statement};
+use layout::parts::flag_word;
 use refusal::Refusal;
 
 // An outcome's number.
@@ -91,6 +93,25 @@ impl From<Result<AnnualRun, Fault<Refusal>>> for GuaranteeAnnual {
                 months: run.months,
             },
             Err(fault) => GuaranteeAnnual {
+                refusal: fault.number(),
+                ..Default::default()
+            },
+        }
+    }
+}
+
+// A deletion's numbers.
+impl From<Result<Deletion, Fault<Refusal>>> for GuaranteeDeletion {
+    ghost from_gives = { λ answer numbers. numbers ≡ deletion_numbers (lent_says (λ d. deletion d.amount d.called) refusal_says answer) };
+
+    fn from(answer: Result<Deletion, Fault<Refusal>>) -> Self {
+        match answer {
+            Ok(deletion) => GuaranteeDeletion {
+                refusal: 0,
+                amount: deletion.amount,
+                called: flag_word(deletion.called),
+            },
+            Err(fault) => GuaranteeDeletion {
                 refusal: fault.number(),
                 ..Default::default()
             },

@@ -58,6 +58,7 @@ unrefused (Answer.Calls n) h = refl
 unrefused (Answer.Special c) h = refl
 unrefused (Answer.Batch n) h = refl
 unrefused (Answer.RefusedPair n i) h = sym h
+unrefused (Answer.Deletion a c) h = refl
 unrefused (Answer.Error l e) h = sym h
 
 -- ---- what a kept line asks

@@ -98,6 +98,7 @@ printed-short (Request.Advance t b) zs f = simp length-append (omega (arith, nat
 printed-short (Request.Statement p) zs f = simp length-append (omega (arith, natural p f.0))
 printed-short (Request.Special n) zs f = simp length-append (omega (arith, lists-short are_marks (length_list n) zs f.2 f.0))
 printed-short (Request.Batch n) zs f = file-short n zs
+printed-short (Request.Delete p) zs f = simp length-append (omega (arith, natural p f.0))
 printed-short (Request.Error e) zs f = absurd f
 printed-short r zs f = omega arith
 
@@ -121,6 +122,7 @@ taken-accepted (Said.stated f c s d a) h = refl
 taken-accepted (Said.counted n) h = refl
 taken-accepted (Said.batched n) h = refl
 taken-accepted (Said.refused_pair n i) h = h
+taken-accepted (Said.deletion a c) h = refl
 
 -- The bytes of an accepted batch.
 batch-few : (rule : Rule) (b : Book) (n : ℕ) (zs : List ℤ) → n ≡ length zs → accepted (answer rule b (batch (batch_bytes n zs))) ≡ true

@@ -1,6 +1,6 @@
 -- The most bytes of a number and of an answer.
 -- Assumes nothing.
-use Rattle.std.proofs.Common.{ℕ, zero, suc, ◌+◌, ◌*◌, ◌/◌, ◌%◌, ◌<◌, ◌≤◌, ltb, [], ◌∷◌, length, ℤ, pos, negsuc, arith, length-append, ltb-false, ltb-true}
+use Rattle.std.proofs.Common.{ℕ, zero, suc, ◌+◌, ◌*◌, ◌/◌, ◌%◌, ◌<◌, ◌≤◌, true, false, ltb, [], ◌∷◌, length, ℤ, pos, negsuc, arith, length-append, ltb-false, ltb-true}
 use lib.Signed.{mag}
 use Rattle.laws.specs.Cases.{split}
 use Rattle.journal.specs.declared.Reason.{Reason}
@@ -56,4 +56,6 @@ said_short (Answer.Calls n) h = simp length-append (omega (arith, number_short n
 said_short (Answer.Special c) h = simp length-append (omega (arith, number_short c h))
 said_short (Answer.Batch n) h = simp length-append (omega (arith, number_short n h))
 said_short (Answer.RefusedPair n i) h = simp length-append (omega (arith, number_short n h.0, number_short i h.1))
+said_short (Answer.Deletion a true) h = simp length-append (omega (arith, number_short a h, number_short 1 (omega arith)))
+said_short (Answer.Deletion a false) h = simp length-append (omega (arith, number_short a h, number_short 0 (omega arith)))
 said_short (Answer.Error l e) h = simp length-append (omega (arith, number_short l h, reason-short e))

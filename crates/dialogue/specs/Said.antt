@@ -34,6 +34,7 @@ SmallNumbers (Answer.Calls n) = Small n
 SmallNumbers (Answer.Special c) = Small c
 SmallNumbers (Answer.Batch n) = Small n
 SmallNumbers (Answer.RefusedPair n i) = Small n × Small i
+SmallNumbers (Answer.Deletion a c) = Small a
 SmallNumbers (Answer.Error l e) = Small l
 
 -- Whether an answer says something is r; its numbers are small.

@@ -4,7 +4,8 @@ use mathlib.Core.Path.{refl}
 use Rattle.laws.specs.Causes.{decide}
 use Rattle.laws.specs.Integers.{larger, sum_of}
 use Rattle.calendar.specs.Civil.{leap, length_in, length_of, first_day, holding, month_of, day_of_month, is_september, in_annual_days, is_first_october}
-use Rattle.manual.specs.Annual.{largest_total, annual_amount}
+use Rattle.manual.specs.Largest.{largest_total, largest_at_least}
+use Rattle.manual.specs.Annual.{annual_amount}
 use Rattle.manual.specs.Charge.{day_charge}
 use Rattle.manual.specs.Check.{exceeds_tolerance, exceeds_each, call_is_made, checked}
 use Rattle.manual.specs.Figures.{wrong_count, all_within, out_of_range}
@@ -23,7 +24,7 @@ use Rattle.book.specs.Account.{open_days, answer, applied, step, run}
 use Rattle.book.specs.Reading.Calls.{base_in, firm_from, open_on, called_in, calls_in, firm_in, open_in}
 use Rattle.book.specs.Reading.Charges.{before, opening_shortfall, days_since, count_short, sum_charges, charged_in, accrued_in}
 use Rattle.book.specs.Reading.Decisions.{settlement_answer, own_causes, own_answer, own_statement, calls_below, decision, with_call, events_of}
-use Rattle.book.specs.Reading.Events.{mine, today_of, with_days, admitted_in, role_in}
+use Rattle.book.specs.Reading.Events.{mine, today_of, with_days, admitted_in, leaving_in, role_in}
 use Rattle.book.specs.Reading.Holdings.{last_lodged, released_since, left_at, position_in, lodged_where, released_where, cover_in, deposited_in}
 use Rattle.book.specs.Reading.Months.{total_in, years_totals, annual_in, next_in}
 use Rattle.laws.specs.Least.{least}
@@ -38,17 +39,18 @@ use Rattle.figures.specs.Batches.{Batches}
 
 pub batches : Batches
 unfolding decide larger sum_of leap length_in length_of first_day holding month_of day_of_month is_september in_annual_days is_first_october
-    largest_total annual_amount day_charge exceeds_tolerance exceeds_each call_is_made checked wrong_count all_within out_of_range minimum_of
-    calls_of_admission admitted_file annual_totals annual_amount_of annual_answer annual_file largest in_places keep open_calls cover_of shortfall_of
-    slots_opened calls_opened firm_raised takes_effect firm_opened next_opened shortfall_opened opened_file counts_through cover_through cover_on emptied_on outside_amounts outside_months
-    check_due deposited settlement_calls settled_answer settle_answer calls_settled settled_file file_statement total_here total_at with_total
-    totals_from fresh_book file_at with_file if_numbered if_admitted file_answer file_after calls_added opened_if_admitted open_day open_days answer
-    applied step run base_in firm_from open_on called_in calls_in firm_in open_in before opening_shortfall days_since count_short sum_charges charged_in
-    accrued_in settlement_answer own_causes own_answer own_statement calls_below decision with_call events_of mine today_of with_days admitted_in
-    role_in last_lodged released_since left_at position_in lodged_where released_where cover_in deposited_in total_in years_totals annual_in next_in least number_at
-    signed_of month_in count_in offset_at length_at end_at begins_at participant_at rows_at figures_behind figures_at too_short misplaced first_misplaced not_following
-    is_before wrong_length wrong_part first_wrong refused_if form_of first_refused batch_says after_parts part_answer part_decision with_parts newest_first decides
-    answers happened happened_to
+    largest_total largest_at_least annual_amount day_charge exceeds_tolerance exceeds_each call_is_made checked wrong_count all_within out_of_range
+    minimum_of calls_of_admission admitted_file annual_totals annual_amount_of annual_answer annual_file largest in_places keep open_calls cover_of
+    shortfall_of slots_opened calls_opened firm_raised takes_effect firm_opened next_opened shortfall_opened opened_file counts_through cover_through
+    cover_on emptied_on outside_amounts outside_months check_due deposited settlement_calls settled_answer settle_answer calls_settled settled_file
+    file_statement total_here total_at with_total totals_from fresh_book file_at with_file if_numbered if_admitted file_answer file_after calls_added
+    opened_if_admitted open_day open_days answer applied step run base_in firm_from open_on called_in calls_in firm_in open_in before
+    opening_shortfall days_since count_short sum_charges charged_in accrued_in settlement_answer own_causes own_answer own_statement calls_below
+    decision with_call events_of mine today_of with_days admitted_in leaving_in role_in last_lodged released_since left_at position_in lodged_where
+    released_where cover_in deposited_in total_in years_totals annual_in next_in least number_at signed_of month_in count_in offset_at length_at
+    end_at begins_at participant_at rows_at figures_behind figures_at too_short misplaced first_misplaced not_following is_before wrong_length
+    wrong_part first_wrong refused_if form_of first_refused batch_says after_parts part_answer part_decision with_parts newest_first decides answers
+    happened happened_to
 batches =
     record {
       one = refl;

@@ -9,6 +9,9 @@ use Rattle.figures.proofs.Decisions.{decisions}
 use Rattle.figures.proofs.Deposits.{deposits}
 use Rattle.figures.proofs.Files.{files}
 use Rattle.figures.proofs.Batches.{batches}
+use Rattle.figures.proofs.Deletions.{deletions}
+use Rattle.figures.proofs.UnderDeletion.{under-deletion}
+use Rattle.figures.proofs.DeletionLaws.{deletion-laws}
 use Rattle.figures.proofs.Retirement.{retirement}
 use Rattle.figures.proofs.RetirementLaws.{retirement-laws}
 
@@ -23,6 +26,9 @@ boundaries =
       deposits = deposits;
       files = files;
       batches = batches;
+      deletions = deletions;
+      under_deletion = under-deletion;
+      deletion_laws = deletion-laws;
       retirement = retirement;
       retirement_laws = retirement-laws;
     }

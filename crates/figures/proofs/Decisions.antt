@@ -6,7 +6,8 @@ use mathlib.Core.List.{List, [], ◌∷◌}
 use Rattle.laws.specs.Causes.{decide}
 use Rattle.laws.specs.Integers.{larger, sum_of}
 use Rattle.calendar.specs.Civil.{leap, length_in, length_of, first_day, holding, month_of, day_of_month, is_september, in_annual_days, is_first_october}
-use Rattle.manual.specs.Annual.{largest_total, annual_amount}
+use Rattle.manual.specs.Largest.{largest_total, largest_at_least}
+use Rattle.manual.specs.Annual.{annual_amount}
 use Rattle.manual.specs.Charge.{day_charge}
 use Rattle.manual.specs.Check.{exceeds_tolerance, exceeds_each, call_is_made, checked}
 use Rattle.manual.specs.Figures.{wrong_count, all_within, out_of_range}
@@ -19,7 +20,7 @@ use Rattle.book.specs.Account.{fresh_book, fresh_answer, fresh_book_beside}
 use Rattle.book.specs.Reading.Calls.{base_in, firm_from, open_on, called_in, calls_in, firm_in, open_in}
 use Rattle.book.specs.Reading.Charges.{before, opening_shortfall, days_since, count_short, sum_charges, charged_in, accrued_in}
 use Rattle.book.specs.Reading.Decisions.{settlement_answer, own_causes, own_answer, own_statement, calls_below, decision, with_call, events_of}
-use Rattle.book.specs.Reading.Events.{mine, today_of, with_days, admitted_in, role_in}
+use Rattle.book.specs.Reading.Events.{mine, today_of, with_days, admitted_in, leaving_in, role_in}
 use Rattle.book.specs.Reading.Holdings.{last_lodged, released_since, left_at, position_in, lodged_where, released_where, cover_in, deposited_in}
 use Rattle.book.specs.Reading.Months.{total_in, years_totals, annual_in, next_in}
 use Rattle.figures.specs.History.{newest_first, in_turn, decides, answers}
@@ -42,11 +43,12 @@ both s calls c h = ap newest (life s (under new_rule c ∷ in_turn [] calls) h).
 
 pub decisions : Decisions
 unfolding decide larger sum_of leap length_in length_of first_day holding month_of day_of_month is_september in_annual_days is_first_october
-    largest_total annual_amount day_charge exceeds_tolerance exceeds_each call_is_made checked wrong_count all_within out_of_range minimum_of largest
-    keep emptied_on outside_amounts outside_months check_due totals_from fresh_book fresh_answer fresh_book_beside base_in firm_from open_on
-    called_in calls_in firm_in open_in before opening_shortfall days_since count_short sum_charges charged_in accrued_in settlement_answer own_causes
-    own_answer own_statement calls_below decision with_call events_of mine today_of with_days admitted_in role_in last_lodged released_since left_at
-    position_in lodged_where released_where cover_in deposited_in total_in years_totals annual_in next_in newest_first decides
+    largest_total largest_at_least annual_amount day_charge exceeds_tolerance exceeds_each call_is_made checked wrong_count all_within out_of_range
+    minimum_of largest keep emptied_on outside_amounts outside_months check_due totals_from fresh_book fresh_answer fresh_book_beside base_in
+    firm_from open_on called_in calls_in firm_in open_in before opening_shortfall days_since count_short sum_charges charged_in accrued_in
+    settlement_answer own_causes own_answer own_statement calls_below decision with_call events_of mine today_of with_days admitted_in leaving_in
+    role_in last_lodged released_since left_at position_in lodged_where released_where cover_in deposited_in total_in years_totals annual_in next_in
+    newest_first decides
 decisions =
     record {
       both = both;

@@ -7,6 +7,13 @@ pub mod Decisions
 pub mod Deposits
 pub mod Files
 pub mod Batches
+pub mod Deletions
+pub mod UnderDeletion
 pub mod Retirement
 pub mod RetirementLaws
+pub mod Autumn
+pub mod RisingCalls
+pub mod OpenCalls
+pub mod Later
+pub mod DeletionLaws
 pub mod Boundaries

@@ -5,7 +5,8 @@ use Rattle.laws.specs.Causes.{decide}
 use Rattle.laws.specs.Integers.{larger, sum_of}
 use Rattle.laws.specs.Least.{least}
 use Rattle.calendar.specs.Civil.{leap, length_in, length_of, first_day, holding, month_of, day_of_month, is_september, in_annual_days, is_first_october}
-use Rattle.manual.specs.Annual.{largest_total, annual_amount}
+use Rattle.manual.specs.Largest.{largest_total, largest_at_least}
+use Rattle.manual.specs.Annual.{annual_amount}
 use Rattle.manual.specs.Charge.{day_charge}
 use Rattle.manual.specs.Check.{exceeds_tolerance, exceeds_each, call_is_made, checked}
 use Rattle.manual.specs.Figures.{wrong_count, all_within, out_of_range}
@@ -22,7 +23,7 @@ use Rattle.book.specs.Reading.Calls.{base_in, firm_from, open_on, called_in, cal
 use Rattle.book.specs.Reading.Charges.{before, opening_shortfall, days_since, count_short, sum_charges, charged_in, accrued_in}
 use Rattle.book.specs.Reading.Decisions.{settlement_answer, own_causes, own_answer, own_statement, calls_below, decision, with_call, events_of}
 use Rattle.book.specs.Reading.Decisions.{part_decision, with_parts}
-use Rattle.book.specs.Reading.Events.{mine, today_of, with_days, admitted_in, role_in}
+use Rattle.book.specs.Reading.Events.{mine, today_of, with_days, admitted_in, leaving_in, role_in}
 use Rattle.book.specs.Reading.Holdings.{last_lodged, released_since, left_at, position_in, lodged_where, released_where, cover_in, deposited_in}
 use Rattle.book.specs.Reading.Months.{total_in, years_totals, annual_in, next_in}
 use Rattle.figures.specs.History.{newest_first, decides, decides_behind, decides_first, happened, own_behind, shortfalls_behind}
@@ -30,14 +31,14 @@ use Rattle.figures.specs.Retirement.{Retirement}
 
 pub retirement : Retirement
 unfolding decide larger sum_of least leap length_in length_of first_day holding month_of day_of_month is_september in_annual_days is_first_october
-    largest_total annual_amount day_charge exceeds_tolerance exceeds_each call_is_made checked wrong_count all_within out_of_range minimum_of largest
-    keep emptied_on outside_amounts outside_months check_due totals_from number_at signed_of month_in count_in offset_at length_at end_at begins_at
-    participant_at rows_at figures_behind figures_at too_short misplaced first_misplaced not_following is_before wrong_length wrong_part first_wrong
-    refused_if form_of first_refused batch_says base_in firm_from open_on called_in calls_in firm_in open_in before opening_shortfall days_since
-    count_short sum_charges charged_in accrued_in settlement_answer own_causes own_answer own_statement calls_below decision part_decision with_parts
-    with_call events_of mine today_of with_days admitted_in role_in last_lodged released_since left_at position_in lodged_where released_where cover_in
-    deposited_in total_in years_totals annual_in next_in newest_first decides decides_behind decides_first happened own_behind
-    shortfalls_behind
+    largest_total largest_at_least annual_amount day_charge exceeds_tolerance exceeds_each call_is_made checked wrong_count all_within out_of_range
+    minimum_of largest keep emptied_on outside_amounts outside_months check_due totals_from number_at signed_of month_in count_in offset_at length_at
+    end_at begins_at participant_at rows_at figures_behind figures_at too_short misplaced first_misplaced not_following is_before wrong_length
+    wrong_part first_wrong refused_if form_of first_refused batch_says base_in firm_from open_on called_in calls_in firm_in open_in before
+    opening_shortfall days_since count_short sum_charges charged_in accrued_in settlement_answer own_causes own_answer own_statement calls_below
+    decision part_decision with_parts with_call events_of mine today_of with_days admitted_in leaving_in role_in last_lodged released_since left_at
+    position_in lodged_where released_where cover_in deposited_in total_in years_totals annual_in next_in newest_first decides decides_behind
+    decides_first happened own_behind shortfalls_behind
 retirement =
     record {
       role-0 = refl;

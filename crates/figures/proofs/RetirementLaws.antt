@@ -15,13 +15,13 @@ use Rattle.file.specs.Answer.{Answer, refused, done, accepted}
 use Rattle.file.specs.DecideLaws.{none-holds}
 use Rattle.layout.specs.Book.{Book}
 use Rattle.batch.specs.Batch.{month_in, count_in, participant_at, figures_at}
-use Rattle.book.specs.Call.{Act, admit, lodge, release, settle, annual_run, Call, on, advance, statement, calls_made, batch, part_act}
+use Rattle.book.specs.Call.{Act, admit, lodge, release, settle, annual_run, delete, Call, on, advance, statement, calls_made, batch, part_act}
 use Rattle.book.specs.Rule.{Rule, old_rule, new_rule, MadeCall, under, history}
 use Rattle.book.specs.Account.{file_at, if_numbered, file_answer, answer, applied, step}
 use Rattle.book.specs.Life.{answers_of, decisions_of}
 use Rattle.book.specs.Reading.Calls.{calls_in}
 use Rattle.book.specs.Reading.Decisions.{cause, own_causes, own_answer, retirement, decision, with_parts, with_call, events_of}
-use Rattle.book.specs.Reading.Events.{Event, Own, day_opened, act, mine, today_of, with_days, admitted_in, role_in}
+use Rattle.book.specs.Reading.Events.{Event, Own, day_opened, act, mine, today_of, with_days, admitted_in, leaving_in, role_in}
 use Rattle.book.proofs.Participant.Lawful.{NoneHolds}
 use Rattle.book.proofs.Participant.Decide.{decide-false, none_before}
 use Rattle.book.proofs.History.Events.{mine-did}
@@ -87,6 +87,7 @@ decided-alike s events (on p (lodge k h)) e = refl
 decided-alike s events (on p (release k a)) e = refl
 decided-alike s events (on p (settle m figures)) e = refl
 decided-alike s events (on p annual_run) e = refl
+decided-alike s events (on p delete) e = refl
 decided-alike s events (advance day budget) e = refl
 decided-alike s events (statement p) e = refl
 decided-alike s events calls_made e = refl
@@ -101,6 +102,7 @@ answered-alike b (on p (lodge k h)) e = refl
 answered-alike b (on p (release k a)) e = refl
 answered-alike b (on p (settle m figures)) e = refl
 answered-alike b (on p annual_run) e = refl
+answered-alike b (on p delete) e = refl
 answered-alike b (advance day budget) e = refl
 answered-alike b (statement p) e = refl
 answered-alike b calls_made e = refl
@@ -158,22 +160,23 @@ abbrev Stays : List Own → List Own → Type 0
 Stays old new = admitted_in old ≡ true → (admitted_in new ≡ true) × (role_in new ≡ role_in old)
 
 act-stays : (t : ℕ) (a : Act) (own : List Own) → NoneHolds (own_causes t own a) → Stays own (act t a ∷ own)
-unfolding own_causes admitted_in role_in
+unfolding own_causes admitted_in leaving_in role_in
 act-stays t (admit role) own none h = clash h none.0
 act-stays t (lodge k x) own none h = (h, refl)
 act-stays t (release k a) own none h = (h, refl)
 act-stays t (settle m figures) own none h = (h, refl)
 act-stays t annual_run own none h = (h, refl)
+act-stays t delete own none h = (h, refl)
 
 days-stay : (p n t : ℕ) (events : List Event) → Stays (mine p events) (mine p (with_days n t events))
-unfolding admitted_in role_in
+unfolding admitted_in leaving_in role_in
 days-stay p n t events h = (
   after-days admitted_in (λ d own. refl) p n t events ∙ h,
   after-days role_in (λ d own. refl) p n t events,
 )
 
 parts_stay : (p t : ℕ) (file : List ℕ) (k : ℕ) (events : List Event) → Stays (mine p events) (mine p (with_parts t file k events))
-unfolding admitted_in role_in
+unfolding admitted_in leaving_in role_in
 parts_stay p t file k events h = (
   after-parts admitted_in (λ d m figures own. refl) p t file k events ∙ h,
   after-parts role_in (λ d m figures own. refl) p t file k events,
@@ -220,6 +223,7 @@ act-other s events q (lodge k x) made h = h
 act-other s events q (release k a) made h = h
 act-other s events q (settle m figures) made h = h
 act-other s events q annual_run made h = h
+act-other s events q delete made h = h
 
 call-other : (s : ℕ) (events : List Event) (c : Call) (p : ℕ) → accepted (decision new_rule s events c) ≡ true
     → Other (mine p events) → Other (mine p (with_call s events c))

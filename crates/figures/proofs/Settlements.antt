@@ -4,7 +4,8 @@ use mathlib.Core.Path.{refl}
 use Rattle.laws.specs.Causes.{decide}
 use Rattle.laws.specs.Integers.{larger, sum_of}
 use Rattle.calendar.specs.Civil.{is_september}
-use Rattle.manual.specs.Annual.{largest_total, annual_amount}
+use Rattle.manual.specs.Largest.{largest_total, largest_at_least}
+use Rattle.manual.specs.Annual.{annual_amount}
 use Rattle.manual.specs.Charge.{day_charge}
 use Rattle.manual.specs.Check.{exceeds_tolerance, exceeds_each, call_is_made, checked}
 use Rattle.manual.specs.Figures.{wrong_count, all_within, out_of_range}
@@ -15,7 +16,7 @@ use Rattle.file.specs.Totals.{totals_from}
 use Rattle.figures.specs.Settlements.{Settlements}
 
 pub settlements : Settlements
-unfolding decide larger sum_of is_september largest_total annual_amount day_charge exceeds_tolerance exceeds_each call_is_made checked wrong_count
+unfolding decide larger sum_of is_september largest_total largest_at_least annual_amount day_charge exceeds_tolerance exceeds_each call_is_made checked wrong_count
     all_within out_of_range minimum_of largest keep outside_months check_due totals_from
 settlements =
     record {

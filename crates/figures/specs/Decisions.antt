@@ -186,7 +186,7 @@ pub record Decisions : Type 0 where
   pub settle-12-before-11 : decides 60 (admits 3 ∷ []) (settles 1 1000000000001) ≡ refused 12
   pub settle-10-before-11 : decides 60 (admits 3 ∷ []) (on 0 (settle 0 (pos 1000000000001 ∷ []))) ≡ refused 10
   pub settle-11-before-13 : decides 60 four_calls (settles 0 1000000000001) ≡ refused 11
-  -- ---- 'Annual run': "1, 2, 14"
+  -- ---- 'Annual run': "1, 2, 14"; 25 behind them, since paper 02, Ask 4, has its facts in `UnderDeletion`
   pub annual-participant : decides 244 [] (on 64 annual_run) ≡ refused 1
   pub annual-not-admitted : decides 244 [] runs_annual ≡ refused 2
   pub annual-2-before-14 : decides 243 [] runs_annual ≡ refused 2

@@ -2,7 +2,8 @@
 -- proofs/Table.antt closes. Amounts are cents, charges are mills, rates are hundredths of a percent.
 -- Assumes nothing.
 use Rattle.std.specs.Prelude.{ℕ, ◌≡◌, List, [], ◌∷◌, ◌++◌, Option, Some, None, Ok, ℤ, pos, negsuc, ◌-ℤ◌}
-use Rattle.manual.specs.Annual.{largest_total, annual_amount}
+use Rattle.manual.specs.Largest.{largest_total}
+use Rattle.manual.specs.Annual.{annual_amount}
 use Rattle.manual.specs.Check.{checked}
 use Rattle.manual.specs.Charge.{day_charge}
 use Rattle.manual.specs.declared.Call.{Call}

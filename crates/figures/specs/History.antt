@@ -3,7 +3,7 @@
 use Rattle.std.specs.Prelude.{ℕ, List, [], ◌∷◌, map, ℤ, pos}
 use Rattle.file.specs.declared.Position.TheVariants.{Cash, Letter}
 use Rattle.file.specs.Answer.{Answer}
-use Rattle.book.specs.Call.{admit, lodge, release, settle, annual_run, Call, on, advance}
+use Rattle.book.specs.Call.{admit, lodge, release, settle, annual_run, delete, Call, on, advance}
 use Rattle.book.specs.Rule.{old_rule, new_rule, MadeCall, history}
 use Rattle.book.specs.Account.{file_at, answer, run}
 use Rattle.book.specs.Reading.Events.{Event, Own, mine}
@@ -89,6 +89,9 @@ settles m e = on 0 (settle m (five e))
 
 abbrev pub runs_annual : Call
 runs_annual = on 0 annual_run
+
+abbrev pub deletes : Call
+deletes = on 0 delete
 
 -- Days opened up to day d, however many.
 abbrev pub to_day : ℕ → Call

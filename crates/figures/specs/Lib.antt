@@ -9,6 +9,9 @@ pub mod Deposits
 pub mod Written
 pub mod Files
 pub mod Batches
+pub mod Deletions
+pub mod UnderDeletion
+pub mod DeletionLaws
 pub mod Retirement
 pub mod RetirementLaws
 pub mod Boundaries

@@ -5,7 +5,7 @@ use Rattle.laws.specs.Lists.{All}
 use Rattle.manual.specs.Annual.{annual_amount}
 use Rattle.file.specs.Answer.{refused, accepted}
 use Rattle.layout.specs.Book.{Book}
-use Rattle.book.specs.Call.{admit, lodge, release, settle, annual_run, Call, on, advance, statement, calls_made, batch}
+use Rattle.book.specs.Call.{admit, lodge, release, settle, annual_run, delete, Call, on, advance, statement, calls_made, batch}
 use Rattle.book.specs.Rule.{old_rule, new_rule, MadeCall, history}
 use Rattle.book.specs.Account.{answer, step}
 use Rattle.book.specs.Reading.Events.{Event, Own, act, mine, admitted_in, role_in}
@@ -20,6 +20,7 @@ admits_role1 (on p (lodge k h)) = false
 admits_role1 (on p (release k a)) = false
 admits_role1 (on p (settle m figures)) = false
 admits_role1 (on p annual_run) = false
+admits_role1 (on p delete) = false
 admits_role1 (advance day budget) = false
 admits_role1 (statement p) = false
 admits_role1 calls_made = false

@@ -6,7 +6,8 @@ use Rattle.laws.specs.Integers.{sum_of, larger}
 use Rattle.manual.specs.Minimum.{minimum_of}
 use Rattle.manual.specs.Figures.{wrong_count, out_of_range}
 use Rattle.manual.specs.Check.{exceeds_tolerance, exceeds_each, call_is_made, checked}
-use Rattle.manual.specs.Annual.{largest_total, annual_amount}
+use Rattle.manual.specs.Largest.{largest_total}
+use Rattle.manual.specs.Annual.{annual_amount}
 use Rattle.manual.specs.Charge.{day_charge}
 use Rattle.file.specs.declared.OpenCall.{OpenCall}
 use Rattle.file.specs.Answer.{refused, done, called, covered}

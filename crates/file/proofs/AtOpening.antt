@@ -64,6 +64,7 @@ abbrev pub with_firm : File → ℕ → File
 with_firm f firm =
     record {
       admitted = f.admitted;
+      leaving = f.leaving;
       role = f.role;
       firm = firm;
       slots = f.slots;
@@ -79,6 +80,7 @@ abbrev pub with_call : File → OpenCall → File
 with_call f c =
     record {
       admitted = f.admitted;
+      leaving = f.leaving;
       role = f.role;
       firm = f.firm;
       slots = f.slots;
@@ -143,6 +145,7 @@ module _ (f r : File) (d i : ℕ) (items : List OpenCall) (z : OpenCall) (short 
 pub calls_none : (d : ℕ) (f : File)
     → record {
       admitted = f.admitted;
+      leaving = f.leaving;
       role = f.role;
       firm = f.firm;
       slots = f.slots;
@@ -216,6 +219,7 @@ module _ (f : File) (d : ℕ) (slots : List Slot) (slots-is : slots ≡ map (slo
   pub file-opened : (covered shortfall : ℕ) → covered ≡ cover_on d h.slots → shortfall ≡ h.firm - covered → (charge : ℕ) → charge ≡ day_charge shortfall →
       record {
         admitted = h.admitted;
+        leaving = h.leaving;
         role = h.role;
         firm = h.firm;
         slots = h.slots;

@@ -4,3 +4,5 @@ pub mod Releases
 pub mod AtOpening
 pub mod Settling
 pub mod Windows
+pub mod Runs
+pub mod Deletions

@@ -19,6 +19,7 @@ abbrev pub no_file : File
 no_file =
     record {
       admitted = false;
+      leaving = false;
       role = 0;
       firm = 0;
       slots = replicate 8 (slot_of Empty);
@@ -35,6 +36,7 @@ unfoldable pub admitted_file : ℕ → ℕ → File
 admitted_file t role =
     record {
       admitted = true;
+      leaving = false;
       role = role;
       firm = 0;
       slots = replicate 8 (slot_of Empty);

@@ -1,4 +1,4 @@
--- Paper 01, 'Annual run' (participant), 1 to 10 September, P being that month. Its only cause is 14.
+-- Paper 01, 'Annual run' (participant), 1 to 10 September, P being that month. Causes in their order: 14, and since paper 02, Ask 4, 25.
 -- Assumes nothing.
 use Rattle.std.specs.Prelude.{ℕ, cond, not, List, [], ◌∷◌, length, ℤ}
 use Rattle.calendar.specs.Civil.{month_of, in_annual_days}
@@ -16,10 +16,13 @@ annual_totals f t = year_totals (total_at f.totals) (month_of t)
 unfoldable pub annual_amount_of : File → ℕ → ℕ
 annual_amount_of f t = annual_amount f.role (annual_totals f t)
 
--- "The answer gives it and how many months were recorded."
+-- "The answer gives it and how many months were recorded." Paper 02, Ask 4: "The annual run no longer takes such a file", one placed under deletion:
+-- "25 annual run for such a file, after 14".
 unfoldable pub annual_answer : File → ℕ → Answer
 annual_answer f t =
-    decide refused (record { number = 14; holds = not (in_annual_days t) } ∷ []) (annual (annual_amount_of f t) (length (annual_totals f t)))
+    decide refused
+    (record { number = 14; holds = not (in_annual_days t) } ∷ record { number = 25; holds = f.leaving } ∷ [])
+    (annual (annual_amount_of f t) (length (annual_totals f t)))
 
 -- The file after it: "It becomes the next amount, replacing an earlier one."
 unfoldable pub annual_file : File → ℕ → File

@@ -10,6 +10,7 @@ use Rattle.refusal.specs.Numbers.{number_of}
 use Rattle.file.specs.declared.Settled.{Settled}
 use Rattle.file.specs.declared.Settled.TheVariants as Settlements
 use Rattle.file.specs.declared.AnnualRun.{AnnualRun}
+use Rattle.file.specs.declared.Deletion.{Deletion}
 use Rattle.file.specs.declared.Statement.{Statement}
 
 -- The answers of paper 01, 'The calls' and 'Causes of refusal', and of paper 02.
@@ -36,6 +37,8 @@ pub data Answer : Type 0 where
   batched : ℕ → Answer
   -- .. "The first refusal is answered with its pair's index": the number, and the index
   refused_pair : ℕ → ℕ → Answer
+  -- paper 02, Ask 4, of a deletion: "The answer gives the amount and whether it became a call."
+  deletion : ℕ → Bool → Answer
 
 -- Whether an answer is no refusal.
 abbrev pub accepted : Answer → Bool
@@ -50,6 +53,7 @@ accepted (stated f c s d a) = true
 accepted (counted n) = true
 accepted (batched n) = true
 accepted (refused_pair n i) = false
+accepted (deletion a calls) = true
 
 -- The answer that a result stands for: that of its value, or the number of its refusal.
 abbrev pub says : {A : Type 0} → (A → Answer) → Result A Refusal → Answer
@@ -72,6 +76,10 @@ settled_says = says settlement_says
 -- That of an annual run.
 abbrev pub annual_says : Result AnnualRun Refusal → Answer
 annual_says = says (λ run. annual run.amount run.months)
+
+-- That of a deletion.
+abbrev pub deletion_says : Result Deletion Refusal → Answer
+deletion_says = says (λ d. deletion d.amount d.called)
 
 -- The answer that a statement stands for.
 abbrev pub statement_says : Statement → Answer

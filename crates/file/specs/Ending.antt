@@ -12,6 +12,7 @@ abbrev pub with_calls : File → ℕ → List OpenCall → File
 with_calls f firm calls =
     record {
       admitted = f.admitted;
+      leaving = f.leaving;
       role = f.role;
       firm = firm;
       slots = f.slots;
@@ -37,6 +38,7 @@ unfoldable pub next_taken : ℕ → File → File
 next_taken d f =
     record {
       admitted = f.admitted;
+      leaving = f.leaving;
       role = f.role;
       firm = cond (takes_effect f d) f.next.amount f.firm;
       slots = f.slots;

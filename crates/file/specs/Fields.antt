@@ -37,6 +37,7 @@ abbrev pub with_slots : File → List Slot → File
 with_slots f slots =
     record {
       admitted = f.admitted;
+      leaving = f.leaving;
       role = f.role;
       firm = f.firm;
       slots = slots;
@@ -53,6 +54,7 @@ abbrev pub with_totals : File → List MonthTotal → List OpenCall → File
 with_totals f totals calls =
     record {
       admitted = f.admitted;
+      leaving = f.leaving;
       role = f.role;
       firm = f.firm;
       slots = f.slots;
@@ -64,11 +66,29 @@ with_totals f totals calls =
       accrued = f.accrued;
     }
 
+-- The file placed under deletion, with other open calls.
+abbrev pub with_deletion : File → List OpenCall → File
+with_deletion f calls =
+    record {
+      admitted = f.admitted;
+      leaving = true;
+      role = f.role;
+      firm = f.firm;
+      slots = f.slots;
+      calls = in_places calls;
+      count = length calls;
+      next = f.next;
+      totals = f.totals;
+      charged = f.charged;
+      accrued = f.accrued;
+    }
+
 -- The file with another next amount.
 abbrev pub with_next : File → NextAmount → File
 with_next f next =
     record {
       admitted = f.admitted;
+      leaving = f.leaving;
       role = f.role;
       firm = f.firm;
       slots = f.slots;

@@ -1,4 +1,4 @@
--- A file keeps its bounds by every opening, settlement and annual run.
+-- A file keeps its bounds by every opening, settlement, annual run and deletion.
 -- Assumes nothing.
 use Rattle.std.specs.Prelude.{ℕ, suc, ◌+◌, ◌*◌, ◌-◌, ◌%◌, ◌≤◌, ◌≡◌, Bool, true, false, cond, ◌&&◌, List, [], ◌∷◌, eqb, length, take, ℤ}
 use Rattle.std.proofs.Common.{sym, ap, ◌∙◌, arith, length-take}
@@ -11,7 +11,7 @@ use Rattle.laws.specs.Cases.{split}
 use Rattle.calendar.specs.Civil.{month_of}
 use Rattle.manual.specs.Charge.{day_charge}
 use Rattle.manual.specs.Figures.{sum_of, wrong_count, out_of_range}
-use Rattle.manual.specs.Laws.{day_charge-zero, day_charge-bound, summed-total, annual_amount-bound}
+use Rattle.manual.specs.Laws.{day_charge-zero, day_charge-bound, summed-total, annual_amount-bound, deletion_amount-bound}
 use Rattle.file.specs.declared.File.{File}
 use Rattle.file.specs.declared.Position.{Position}
 use Rattle.file.specs.declared.Slot.{Slot}
@@ -23,9 +23,11 @@ use Rattle.file.specs.Calls.{amounts_of, call_of, in_places, keep, ends_at, stay
 use Rattle.file.specs.CallLaws.{keep-length, keep_all, largest-bound, amounts-all, in_places-take, in_places-length, in_places-all}
 use Rattle.file.specs.Totals.{total_of, total_at, with_total, totals_from}
 use Rattle.file.specs.TotalLaws.{totals-within}
-use Rattle.file.specs.Fields.{open_calls, set_to, with_totals, with_next}
+use Rattle.file.specs.Fields.{open_calls, set_to, with_totals, with_next, with_deletion}
 use Rattle.file.specs.Settle.{settlement_calls, settle_answer, calls_settled, settled_file}
 use Rattle.file.specs.Annual.{annual_totals, annual_amount_of, annual_answer, annual_file}
+use Rattle.file.specs.Deletion.{deletion_totals, deletion_amount_of, deletion_calls, deletion_answer, calls_deleted, deleted_file}
+use Rattle.file.specs.DeletionLaws.{last_within}
 use Rattle.file.specs.Opening.{slots_opened, calls_opened, firm_raised, takes_effect, firm_opened, next_opened, shortfall_opened, opened_file}
 use Rattle.file.specs.Sound.{Sound, SoundPosition, SoundCall, total_bound}
 use Rattle.file.specs.DecideLaws.{none-holds}
@@ -199,6 +201,54 @@ annual-sound f t s =
       places = s.places;
       firm = s.firm;
       next = annual-bound f t s;
+      totals = s.totals;
+      charged = s.charged;
+      accrued = s.accrued;
+    })
+    s
+
+-- ---- a deletion
+
+pub deletion-bound : (f : File) (t : ℕ) → Sound t f → deletion_amount_of f t ≤ total_bound
+unfolding deletion_amount_of deletion_totals
+deletion-bound f t s =
+    deletion_amount-bound total_bound _
+    (last_within total_bound (totals_from (total_at f.totals) (month_of t - 14) (month_of t - 1 - (month_of t - 14)))
+    (totals-within total_bound f.totals s.totals (month_of t - 14) (month_of t - 1 - (month_of t - 14))))
+
+module _ (f : File) (t : ℕ) (s : Sound t f) (a : accepted (deletion_answer f t) ≡ true) where
+  -- it is no fifth call
+  deleted-count : length (calls_deleted f t) ≤ 4
+  unfolding calls_deleted deletion_answer
+  deleted-count =
+      let none = none-holds _ _ a in
+      split (deletion_calls f t)
+      (λ e.
+      let room = leb-false 4 (length (open_calls f)) (sym (ap (λ (b : Bool). b && leb 4 (length (open_calls f))) e) ∙ none.1.0) in
+      rw e (omega (arith, length-append (open_calls f) (call_of (deletion_amount_of f t) (t + 10) ∷ []), room)))
+      (λ e. rw e (omega (arith, open-length f, s.count)))
+
+  deleted-calls : All SoundCall (calls_deleted f t)
+  unfolding calls_deleted
+  deleted-calls =
+      split (deletion_calls f t)
+      (λ e. rw e (all_append SoundCall (open_calls f) (call_of (deletion_amount_of f t) (t + 10) ∷ []) (open-sound f s.calls)
+      (record { amount = deletion-bound f t s; last = omega (arith, s.day) }, tt)))
+      (λ e. rw e (open-sound f s.calls))
+
+-- the file after a deletion
+pub deleted-sound : (f : File) (t : ℕ) → Sound t f → Sound t (deleted_file f t)
+unfolding deleted_file open_calls
+deleted-sound f t s =
+    either-sound t (accepted (deletion_answer f t)) (with_deletion f (calls_deleted f t)) f
+    (λ a. record {
+      day = s.day;
+      slots = s.slots;
+      calls = in_places-all SoundCall (calls_deleted f t) no-call-sound (deleted-calls f t s a);
+      count = deleted-count f t s a;
+      places = places-kept (calls_deleted f t);
+      firm = s.firm;
+      next = s.next;
       totals = s.totals;
       charged = s.charged;
       accrued = s.accrued;

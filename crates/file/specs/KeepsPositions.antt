@@ -148,6 +148,7 @@ blank-sound : (t role : ℕ) (admitted : Bool) (calls : List OpenCall) (count : 
     → Sound t
     (record {
       admitted = admitted;
+      leaving = false;
       role = role;
       firm = 0;
       slots = replicate 8 (slot_of Empty);

@@ -13,6 +13,8 @@ pub mod Settle
 pub mod DueCheck
 pub mod CheckLaws
 pub mod Annual
+pub mod Deletion
+pub mod DeletionLaws
 pub mod Opening
 pub mod Ending
 pub mod Statement

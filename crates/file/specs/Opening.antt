@@ -43,6 +43,7 @@ unfoldable pub opened_file : File → ℕ → File
 opened_file f d =
     record {
       admitted = f.admitted;
+      leaving = f.leaving;
       role = f.role;
       firm = firm_opened f d;
       slots = slots_opened f d;

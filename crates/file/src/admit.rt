@@ -45,6 +45,7 @@ impl File {
     {
         File {
             admitted: false,
+            leaving: false,
             role: 0,
             firm: 0,
             slots: [Slot::EMPTY; 8],

@@ -10,9 +10,11 @@ mod admit;
 mod annual;
 pub mod cover;
 pub mod holding;
+mod leaving;
 mod opening;
 pub mod release;
 pub mod settle;
+mod window;
 
 // A position of a file: nothing, cash with its amount, or a letter with its amount, first and last day, both included.
 #[derive(Clone, Copy)]
@@ -59,12 +61,13 @@ pub fn ring_place(month: Month) -> usize
     (month.0 % 16) as usize
 }
 
-// A participant's file. The open calls are the first `count` of `calls`, oldest first, with zeros behind them; a month's total, where
-// recorded, is at its `ring_place` of `totals`.
-// Kept: `admitted` and `count`: by the C interface a file is read from any words, whatever they hold; a list of the open calls needs a heap.
+// A participant's file; it is `leaving` once the participant was placed under deletion. The open calls are the first `count` of `calls`, oldest
+// first, with zeros behind them; a month's total, where recorded, is at its `ring_place` of `totals`.
+// Kept: `admitted`, `leaving` and `count`: by the C interface a file is read from any words, whatever they hold; a list of open calls needs a heap.
 #[derive(Clone, Copy)]
 pub struct File {
     pub admitted: bool,
+    pub leaving: bool,
     // Kept: the role is a number, since the C interface lends it as a word, of which a well-formed book may hold any.
     pub role: u64,
     pub firm: u64,
@@ -93,6 +96,13 @@ pub enum Settled {
 pub struct AnnualRun {
     pub amount: u64,
     pub months: u64,
+}
+
+// What a deletion answers that isn't refused: the amount, and whether it became a call.
+#[derive(Clone, Copy)]
+pub struct Deletion {
+    pub amount: u64,
+    pub called: bool,
 }
 
 // A statement: firm amount, cover, shortfall, days charged, accrued charge.

@@ -2,11 +2,10 @@
 -- Assumes nothing.
 use Prim.Native.Nat.{ℕ, zero, suc, ◌+◌, ◌-◌, ◌≤◌, ◌<◌}
 use mathlib.Core.Path.{◌≡◌, sym, ap, subst, ◌∙◌}
-use mathlib.Core.Bool.{Bool, true, false, not, true≢false}
+use mathlib.Core.Bool.{Bool, true, false, true≢false}
 use mathlib.Core.List.{List}
 use native.Mathlib.Omega.{arith}
 use native.Mathlib.Numerals.{add-one}
-use borrow.Author.Tests.{eq-eqb, ne_eqb}
 use lib.Dec.{eqb}
 use lib.ListN.{length, get_or, take, drop, replicate, length-take, length-drop}
 use lib.Seq.{ext_get_or, get_or-take, get_or-drop}
@@ -18,6 +17,7 @@ use Rattle.file.specs.declared.File.{File}
 use Rattle.file.specs.Admit.{no_file}
 use Rattle.file.specs.Sound.{Sound}
 use Rattle.file.specs.KeepsPositions.{none-sound}
+use Rattle.layout.specs.Parts.{admitted_of}
 use Rattle.layout.specs.Files.{file_of_words, words_at, file_words, Put}
 use Rattle.layout.proofs.Written.{length-written, written_in}
 use Rattle.layout.proofs.FileLaws.{file-ext}
@@ -113,25 +113,20 @@ module _ (t : ℕ) (l : List ℕ) (at : ℕ) where
   unfolding SoundAt
   blank-sound day e = subst (Sound t) (sym e) (none-sound t day)
 
-  -- A first word of 0 says that nobody is admitted.
-  not-admitted : get_or l (at + 1) 0 ≡ 0 → f.admitted ≡ false
+  -- The first word says whether somebody is admitted.
+  admitted-is : (a : Bool) → admitted_of (get_or l (at + 1) 0) ≡ a → f.admitted ≡ a
   unfolding file_of_words
-  not-admitted e = ap not (eq-eqb (get_or l (at + 1) 0) 0 e)
-
-  -- Another says that somebody is.
-  is-admitted : (get_or l (at + 1) 0 ≡ 0 → ⊥) → f.admitted ≡ true
-  unfolding file_of_words
-  is-admitted e = ap not (ne_eqb (get_or l (at + 1) 0) 0 e)
+  admitted-is a e = e
 
   -- Where nobody is admitted, whether they are zeros decides it.
-  pub blank-formed : (q r : Bool) → t ≤ 29219 → Decides q (Canonical l at) → q ≡ true → get_or l (at + 1) 0 ≡ 0 → Decides r (Blank l at)
+  pub blank-formed : (q r : Bool) → t ≤ 29219 → Decides q (Canonical l at) → q ≡ true → admitted_of (get_or l (at + 1) 0) ≡ false → Decides r (Blank l at)
       → Decides r (FormedFile t l at)
   blank-formed q r day c e z d =
       as-well d (λ b. record { canonical = c.yes e; sound = blank-sound day (file-none b); blank = λ n. file-none b })
-      (λ s. none-blank (c.yes e) (s.blank (not-admitted z)))
+      (λ s. none-blank (c.yes e) (s.blank (admitted-is false z)))
 
   -- Where somebody is, whether the file is sound decides it.
-  pub sound-formed : (q r : Bool) → Decides q (Canonical l at) → q ≡ true → (get_or l (at + 1) 0 ≡ 0 → ⊥) → Decides r (SoundAt t l at)
+  pub sound-formed : (q r : Bool) → Decides q (Canonical l at) → q ≡ true → admitted_of (get_or l (at + 1) 0) ≡ true → Decides r (SoundAt t l at)
       → Decides r (FormedFile t l at)
   sound-formed q r c e z d =
-      as-well d (λ s. record { canonical = c.yes e; sound = s; blank = λ n. clash (is-admitted z) n }) (λ s. s.sound)
+      as-well d (λ s. record { canonical = c.yes e; sound = s; blank = λ n. clash (admitted-is true z) n }) (λ s. s.sound)

@@ -7,6 +7,7 @@ ghost use Rattle.formed.specs.Checks.{SlotAt, CallAt, TotalAt, SoundAmounts, Sou
 use crate::parts::{BOUND, is_sound_call, is_sound_position};
 use file::{OpenCall, Slot};
 use layout::files::{file_at, put_file};
+use layout::parts::is_admitted;
 use layout::rows::{Row, read_row};
 
 // The words of a file behind a place, and the day on which they are judged.
@@ -122,10 +123,10 @@ impl<'a> FileWords<'a> {
         ensures { Decides result (FormedFile self.entry.today self.entry.words.now self.entry.at) }
     {
         self.is_canonical()
-            && if self.word(1) == 0 {
-                self.is_blank()
-            } else {
+            && if is_admitted(self.word(1)) {
                 self.is_sound()
+            } else {
+                self.is_blank()
             }
     }
 }

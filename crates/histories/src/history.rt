@@ -31,8 +31,8 @@ pub struct History {
     pub files: Vec<u8>,
 }
 
-// How many words of a call stand behind its kind in the text, a list and its length left out, for each kind that has some.
-const WORDS_BEHIND: [usize; 8] = [2, 3, 5, 3, 2, 1, 2, 1];
+// How many words of a call stand behind its kind in the text, a list and its length left out; a kind above has none.
+const WORDS_BEHIND: [usize; 10] = [2, 3, 5, 3, 2, 1, 2, 1, 0, 1];
 
 impl History {
     // Reads a history: its text begins with the start day, the length of its first stretch, and the number of its calls.

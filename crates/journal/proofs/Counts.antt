@@ -18,7 +18,7 @@ use Rattle.journal.specs.Names.{call_names}
 use Rattle.journal.specs.Fields.{Left, more, fault, field_of, lodged_field, closed, figures_of, list_of, on_lists, lists_of, file_of, checked_file, ended}
 use Rattle.journal.specs.Grammar.{Parsed, plain, are_marks, lengths_of, length_list, total, day_numbered, month_numbered}
 use Rattle.journal.specs.Grammar.{fresh_of, admit_of, cash_of, letter_of, lodge_of, release_of, settle_of}
-use Rattle.journal.specs.Grammar.{annual_of, advance_of, statement_of, special_of, filed, batch_of, calls_of, named_call, words_of, parsed}
+use Rattle.journal.specs.Grammar.{annual_of, advance_of, statement_of, delete_of, special_of, filed, batch_of, calls_of, named_call, words_of, parsed}
 use Rattle.journal.specs.declared.Reason.{Reason}
 use Rattle.journal.specs.declared.Request.{Request}
 use Rattle.journal.specs.declared.fields.Kind.{Kind}
@@ -41,6 +41,7 @@ count_of Request.Calls = 0
 count_of (Request.Special n) = total (length_list n)
 count_of (Request.Batch n) = n
 count_of Request.RoleRetired = 0
+count_of (Request.Delete p) = 0
 count_of Request.Report = 0
 count_of (Request.Error e) = 0
 
@@ -60,6 +61,7 @@ IsCall Request.Calls = Unit {0}
 IsCall (Request.Special n) = Unit {0}
 IsCall (Request.Batch n) = Unit {0}
 IsCall Request.RoleRetired = Unit {0}
+IsCall (Request.Delete p) = Unit {0}
 IsCall Request.Report = Unit {0}
 IsCall (Request.Error e) = ⊥
 
@@ -132,6 +134,10 @@ statement-counted : (l : Left) → Counted (plain (statement_of l))
 unfolding statement_of
 statement-counted l = let p = field_of Kind.Natural l in plain-counted p.left (Request.Statement p.value) refl
 
+delete-counted : (l : Left) → Counted (plain (delete_of l))
+unfolding delete_of
+delete-counted l = let p = field_of Kind.Natural l in plain-counted p.left (Request.Delete p.value) refl
+
 settle-counted : (room : ℕ) (l : Left) → Counted (settle_of room l)
 unfolding settle_of Counted
 settle-counted room l =
@@ -184,7 +190,8 @@ call-counted room k l =
     all-default Counted (calls_of room l) k (plain (Request.Error Reason.NoCall)) (λ c. absurd c)
     (fresh-counted l & admit-counted l & lodge-counted l & release-counted l & settle-counted room l & annual-counted l
     & advance-counted l & statement-counted l & plain-counted l Request.Calls refl & special-counted room l
-    & plain-counted l Request.Report refl & batch-counted room l & plain-counted l Request.RoleRetired refl & tt)
+    & plain-counted l Request.Report refl & batch-counted room l & plain-counted l Request.RoleRetired refl
+    & delete-counted l & tt)
 
 words-counted : (room : ℕ) (ws : List (List ℕ)) → Counted (words_of room ws)
 unfolding words_of Counted

@@ -15,7 +15,7 @@ use Rattle.journal.specs.Names.{call_names, role_names, lodged_names, role_of_wo
 use Rattle.journal.specs.Fields.{next_of, faulted, taken, field_of, lodged_field, closed, with_number, next_numbers, words_left}
 use Rattle.journal.specs.Fields.{figures_of, list_of, on_lists, lists_of, file_of, checked_file, ended}
 use Rattle.journal.specs.Grammar.{plain, fresh_of, admit_of, cash_of, letter_of, lodge_of, release_of}
-use Rattle.journal.specs.Grammar.{annual_of, advance_of, statement_of, settle_of, special_of, filed, batch_of, calls_of, named_call, words_of, parsed}
+use Rattle.journal.specs.Grammar.{annual_of, advance_of, statement_of, delete_of, settle_of, special_of, filed, batch_of, calls_of, named_call, words_of, parsed}
 use Rattle.journal.specs.declared.Reason.{Reason}
 use Rattle.journal.specs.declared.Request.{Request}
 
@@ -83,3 +83,16 @@ pub mark-examples :
     × (parsed 0 (text "Role-retired") ≡ plain (Request.Error Reason.NoCall))
 unfolding parsed words_of named_call calls_of uncommented some control blank words apart onto place_in same call_names closed
 mark-examples = (refl, refl, refl, refl)
+
+-- A deletion: its participant; one that is missing; a minus; a word too many; no other case, and no other name.
+pub deletion-examples :
+    (parsed 0 (text "delete 5") ≡ plain (Request.Delete 5))
+    × (parsed 0 (text "\tdelete 05 # leaves") ≡ plain (Request.Delete 5))
+    × (parsed 0 (text "delete") ≡ plain (Request.Error Reason.TooFewWords))
+    × (parsed 0 (text "delete -5") ≡ plain (Request.Error Reason.NotNumber))
+    × (parsed 0 (text "delete 5 1") ≡ plain (Request.Error Reason.TooManyWords))
+    × (parsed 0 (text "Delete 5") ≡ plain (Request.Error Reason.NoCall))
+    × (parsed 0 (text "deletion 5") ≡ plain (Request.Error Reason.NoCall))
+unfolding parsed words_of named_call calls_of uncommented some control blank words apart onto place_in same call_names natural each digit value_from natural_of
+    next_of faulted taken field_of closed delete_of
+deletion-examples = (refl, refl, refl, refl, refl, refl, refl)

@@ -95,7 +95,7 @@ pub call_at : (k n : ℕ) (l : Left) (e g : List ℤ) (r : Request) → n ≡ k 
 call_at k n l e g r q h = rw q h
 
 -- no name
-pub no_call : (l : Left) (n : ℕ) (e : List ℤ) → n ≡ 13 → ParsedIs (named_call (length e) n l) e (Request.Error Reason.NoCall) e
+pub no_call : (l : Left) (n : ℕ) (e : List ℤ) → n ≡ 14 → ParsedIs (named_call (length e) n l) e (Request.Error Reason.NoCall) e
 unfolding named_call calls_of
 no_call l n e q = rw q (record { request = refl; numbers = refl })
 

@@ -21,7 +21,7 @@ use Rattle.journal.specs.Names.{read_number, call_names}
 use Rattle.journal.specs.Fields.{Left, more, fault, next_of, faulted, field_of, closed, file_of, checked_file, ended}
 use Rattle.journal.specs.Fields.{Numbers, with_number, next_numbers, figures_of, words_left, list_of, Lists, on_lists, lists_of}
 use Rattle.journal.specs.Grammar.{Parsed, plain, are_marks, fresh_of, admit_of, lodge_of, release_of}
-use Rattle.journal.specs.Grammar.{settle_of, annual_of, advance_of, statement_of, special_of, filed, batch_of, calls_of, named_call, words_of, parsed}
+use Rattle.journal.specs.Grammar.{settle_of, annual_of, advance_of, statement_of, delete_of, special_of, filed, batch_of, calls_of, named_call, words_of, parsed}
 use Rattle.journal.specs.Steps.{ParsedIs}
 use Rattle.journal.specs.declared.Reason.{Reason}
 use Rattle.journal.specs.declared.Request.{Request}
@@ -113,7 +113,8 @@ call_fits room k l =
     (plain_fits room (fresh_of l) & plain_fits room (admit_of l) & plain_fits room (lodge_of l)
     & plain_fits room (release_of l) & settle-fits room l & plain_fits room (annual_of l) & plain_fits room (advance_of l)
     & plain_fits room (statement_of l) & plain_fits room (closed l Request.Calls) & special-fits room l
-    & plain_fits room (closed l Request.Report) & batch-fits room l & plain_fits room (closed l Request.RoleRetired) & tt)
+    & plain_fits room (closed l Request.Report) & batch-fits room l & plain_fits room (closed l Request.RoleRetired)
+    & plain_fits room (delete_of l) & tt)
 
 words-fit : (room : ℕ) (ws : List (List ℕ)) → Fits room (words_of room ws)
 unfolding words_of

@@ -73,6 +73,10 @@ advance_of l =
 unfoldable pub statement_of : Left → Request
 statement_of l = let p = field_of Kind.Natural l in closed p.left (Request.Statement p.value)
 
+-- `delete P`
+unfoldable pub delete_of : Left → Request
+delete_of l = let p = field_of Kind.Natural l in closed p.left (Request.Delete p.value)
+
 -- What a line is: a call, nothing or an error, and the numbers of its lists in a row or the bytes of its file; of an error, the numbers of
 -- lists before the fault.
 pub record Parsed : Type 0 where
@@ -133,7 +137,7 @@ filed (fault e) zs = plain (Request.Error e)
 unfoldable pub batch_of : ℕ → Left → Parsed
 batch_of room l = let f = file_of l in filed (ended (checked_file room f.word f.left)) (bytes_of_hex f.word)
 
--- The calls by their first word, in the order of their names; any other first word is no call. The last is paper 02, Ask 3: the line that ends
+-- The calls by their first word, in the order of their names; any other first word is no call. The last but one is paper 02, Ask 3: the line that ends
 -- the first stretch of a journal, one word.
 unfoldable pub calls_of : ℕ → Left → List Parsed
 calls_of room l =
@@ -150,6 +154,7 @@ calls_of room l =
     ∷ plain (closed l Request.Report)
     ∷ batch_of room l
     ∷ plain (closed l Request.RoleRetired)
+    ∷ plain (delete_of l)
     ∷ []
 
 unfoldable pub named_call : ℕ → ℕ → Left → Parsed

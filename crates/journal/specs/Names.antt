@@ -8,8 +8,8 @@ use Rattle.words.specs.Dates.{day_in, month_in}
 use Rattle.journal.specs.declared.Reason.{Reason}
 use Rattle.journal.specs.declared.fields.Kind.{Kind}
 
--- 'The journal': the first words of its lines, in the order in which it lists them; and paper 02, Ask 3: the line that ends the first stretch
--- of a journal.
+-- 'The journal': the first words of its lines, in the order in which it lists them; and of paper 02 the line that ends the first stretch of a journal
+-- (Ask 3), and that of a deletion (Ask 4).
 unfoldable pub call_names : List (List ℕ)
 call_names =
     text "fresh"
@@ -25,6 +25,7 @@ call_names =
     ∷ text "report"
     ∷ text "batch"
     ∷ text "role-retired"
+    ∷ text "delete"
     ∷ []
 
 -- "the role's name in lower case", in the order of their numbers: paper 01, 'One participant's file'.

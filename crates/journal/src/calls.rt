@@ -2,7 +2,7 @@
 ghost use Rattle.std.specs.Prelude.{◌≡◌};
 ghost use Rattle.words.specs.Words.{left};
 ghost use Rattle.journal.specs.Fields.{more};
-ghost use Rattle.journal.specs.Grammar.{fresh_of, admit_of, cash_of, letter_of, lodge_of, release_of, annual_of, advance_of, statement_of};
+ghost use Rattle.journal.specs.Grammar.{fresh_of, admit_of, cash_of, letter_of, lodge_of, release_of, annual_of, advance_of, statement_of, delete_of};
 ghost use Rattle.journal.specs.Grammar.{day_numbered, month_numbered};
 ghost use Rattle.journal.specs.Steps.{said};
 
@@ -124,4 +124,14 @@ pub fn statement(words: &mut Words) -> Result<Call, Reason>
 {
     let participant = take(words, Kind::Natural)?;
     closed(words, Request::Statement(participant))
+}
+
+// delete P
+// Kept: the twin of `annual`, as `statement`.
+#[tactic(auto, using(crate::proofs::FieldLaws::closed_late, crate::proofs::FieldLaws::field_fault), unfolding(crate::specs::Grammar::delete_of, crate::specs::Fields::closed))]
+pub fn delete(words: &mut Words) -> Result<Call, Reason>
+    ensures { said result ≡ delete_of (more (left words.old)) }
+{
+    let participant = take(words, Kind::Natural)?;
+    closed(words, Request::Delete(participant))
 }

@@ -88,7 +88,8 @@ impl From<[usize; 7]> for Lengths {
 
 // What a line is: nothing, a call with its arguments, or an error. Participants come first, then positions, then amounts; a settlement has
 // the number of its figures, a special guarantee the lengths of its lists, and a batch the number of its file's bytes. `role-retired` is no
-// call to the book but ends the first stretch of a journal (paper 02, Ask 3), and has no arguments.
+// call to the book but ends the first stretch of a journal (paper 02, Ask 3), and has no arguments. `delete`
+// places a participant under deletion (Ask 4).
 // Kept: counts of figures and bytes, which stand in a lent slice beside a request, since a line is read without a heap.
 // Kept: `Nothing` and `Error` are cases: `parsed`, `asked` and `printed` speak of any, and an Option of a Result would ask two more matches.
 #[derive(Clone, Copy, PartialEq, Eq)]
@@ -107,6 +108,7 @@ pub enum Request {
     Special(Lengths),
     Batch(usize),
     RoleRetired,
+    Delete(u64),
     Report,
     Error(Reason),
 }
@@ -144,6 +146,8 @@ fn call(name: &[u8], words: &mut Words, numbers: &mut [i64]) -> Result<Call, Rea
         batch::batch(words, numbers)
     } else if name == b"role-retired".as_slice() {
         closed(words, Request::RoleRetired)
+    } else if name == b"delete".as_slice() {
+        calls::delete(words)
     } else {
         Err(Reason::NoCall)
     }

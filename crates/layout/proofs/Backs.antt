@@ -12,7 +12,7 @@ use mir.Facts.{to_z-of_z}
 use Rattle.file.specs.declared.OpenCall.{OpenCall}
 use Rattle.file.specs.declared.MonthTotal.{MonthTotal}
 use Rattle.layout.specs.Parts.{number_of, flag_of, flag_word, zigzag_of, open_call_of_words, total_of_words}
-use Rattle.layout.specs.Parts.{written, CallBack, TotalBack}
+use Rattle.layout.specs.Parts.{admitted_of, leaving_of, status_word, written, CallBack, TotalBack}
 use Rattle.layout.proofs.Zigzag.{signed_back}
 
 abbrev small : ℕ
@@ -28,6 +28,21 @@ call_back c h = simp (number-back c.last.0 h)
 pub flag-back : (b : Bool) → flag_of (flag_word b) ≡ b
 flag-back true = refl
 flag-back false = refl
+
+-- The word of a status leads back to it.
+pub admitted-back : (a b : Bool) → admitted_of (status_word a b) ≡ a
+unfolding admitted_of
+admitted-back true true = refl
+admitted-back true false = refl
+admitted-back false true = refl
+admitted-back false false = refl
+
+pub leaving-back : (a b : Bool) → leaving_of (status_word a b) ≡ b
+unfolding leaving_of
+leaving-back true true = refl
+leaving-back true false = refl
+leaving-back false true = refl
+leaving-back false false = refl
 
 pub total-back : (t : MonthTotal) → t.month.0 < small → TotalBack t
 unfolding total_of_words

@@ -15,7 +15,7 @@ use Rattle.laws.specs.Lists.{All, table}
 use Rattle.laws.specs.Tabulated.{length-table, get_d-table, set-table-as, table-ext, replicate-table}
 use Rattle.file.specs.declared.File.{File}
 use Rattle.file.specs.Admit.{no_file}
-use Rattle.layout.specs.Parts.{number_of, slot_of_words, open_call_of_words, total_of_words, signed_of_word, zigzag_of, written}
+use Rattle.layout.specs.Parts.{number_of, admitted_of, leaving_of, slot_of_words, open_call_of_words, total_of_words, signed_of_word, zigzag_of, written}
 use Rattle.layout.specs.Files.{file_of_words, slots_of_words, calls_of_words, totals_of_words, words_at, flat, file_words, Put}
 use Rattle.layout.specs.Words.{place, file_in_words, book_of_words, book_words}
 use Rattle.layout.proofs.Written.{length-written, written-before, written_behind, written-first, written-later}
@@ -191,7 +191,7 @@ canonical-today m d same long h = ap (λ (z : List ℕ). set z 1 d) same ∙ ap 
 
 -- A file of zeros is the file of a participant that isn't admitted.
 pub zero-file : file_of_words (λ (k : ℕ). 0) ≡ no_file
-unfolding file_of_words slots_of_words calls_of_words totals_of_words slot_of_words open_call_of_words total_of_words signed_of_word
+unfolding file_of_words admitted_of leaving_of slots_of_words calls_of_words totals_of_words slot_of_words open_call_of_words total_of_words signed_of_word
 zero-file = refl
 
 -- The words of a fresh book on day d.

@@ -16,12 +16,13 @@ use Rattle.file.specs.declared.Position.TheVariants.{Empty}
 use Rattle.file.specs.Position.{slot_of}
 use Rattle.file.specs.Calls.{call_of}
 use Rattle.file.specs.Totals.{no_total}
-use Rattle.layout.specs.Parts.{flag_of, slot_of_words, open_call_of_words, total_of_words, slot_words, open_call_words, total_words, written, SlotBack}
+use Rattle.layout.specs.Parts.{flag_of, admitted_of, leaving_of}
+use Rattle.layout.specs.Parts.{slot_of_words, open_call_of_words, total_of_words, slot_words, open_call_words, total_words, written, SlotBack}
 use Rattle.layout.specs.Parts.{CallBack, TotalBack}
 use Rattle.layout.specs.Files.{slot_in, slots_of_words, calls_of_words, totals_of_words, file_of_words, words_at, flat, own_words}
 use Rattle.layout.specs.Files.{file_words, Put, PutRows}
 use Rattle.layout.specs.RowLaws.{slots-table}
-use Rattle.layout.proofs.Backs.{flag-back}
+use Rattle.layout.proofs.Backs.{flag-back, admitted-back, leaving-back}
 use Rattle.layout.proofs.Written.{written_next, written_in}
 use Rattle.layout.proofs.Flat.{flat-length, flat-at}
 
@@ -80,7 +81,8 @@ module _ (w v : ℕ → ℕ) (same : (k : ℕ) → 1 ≤ k → k ≤ 96 → w k 
   unfolding file_of_words
   file-ext =
       λ i. record {
-        admitted = flag_of (same 1 (omega arith) (omega arith) i);
+        admitted = admitted_of (same 1 (omega arith) (omega arith) i);
+        leaving = leaving_of (same 1 (omega arith) (omega arith) i);
         role = same 2 (omega arith) (omega arith) i;
         firm = same 3 (omega arith) (omega arith) i;
         slots = slots-ext i;
@@ -197,7 +199,8 @@ module _ (f : File) (eight : length f.slots ≡ 8) (four : length f.calls ≡ 4)
   unfolding file_of_words file_words
   file-back =
       λ i. record {
-        admitted = flag-back f.admitted i;
+        admitted = admitted-back f.admitted f.leaving i;
+        leaving = leaving-back f.admitted f.leaving i;
         role = f.role;
         firm = f.firm;
         slots = slots-back word f.slots (slot_of Empty) eight bs slot-words i;

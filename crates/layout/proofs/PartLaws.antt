@@ -86,6 +86,7 @@ abbrev pub with_months : File → List MonthTotal → File
 with_months f totals =
     record {
       admitted = f.admitted;
+      leaving = f.leaving;
       role = f.role;
       firm = f.firm;
       slots = f.slots;
@@ -102,6 +103,7 @@ abbrev pub with_places : File → List OpenCall → ℕ → File
 with_places f calls count =
     record {
       admitted = f.admitted;
+      leaving = f.leaving;
       role = f.role;
       firm = f.firm;
       slots = f.slots;

@@ -6,7 +6,8 @@ use Rattle.file.specs.declared.File.{File}
 use Rattle.file.specs.declared.Slot.{Slot}
 use Rattle.file.specs.declared.OpenCall.{OpenCall}
 use Rattle.file.specs.declared.MonthTotal.{MonthTotal}
-use Rattle.layout.specs.Parts.{flag_of, flag_word, slot_of_words, open_call_of_words, total_of_words, slot_words, open_call_words, total_words, written}
+use Rattle.layout.specs.Parts.{flag_of, flag_word, admitted_of, leaving_of, status_word}
+use Rattle.layout.specs.Parts.{slot_of_words, open_call_of_words, total_of_words, slot_words, open_call_words, total_words, written}
 
 -- A position, an open call and a month's total whose words begin at a place.
 abbrev pub slot_in : List ℕ → ℕ → Slot
@@ -28,12 +29,13 @@ calls_of_words w = table 4 (λ k. open_call_of_words (w (41 + 2 * k)) (w (42 + 2
 unfoldable pub totals_of_words : (ℕ → ℕ) → List MonthTotal
 totals_of_words w = table 16 (λ k. total_of_words (w (49 + 3 * k)) (w (50 + 3 * k)) (w (51 + 3 * k)))
 
--- The file: its words 1 to 8 are whether it is admitted, its role, the firm amount, the number of open calls, whether a next amount is set, the
--- next amount, the days charged and the accrued charge.
+-- The file: its words 1 to 8 are its status, its role, the firm amount, the number of open calls, whether a next amount is set, the next amount, the
+-- days charged and the accrued charge.
 unfoldable pub file_of_words : (ℕ → ℕ) → File
 file_of_words w =
     record {
-      admitted = flag_of (w 1);
+      admitted = admitted_of (w 1);
+      leaving = leaving_of (w 1);
       role = w 2;
       firm = w 3;
       slots = slots_of_words w;
@@ -57,7 +59,7 @@ flat enc (x ∷ l) = enc x ++ flat enc l
 -- The first eight words of a file.
 abbrev pub own_words : File → List ℕ
 own_words f =
-    flag_word f.admitted ∷ f.role ∷ f.firm ∷ f.count ∷ flag_word f.next.set ∷ f.next.amount ∷ f.charged ∷ f.accrued ∷ []
+    status_word f.admitted f.leaving ∷ f.role ∷ f.firm ∷ f.count ∷ flag_word f.next.set ∷ f.next.amount ∷ f.charged ∷ f.accrued ∷ []
 
 -- The 96 words of a file.
 unfoldable pub file_words : File → List ℕ

@@ -7,7 +7,7 @@ ghost use Rattle.file.specs.Sound.{SoundPosition};
 ghost use Rattle.layout.specs.Parts.{written};
 ghost use Rattle.layout.specs.Files.{slots_of_words, file_of_words, words_at, own_words, Put};
 
-use crate::parts::{flag, flag_word, put_words};
+use crate::parts::{flag, flag_word, is_admitted, is_leaving, put_words, status_word};
 use crate::rows::{Row, put_rows, read_row, read_rows};
 use calendar::Day;
 use file::{File, MonthTotal, NextAmount, OpenCall, Slot};
@@ -20,7 +20,8 @@ pub fn file_at(words: &[u64], at: usize) -> File
     ensures { result ≡ file_of_words (words_at words.now at) }
 {
     File {
-        admitted: flag(words[at + 1]),
+        admitted: is_admitted(words[at + 1]),
+        leaving: is_leaving(words[at + 1]),
         role: words[at + 2],
         firm: words[at + 3],
         slots: read_rows(words, at),
@@ -45,7 +46,7 @@ fn put_own(words: &mut [u64], at: usize, file: File)
         words,
         at + 1,
         &[
-            flag_word(file.admitted),
+            status_word(file.admitted, file.leaving),
             file.role,
             file.firm,
             file.count as u64,

@@ -3,7 +3,7 @@
 ghost use Rattle.std.specs.Prelude.{◌≡◌, ◌+◌, ◌≤◌, length};
 ghost use Rattle.file.specs.Position.{slot_of};
 ghost use Rattle.layout.specs.Parts.{flag_of, number_of, signed_of_word, zigzag_of, flag_word, position_of};
-ghost use Rattle.layout.specs.Parts.{slot_words, written, SlotBack};
+ghost use Rattle.layout.specs.Parts.{admitted_of, leaving_of, status_word, slot_words, written, SlotBack};
 
 use calendar::Day;
 use file::Position;
@@ -20,6 +20,29 @@ pub fn flag_word(flag: bool) -> u64
     ensures { result ≡ flag_word flag }
 {
     u64::from(flag)
+}
+
+// Whether the status of a participant, in one word, says that it is admitted: the word is odd.
+#[tactic(auto, unfolding(crate::specs::Parts::admitted_of))]
+pub fn is_admitted(status: u64) -> bool
+    ensures { result ≡ admitted_of status }
+{
+    flag(status % 2)
+}
+
+// .. and whether it is under deletion: the word has 2 more (paper 02, Ask 4).
+#[tactic(auto, unfolding(crate::specs::Parts::leaving_of))]
+pub fn is_leaving(status: u64) -> bool
+    ensures { result ≡ leaving_of status }
+{
+    flag(status / 2)
+}
+
+// A status as a word.
+pub fn status_word(admitted: bool, leaving: bool) -> u64
+    ensures { result ≡ status_word admitted leaving }
+{
+    flag_word(admitted) + 2 * flag_word(leaving)
 }
 
 // A word as a number of 32 bits.

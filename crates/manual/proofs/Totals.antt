@@ -1,14 +1,13 @@
--- The annual amount as a running maximum: the minimum, raised by each total in turn. Assumes nothing.
+-- The largest of totals, and at least an amount, as a running maximum: the amount, raised by each total in turn. Assumes nothing.
 use Prim.Native.Nat.{ℕ}
-use mathlib.Core.Path.{◌≡◌, sym, ◌∙◌, ap}
+use mathlib.Core.Path.{◌≡◌, refl, sym, ◌∙◌, ap}
 use mathlib.Core.List.{List, [], ◌∷◌}
 use lib.IntN.{ℤ, pos, nat_abs}
 use lib.Signed.{lt_z}
 use Rattle.std.specs.List.{fold}
 use Rattle.laws.specs.Cases.{split}
 use Rattle.laws.specs.Integers.{larger, larger-comm, larger-assoc, above-natural}
-use Rattle.manual.specs.Minimum.{minimum_of}
-use Rattle.manual.specs.Annual.{largest_total, annual_amount}
+use Rattle.manual.specs.Largest.{largest_total, largest_at_least}
 
 -- an amount, raised by a total
 abbrev pub raise : ℕ → ℤ → ℕ
@@ -30,8 +29,8 @@ raised-largest m a (b ∷ l) =
     ∙ sym (larger-assoc (largest_total b l) a (pos m))
     ∙ ap (λ (z : ℤ). larger z (pos m)) (larger-comm (largest_total b l) a)
 
--- the minimum, raised by each total in turn, is the annual amount
-pub raised_annual : (role m : ℕ) (l : List ℤ) → m ≡ minimum_of role → fold raise m l ≡ annual_amount role l
-unfolding annual_amount
-raised_annual role m [] e = e
-raised_annual role m (a ∷ l) e = rw e (ap nat_abs (raised-largest (minimum_of role) a l))
+-- an amount, raised by each total in turn, is the largest of them and at least the amount
+pub raised_by_each : (least : ℕ) (l : List ℤ) → fold raise least l ≡ largest_at_least least l
+unfolding largest_at_least
+raised_by_each least [] = refl
+raised_by_each least (a ∷ l) = ap nat_abs (raised-largest least a l)

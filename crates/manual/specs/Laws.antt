@@ -1,16 +1,20 @@
--- What the formulas' users cite: bounds of amounts and charges, and what follows where a call is made. Assumes nothing.
-use Rattle.std.specs.Prelude.{ℕ, zero, suc, ◌≤◌, ◌<◌, ◌≡◌, refl, Bool, true, false, ◌&&◌, List, [], ◌∷◌, ◌++◌, ltb, leb, eqb, length, replicate, ℤ, pos, nat_abs}
+-- What the formulas' users cite: bounds of amounts and charges, what follows where a call is made, and that a deletion's amount doesn't depend on the
+-- order of its totals. Assumes nothing.
+use Rattle.std.specs.Prelude.{ℕ, zero, suc, ◌≤◌, ◌<◌, ◌≡◌, refl, Bool, true, false, ◌&&◌, ltb, leb, eqb, length, replicate, ℤ, pos, nat_abs}
 use Rattle.std.proofs.Common.{sym, ◌∙◌, ap, le_trans, arith, ltb-false, leb-true}
 use Rattle.std.proofs.Math.Bool.{and_assoc, and-true}
+use mathlib.Core.List.{List, [], ◌∷◌, ◌++◌, reverse, reverse-cons}
 use Rattle.std.proofs.lemmas.Bool.{not-false}
 use Rattle.std.specs.Int.Signed.{lt_z}
 use Rattle.laws.specs.Cases.{split, and_left, and_right, and_both, or-second}
 use Rattle.laws.specs.Every.{every, every-default}
-use Rattle.laws.specs.Integers.{above-less, above-positive, larger-within, Within, sum_of, sum_of-bound}
+use Rattle.laws.specs.Integers.{above-less, above-positive, larger, larger-comm, larger-assoc, larger-within, Within, sum_of, sum_of-bound}
 use Rattle.manual.specs.Minimum.{minimums, minimum_of}
 use Rattle.manual.specs.Charge.{day_charge}
 use Rattle.manual.specs.Check.{exceeds_tolerance, exceeds_each, call_is_made, checked}
-use Rattle.manual.specs.Annual.{largest_total, annual_amount}
+use Rattle.manual.specs.Largest.{largest_total, largest_at_least}
+use Rattle.manual.specs.Annual.{annual_amount}
+use Rattle.manual.specs.Deletion.{deletion_amount}
 use Rattle.manual.specs.Figures.{bound, wrong_count, all_within, out_of_range}
 
 -- ---- the minimum guarantee and the day charge
@@ -87,15 +91,54 @@ unfolding out_of_range
 summed-total l p q =
     le_trans (sum_of-bound bound l (all_within-within l (not-false (all_within l) q))) (omega (arith, wrong_count-at-most l p))
 
--- ---- the annual amount
+-- ---- the amounts of an annual run and of a deletion
 
 pub largest_total-bound : (b : ℕ) (a : ℤ) (l : List ℤ) → nat_abs a ≤ b → Within b l → nat_abs (largest_total a l) ≤ b
 unfolding largest_total Within
 largest_total-bound b a [] p w = p
 largest_total-bound b a (x ∷ l) p w = larger-within a (largest_total x l) b p (largest_total-bound b x l w.0 w.1)
 
+pub largest_at_least-bound : (least b : ℕ) (l : List ℤ) → Within b l → least ≤ b → largest_at_least least l ≤ b
+unfolding largest_at_least Within
+largest_at_least-bound least b [] w h = h
+largest_at_least-bound least b (a ∷ l) w h = larger-within (largest_total a l) (pos least) b (largest_total-bound b a l w.0 w.1) h
+
 pub annual_amount-bound : (role b : ℕ) (l : List ℤ) → Within b l → 2000000 ≤ b → annual_amount role l ≤ b
-unfolding annual_amount Within
-annual_amount-bound role b [] w h = le_trans (minimum_of-bound role) h
-annual_amount-bound role b (a ∷ l) w h =
-    larger-within (largest_total a l) (pos (minimum_of role)) b (largest_total-bound b a l w.0 w.1) (le_trans (minimum_of-bound role) h)
+unfolding annual_amount
+annual_amount-bound role b l w h = largest_at_least-bound (minimum_of role) b l w (le_trans (minimum_of-bound role) h)
+
+pub deletion_amount-bound : (b : ℕ) (l : List ℤ) → Within b l → deletion_amount l ≤ b
+unfolding deletion_amount
+deletion_amount-bound b l w = largest_at_least-bound 0 b l w (omega arith)
+
+-- The largest of totals and 0, whatever their order.
+above : List ℤ → ℤ
+above [] = pos 0
+above (a ∷ l) = larger a (above l)
+
+above-largest : (a : ℤ) (l : List ℤ) → larger (largest_total a l) (pos 0) ≡ larger a (above l)
+unfolding largest_total above
+above-largest a [] = refl
+above-largest a (b ∷ l) = larger-assoc a (largest_total b l) (pos 0) ∙ ap (larger a) (above-largest b l)
+
+amount-above : (l : List ℤ) → deletion_amount l ≡ nat_abs (above l)
+unfolding deletion_amount largest_at_least above
+amount-above [] = refl
+amount-above (a ∷ l) = ap nat_abs (above-largest a l)
+
+above-last : (b : ℤ) (l : List ℤ) → above (l ++ b ∷ []) ≡ larger b (above l)
+unfolding above
+above-last b [] = refl
+above-last b (a ∷ l) =
+    ap (larger a) (above-last b l)
+    ∙ sym (larger-assoc a b (above l))
+    ∙ ap (λ (x : ℤ). larger x (above l)) (larger-comm a b)
+    ∙ larger-assoc b a (above l)
+
+above-reverse : (l : List ℤ) → above (reverse l) ≡ above l
+unfolding above
+above-reverse [] = refl
+above-reverse (a ∷ l) = ap above (reverse-cons a l) ∙ above-last a (reverse l) ∙ ap (larger a) (above-reverse l)
+
+pub deletion_amount-reverse : (l : List ℤ) → deletion_amount (reverse l) ≡ deletion_amount l
+deletion_amount-reverse l = amount-above (reverse l) ∙ ap nat_abs (above-reverse l) ∙ sym (amount-above l)

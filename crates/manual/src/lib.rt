@@ -3,7 +3,9 @@
 
 pub mod annual;
 pub mod charge;
+pub mod deletion;
 pub mod figures;
+mod largest; // largest.rt: the largest of totals, and at least an amount
 pub mod minimum;
 pub mod monthly;
 

@@ -22,7 +22,7 @@ use Rattle.journal.specs.Fields.{Left, more, fault, next_of, taken, field_of, lo
 use Rattle.journal.specs.Fields.{Numbers, with_number, next_numbers, words_left, figures_of, list_of, on_lists, lists_of}
 use Rattle.journal.specs.Grammar.{Parsed, plain, are_marks, lengths_of, day_numbered, month_numbered}
 use Rattle.journal.specs.Grammar.{fresh_of, admit_of, cash_of, letter_of, lodge_of, release_of, settle_of}
-use Rattle.journal.specs.Grammar.{annual_of, advance_of, statement_of, special_of, filed, batch_of, calls_of, named_call}
+use Rattle.journal.specs.Grammar.{annual_of, advance_of, statement_of, delete_of, special_of, filed, batch_of, calls_of, named_call}
 use Rattle.journal.specs.Grammar.{words_of, parsed}
 use Rattle.journal.specs.declared.Reason.{Reason}
 use Rattle.journal.specs.declared.Request.{Request}
@@ -210,6 +210,10 @@ statement-fits : (l : Left) → Fits (plain (statement_of l))
 unfolding statement_of
 statement-fits l = let p = field_of Kind.Natural l in plain_fits p.left (Request.Statement p.value) (field-natural l, refl)
 
+delete-fits : (l : Left) → Fits (plain (delete_of l))
+unfolding delete_of
+delete-fits l = let p = field_of Kind.Natural l in plain_fits p.left (Request.Delete p.value) (field-natural l, refl)
+
 settle-fits : (room : ℕ) (l : Left) → Fits (settle_of room l)
 unfolding settle_of
 settle-fits room l =
@@ -247,7 +251,7 @@ call_fits room k l =
     all-default Fits (calls_of room l) k (plain (Request.Error Reason.NoCall)) no-call-fits
     (fresh-fits l & admit-fits l & lodge-fits l & release-fits l & settle-fits room l & annual-fits l & advance-fits l
     & statement-fits l & plain_fits l Request.Calls refl & special-fits room l & plain_fits l Request.Report refl
-    & batch-fits room l & plain_fits l Request.RoleRetired refl & tt)
+    & batch-fits room l & plain_fits l Request.RoleRetired refl & delete-fits l & tt)
 
 words-fitting : (room : ℕ) (ws : List (List ℕ)) → Fits (words_of room ws)
 unfolding words_of Fits

@@ -22,7 +22,7 @@ use Rattle.words.specs.Hex.{hexadecimal, bytes_of_hex}
 use Rattle.journal.specs.Names.{call_names, lodged_names, lodged_in}
 use Rattle.journal.specs.Fields.{more, closed, file_of, checked_file, ended}
 use Rattle.journal.specs.Grammar.{plain, are_marks, fresh_of, admit_of, cash_of, letter_of, lodge_of, release_of, settle_of}
-use Rattle.journal.specs.Grammar.{length_list, total, annual_of, advance_of, statement_of, special_of, filed, batch_of, calls_of, named_call}
+use Rattle.journal.specs.Grammar.{length_list, total, annual_of, advance_of, statement_of, delete_of, special_of, filed, batch_of, calls_of, named_call}
 use Rattle.journal.specs.Grammar.{words_of, parsed}
 use Rattle.std.specs.Prelude.{Some}
 use Rattle.journal.specs.declared.Request.{Request}
@@ -76,6 +76,7 @@ call-words Request.Calls zs = word "calls" tt refl & tt
 call-words (Request.Special n) zs = word "special" tt refl & lists-words (cut (length_list n) zs)
 call-words (Request.Batch n) zs = word "batch" tt refl & file-words (take n zs)
 call-words Request.RoleRetired zs = word "role-retired" tt refl & tt
+call-words (Request.Delete p) zs = word "delete" tt refl & decimal-word p & tt
 call-words Request.Report zs = word "report" tt refl & tt
 call-words (Request.Error e) zs = tt
 
@@ -154,6 +155,10 @@ unfolding release_of
 release-back p q a h g k =
     rw (natural-field p (decimal q ∷ decimal a ∷ []) h, natural-field q (decimal a ∷ []) g, natural-field a [] k)
     (closed-back (Request.Release p q a))
+
+delete-back : (p : ℕ) → Natural64 p → delete_of (more (decimal p ∷ [])) ≡ Request.Delete p
+unfolding delete_of
+delete-back p h = rw (natural-field p [] h) (closed-back (Request.Delete p))
 
 annual-back : (p : ℕ) → Natural64 p → annual_of (more (decimal p ∷ [])) ≡ Request.Annual p
 unfolding annual_of
@@ -243,6 +248,7 @@ words_back room (Request.Special n) zs f h =
     at_name room 9 tt (list_words (cut (length_list n) zs)) ∙ special-back room n zs f.0 f.1 f.2 h
 words_back room (Request.Batch n) zs f h = at_name room 11 tt (hex_words (take n zs)) ∙ batch-back room n zs f.0 f.1 h
 words_back room Request.RoleRetired zs f h = rw f (at_name room 12 tt [] ∙ ap plain (closed-back Request.RoleRetired))
+words_back room (Request.Delete p) zs f h = rw f.1 (at_name room 13 tt (decimal p ∷ []) ∙ ap plain (delete-back p f.0))
 words_back room Request.Report zs f h = rw f (at_name room 10 tt [] ∙ ap plain (closed-back Request.Report))
 words_back room (Request.Error e) zs f h = absurd f
 

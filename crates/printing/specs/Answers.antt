@@ -1,6 +1,6 @@
 -- 'The journal': "Answers, one line for each call line".
 -- Assumes nothing.
-use Rattle.std.specs.Prelude.{ℕ, List, [], ◌∷◌}
+use Rattle.std.specs.Prelude.{cond, ℕ, List, [], ◌∷◌}
 use Rattle.words.specs.Text.{text}
 use Rattle.journal.specs.declared.Reason.{Reason}
 use Rattle.printing.specs.Decimals.{decimal, integer, joined}
@@ -38,6 +38,7 @@ answer_words (Answer.Calls n) = text "calls" ∷ decimal n ∷ []
 answer_words (Answer.Special c) = text "special" ∷ decimal c ∷ []
 answer_words (Answer.Batch n) = text "batch" ∷ decimal n ∷ []
 answer_words (Answer.RefusedPair n i) = text "refused" ∷ decimal n ∷ decimal i ∷ []
+answer_words (Answer.Deletion a c) = text "deletion" ∷ decimal a ∷ decimal (cond c 1 0) ∷ []
 answer_words (Answer.Error l e) = text "error" ∷ decimal l ∷ reason_text e ∷ []
 answer_words Answer.Nothing = []
 

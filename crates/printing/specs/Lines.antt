@@ -37,6 +37,7 @@ call_words Request.Calls zs = text "calls" ∷ []
 call_words (Request.Special n) zs = text "special" ∷ list_words (cut (length_list n) zs)
 call_words (Request.Batch n) zs = text "batch" ∷ hex_words (take n zs)
 call_words Request.RoleRetired zs = text "role-retired" ∷ []
+call_words (Request.Delete p) zs = text "delete" ∷ decimal p ∷ []
 call_words Request.Report zs = text "report" ∷ []
 call_words (Request.Error e) zs = []
 
@@ -86,5 +87,6 @@ Fitting Request.Calls zs = zs ≡ []
 Fitting (Request.Special n) zs = Natural64 (length zs) × (total (length_list n) ≡ length zs) × Hold are_marks (cut (length_list n) zs)
 Fitting (Request.Batch n) zs = (n ≡ length zs) × All IsByte zs
 Fitting Request.RoleRetired zs = zs ≡ []
+Fitting (Request.Delete p) zs = Natural64 p × (zs ≡ [])
 Fitting Request.Report zs = zs ≡ []
 Fitting (Request.Error e) zs = ⊥

@@ -60,6 +60,9 @@ impl Puts for Answer {
             Answer::Special(cents) => out.words(b"special", &[cents]),
             Answer::Batch(n) => out.words(b"batch", &[n]),
             Answer::RefusedPair(n, i) => out.words(b"refused", &[n as u64, i]),
+            Answer::Deletion(amount, called) => {
+                out.words(b"deletion", &[amount, u64::from(called)])
+            }
             Answer::Error(line, why) => put_error(out, line, why),
             Answer::Nothing => {}
         }

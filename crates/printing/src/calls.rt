@@ -110,6 +110,7 @@ impl<'a> Puts for CallLine<'a> {
             Request::Special(n) => put_special(out, n, numbers),
             Request::Batch(n) => put_batch(out, parted(numbers, n).0),
             Request::RoleRetired => out.text(b"role-retired"),
+            Request::Delete(p) => out.words(b"delete", &[p]),
             Request::Report => out.text(b"report"),
         }
     }

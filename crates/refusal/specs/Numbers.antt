@@ -2,7 +2,7 @@
 -- Assumes nothing.
 use Rattle.std.specs.Prelude.{ℕ}
 use Rattle.refusal.specs.declared.Refusal.{Refusal}
-use Rattle.refusal.specs.declared.Refusal.TheVariants.{NoSuchParticipant, NotAdmitted, AdmittedAlready, NoSuchRole, NoSuchPosition, PositionFilled, PositionEmpty, AmountOutOfRange, LetterDays, FigureCount, OutOfRange, MonthOutOfRange, FifthCall, NotAnnualDays, MoreThanHeld, TooLittleCover, DayOutOfRange, TooFewRates, ListLengths, BatchTooShort, PartsMisplaced, WrongPart, RetiredRole}
+use Rattle.refusal.specs.declared.Refusal.TheVariants.{NoSuchParticipant, NotAdmitted, AdmittedAlready, NoSuchRole, NoSuchPosition, PositionFilled, PositionEmpty, AmountOutOfRange, LetterDays, FigureCount, OutOfRange, MonthOutOfRange, FifthCall, NotAnnualDays, MoreThanHeld, TooLittleCover, DayOutOfRange, TooFewRates, ListLengths, BatchTooShort, PartsMisplaced, WrongPart, RetiredRole, NoDeletionNow, UnderDeletion}
 
 -- Each cause by its number.
 abbrev pub number_of : Refusal → ℕ
@@ -52,3 +52,7 @@ number_of PartsMisplaced = 21
 number_of WrongPart = 22
 -- the role, 1, is no longer registered
 number_of RetiredRole = 23
+-- a deletion "outside August and September or already in the status"
+number_of NoDeletionNow = 24
+-- "annual run for such a file"
+number_of UnderDeletion = 25

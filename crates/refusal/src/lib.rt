@@ -30,10 +30,12 @@ pub enum Refusal {
     PartsMisplaced = 21,
     WrongPart = 22,
     RetiredRole = 23,
+    NoDeletionNow = 24,
+    UnderDeletion = 25,
 }
 
 impl Refusal {
-    // The cause's number in the table, 1 to 23.
+    // The cause's number in the table, 1 to 25.
     pub fn number(self) -> u32
         ensures { result ≡ number_of self }
     {

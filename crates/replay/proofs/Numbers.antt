@@ -15,7 +15,7 @@ use Rattle.calendar.specs.Civil.{month_of}
 use Rattle.manual.specs.Figures.{sum_of}
 use Rattle.manual.specs.Laws.{summed-total}
 use Rattle.file.specs.declared.File.{File}
-use Rattle.file.specs.Answer.{Answer, refused, done, annual, days_opened, batched, Cause, decide, accepted, statement_says}
+use Rattle.file.specs.Answer.{Answer, refused, done, annual, days_opened, batched, deletion, Cause, decide, accepted, statement_says}
 use Rattle.file.specs.Fields.{shortfall_of}
 use Rattle.file.specs.Totals.{total_at}
 use Rattle.file.specs.TotalLaws.{totals-length}
@@ -24,10 +24,11 @@ use Rattle.file.specs.Release.{release_answer}
 use Rattle.file.specs.CheckLaws.{settled-answer}
 use Rattle.file.specs.Settle.{settlement_calls, check_due, settled_answer, settle_answer}
 use Rattle.file.specs.Annual.{annual_totals, annual_amount_of, annual_answer}
+use Rattle.file.specs.Deletion.{deletion_amount_of, deletion_calls, deletion_answer}
 use Rattle.file.specs.Statement.{file_statement}
 use Rattle.file.specs.Sound.{Sound}
 use Rattle.file.specs.KeepsPositions.{sound-cover}
-use Rattle.file.specs.KeepsCalls.{annual-bound}
+use Rattle.file.specs.KeepsCalls.{annual-bound, deletion-bound}
 use Rattle.layout.specs.Parts.{slot_of_words}
 use Rattle.layout.specs.Files.{slots_of_words, file_of_words, words_at}
 use Rattle.layout.specs.Words.{place, book_of_words}
@@ -35,7 +36,7 @@ use Rattle.layout.specs.WellFormed.{WellFormed}
 use Rattle.std.specs.Prelude.{Result, Ok, Err}
 use Rattle.batch.specs.declared.Misfit.{Misfit}
 use Rattle.batch.specs.Batch.{form_of}
-use Rattle.book.specs.Call.{Act, admit, lodge, release, settle, annual_run, Call, on, advance, statement, calls_made, batch}
+use Rattle.book.specs.Call.{Act, admit, lodge, release, settle, annual_run, delete, Call, on, advance, statement, calls_made, batch}
 use Rattle.book.specs.Call.{first_refused, batch_says}
 use Rattle.book.specs.Rule.{new_rule}
 use Rattle.book.specs.Account.{file_at, if_numbered, if_admitted, file_answer, part_answer, days_to_open, admits_retired, unless_retired, answer}
@@ -78,6 +79,13 @@ annual-within f t s =
     let low = annual-bound f t s in
     decide-within _ (annual (annual_amount_of f t) (length (annual_totals f t))) (λ n. (omega arith, omega arith))
 
+-- A deletion's.
+deletion-within : (f : File) (t : ℕ) → Sound t f → WithinSigned (deletion_answer f t)
+unfolding deletion_answer
+deletion-within f t s =
+    let low = deletion-bound f t s in
+    decide-within _ (deletion (deletion_amount_of f t) (deletion_calls f t)) (λ n. omega arith)
+
 -- A statement's.
 statement-within : (f : File) (t : ℕ) → Sound t f → length f.slots ≡ 8 → WithinSigned (statement_says (file_statement f t))
 unfolding file_statement shortfall_of
@@ -93,6 +101,7 @@ file-within f t (lodge k h) s = decide-within _ (lodge_answer f t k h) (λ n. de
 file-within f t (release k a) s = decide-within _ (release_answer f t k a) (λ n. decide-within _ done (λ n. tt))
 file-within f t (settle m figures) s = decide-within _ (settle_answer f t m figures) (λ n. settle-within f t m figures)
 file-within f t annual_run s = decide-within _ (annual_answer f t) (λ n. annual-within f t s)
+file-within f t delete s = decide-within _ (deletion_answer f t) (λ n. deletion-within f t s)
 
 -- .. also where an admission is refused with 23.
 registered-within : (a : Act) (x : Answer) → WithinSigned x → WithinSigned (unless_retired new_rule a x)

@@ -13,7 +13,7 @@ use lib.IntN.{ℤ}
 use lib.Dec.{ltb}
 use lib.ListN.{length, take, drop, length-append, length-drop}
 use lib.Seq.{take_at, drop_at, drop-drop}
-use Rattle.file.specs.Answer.{Answer, refused, done, called, covered, recorded, annual, days_opened, stated, counted, batched, refused_pair}
+use Rattle.file.specs.Answer.{Answer, refused, done, called, covered, recorded, annual, days_opened, stated, counted, batched, refused_pair, deletion}
 use Rattle.file.specs.Answer.{decide, accepted}
 use Rattle.layout.specs.Book.{Book}
 use Rattle.layout.specs.Words.{book_length, book_of_words}
@@ -65,6 +65,7 @@ numbers-long (stated f c s d a) = refl
 numbers-long (counted n) = refl
 numbers-long (batched n) = refl
 numbers-long (refused_pair n i) = refl
+numbers-long (deletion a calls) = refl
 
 decided-long : (s first : ℕ) (calls : List ℕ) (figures : List ℤ) (files : List ℕ) (n : ℕ) → length (decided s first calls figures files n) ≡ 6 * n
 unfolding decided

@@ -10,7 +10,7 @@ use lib.Dec.{ltb}
 use lib.IntN.{ℤ}
 use Rattle.laws.specs.Cases.{split}
 use Rattle.layout.specs.Book.{Book}
-use Rattle.book.specs.Call.{admit, lodge, release, settle, annual_run, Call, on, advance, statement, calls_made, batch}
+use Rattle.book.specs.Call.{admit, lodge, release, settle, annual_run, delete, Call, on, advance, statement, calls_made, batch}
 use Rattle.book.specs.Rule.{old_rule, new_rule, under, history}
 use Rattle.book.specs.Account.{answer}
 use Rattle.replay.specs.declared.call.Call.{Call as Case}
@@ -27,6 +27,7 @@ admits (on p (lodge k h)) = false
 admits (on p (release k a)) = false
 admits (on p (settle m figures)) = false
 admits (on p annual_run) = false
+admits (on p delete) = false
 admits (advance day budget) = false
 admits (statement p) = false
 admits calls_made = false
@@ -40,6 +41,7 @@ alike (on p (lodge k h)) e b = refl
 alike (on p (release k a)) e b = refl
 alike (on p (settle m figures)) e b = refl
 alike (on p annual_run) e b = refl
+alike (on p delete) e b = refl
 alike (advance day budget) e b = refl
 alike (statement p) e b = refl
 alike calls_made e b = refl
@@ -55,6 +57,7 @@ other_case (Cases.AnnualRun p) n = refl
 other_case (Cases.Advance day budget) n = refl
 other_case (Cases.Statement p) n = refl
 other_case (Cases.Load file) n = refl
+other_case (Cases.Delete p) n = refl
 other_case Cases.CallsMade n = refl
 
 -- ---- the history of the calls so far

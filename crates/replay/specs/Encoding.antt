@@ -4,8 +4,9 @@
 use Rattle.std.specs.Prelude.{ℕ, zero, suc, ◌+◌, ◌-◌, ◌*◌, ◌≤◌, min, Bool, cond, List, [], ◌∷◌, ◌++◌, eqb, ltb, get_or, take, drop, ℤ, pos}
 use Rattle.file.specs.declared.Position.{Position}
 use Rattle.file.specs.declared.Position.TheVariants.{Cash, Letter}
-use Rattle.file.specs.Answer.{Answer, refused, done, called, covered, recorded, annual, days_opened, stated, counted, batched, refused_pair}
-use Rattle.book.specs.Call.{admit, lodge, release, settle, annual_run, Call, on, advance, statement, calls_made, batch}
+use Rattle.file.specs.Answer.{Answer, refused, done, called, covered, recorded, annual, days_opened, stated, counted, batched, refused_pair, deletion}
+use Rattle.layout.specs.Parts.{flag_word}
+use Rattle.book.specs.Call.{admit, lodge, release, settle, annual_run, delete, Call, on, advance, statement, calls_made, batch}
 use Rattle.book.specs.Rule.{Rule, old_rule, new_rule, MadeCall, history}
 use Rattle.book.specs.Reading.Decisions.{decision, events_of}
 
@@ -18,7 +19,7 @@ abbrev pub letter_of_numbers : ℕ → ℕ → ℕ → Position
 letter_of_numbers amount first last = Letter amount (record { 0 = number first }) (record { 0 = number last })
 
 -- The call in six words: its kind and its arguments. A settlement's figures are the d from place c on of the lent figures, and the file of a
--- batch is the b bytes from place a on of the lent files, or as many of these as there are. A kind above 8 is the question for the count.
+-- batch is the b bytes from place a on of the lent files, or as many of these as there are. A kind above 9 is the question for the count.
 unfoldable pub call_of_six : List ℤ → List ℕ → ℕ → ℕ → ℕ → ℕ → ℕ → ℕ → Call
 call_of_six figures files kind a b c d e =
     cond (eqb kind 0) (on a (admit b))
@@ -29,7 +30,8 @@ call_of_six figures files kind a b c d e =
     (cond (eqb kind 5) (on a annual_run)
     (cond (eqb kind 6) (advance (number a) b)
     (cond (eqb kind 7) (statement a)
-    (cond (eqb kind 8) (batch (take b (drop a files))) calls_made))))))))
+    (cond (eqb kind 8) (batch (take b (drop a files)))
+    (cond (eqb kind 9) (on a delete) calls_made)))))))))
 
 -- The call at place n of a list of calls.
 unfoldable pub call_at : List ℕ → List ℤ → List ℕ → ℕ → Call
@@ -86,6 +88,7 @@ six_numbers (stated f c s d a) = six 7 (pos f) (pos c) (pos s) (pos d) (pos a)
 six_numbers (counted n) = six 8 (pos n) (pos 0) (pos 0) (pos 0) (pos 0)
 six_numbers (batched n) = six 9 (pos n) (pos 0) (pos 0) (pos 0) (pos 0)
 six_numbers (refused_pair n i) = six 10 (pos n) (pos i) (pos 0) (pos 0) (pos 0)
+six_numbers (deletion a calls) = six 11 (pos a) (pos (flag_word calls)) (pos 0) (pos 0) (pos 0)
 
 -- The largest number of a signed word of 64 bits.
 abbrev pub largest_signed : ℕ
@@ -109,6 +112,7 @@ WithinSigned (stated f c s d a) =
 WithinSigned (counted n) = n ≤ largest_signed
 WithinSigned (batched n) = Unit {0}
 WithinSigned (refused_pair n i) = Unit {0}
+WithinSigned (deletion a calls) = a ≤ largest_signed
 
 -- The numbers of the reading's decisions on the first n calls from a fresh book on day s, in the calls' order, each made under its place's rule.
 unfoldable pub decided : (s first : ℕ) → List ℕ → List ℤ → List ℕ → (n : ℕ) → List ℤ

@@ -13,4 +13,5 @@ said (Calls.AnnualRun p) = calls.on p calls.annual_run
 said (Calls.Advance day budget) = calls.advance day.0 budget
 said (Calls.Statement p) = calls.statement p
 said (Calls.Load file) = calls.batch file.now
+said (Calls.Delete p) = calls.on p calls.delete
 said Calls.CallsMade = calls.calls_made

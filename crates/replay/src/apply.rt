@@ -30,6 +30,7 @@ fn apply(book: &mut [u64], call: Call) -> [i64; 6]
         Call::Advance(day, budget) => book::advance(book, day, budget).map(Opened).numbers(),
         Call::Statement(participant) => book::statement(book, participant).numbers(),
         Call::Load(file) => book::load(book, file).numbers(),
+        Call::Delete(participant) => book::delete(book, participant).numbers(),
         Call::CallsMade => Made(book::calls_made(book)).numbers(),
     }
 }

@@ -17,6 +17,7 @@ pub enum Call<'a> {
     Advance(Day, u64),
     Statement(u64),
     Load(&'a [u8]),
+    Delete(u64),
     CallsMade,
 }
 
@@ -53,7 +54,7 @@ pub fn call_at<'a>(calls: &[u64], figures: &'a [i64], files: &'a [u8], place: us
     let at = 6 * place;
     let (a, b, c) = (calls[at + 1], calls[at + 2], calls[at + 3]);
     let (d, e) = (calls[at + 4], calls[at + 5]);
-    // Kept: numbers for kinds, as calls are words of any content: one above 8 is a question too, and a type of calls would ask more of callers.
+    // Kept: numbers for kinds, as calls are words of any content: one above 9 is a question too, and a type of calls would ask more of callers.
     match calls[at] {
         0 => Call::Admit(a, b),
         1 => Call::Lodge(a, b, Position::Cash(c)),
@@ -64,6 +65,7 @@ pub fn call_at<'a>(calls: &[u64], figures: &'a [i64], files: &'a [u8], place: us
         6 => Call::Advance(Day(clipped(a)), b),
         7 => Call::Statement(a),
         8 => Call::Load(part(files, a, b)),
+        9 => Call::Delete(a),
         _ => Call::CallsMade,
     }
 }

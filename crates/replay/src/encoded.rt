@@ -1,13 +1,14 @@
 // An answer as six numbers: which it is, then its values, then zeros.
 ghost use Rattle.std.specs.Prelude.{◌≡◌, ◌≤◌, pos, Result};
 ghost use Rattle.refusal.specs.Numbers.{number_of};
-ghost use Rattle.file.specs.Answer.{Answer, refused, done, annual, days_opened, counted, batched, refused_pair};
+ghost use Rattle.file.specs.Answer.{Answer, refused, done, annual, days_opened, counted, batched, refused_pair, deletion};
 ghost use Rattle.file.specs.Answer.{settlement_says, statement_says, says};
 ghost use Rattle.book.specs.Call.{loaded_says};
 ghost use Rattle.replay.specs.Encoding.{largest_signed, six, six_numbers, WithinSigned};
 
 use batch::Misfit;
-use file::{AnnualRun, Settled, Statement};
+use file::{AnnualRun, Deletion, Settled, Statement};
+use layout::parts::flag_word;
 use refusal::Refusal;
 
 // The number of days that an advance opened.
@@ -29,7 +30,7 @@ fn signed(x: u64) -> i64
 // A number that says which answer it is, its first three values, and zeros for the others.
 // Kept: a number says which answer it is, here and below, since `out` is lent words of any length, and a type of answers would ask more of callers.
 fn values(kind: u64, a: u64, b: u64, c: u64) -> [i64; 6]
-    requires { (kind ≤ 10) × (a ≤ largest_signed) × (b ≤ largest_signed) × (c ≤ largest_signed) }
+    requires { (kind ≤ 11) × (a ≤ largest_signed) × (b ≤ largest_signed) × (c ≤ largest_signed) }
     ensures { result ≡ six kind (pos a) (pos b) (pos c) (pos 0) (pos 0) }
 {
     [signed(kind), signed(a), signed(b), signed(c), 0, 0]
@@ -71,6 +72,14 @@ impl Numbered for AnnualRun {
 
     fn numbers(self) -> [i64; 6] {
         values(5, self.amount, self.months, 0)
+    }
+}
+
+impl Numbered for Deletion {
+    ghost stands_for = { λ d. deletion d.amount d.called };
+
+    fn numbers(self) -> [i64; 6] {
+        values(11, self.amount, flag_word(self.called), 0)
     }
 }
 

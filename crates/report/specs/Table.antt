@@ -2,7 +2,7 @@
 -- Assumes nothing.
 use Rattle.std.specs.Prelude.{ℕ, zero, suc, ◌+◌, cond, List, [], ◌∷◌, ◌++◌, get_or}
 use Rattle.words.specs.Text.{text}
-use Rattle.file.specs.Answer.{Answer, refused, done, called, covered, recorded, annual, days_opened, stated, counted, batched, refused_pair}
+use Rattle.file.specs.Answer.{Answer, refused, done, called, covered, recorded, annual, days_opened, stated, counted, batched, refused_pair, deletion}
 use Rattle.layout.specs.Book.{Book}
 use Rattle.book.specs.Rule.{new_rule}
 use Rattle.book.specs.Account.{answer, file_at}
@@ -58,6 +58,7 @@ line_of p r (days_opened n) = []
 line_of p r (counted n) = []
 line_of p r (batched n) = []
 line_of p r (refused_pair n i) = []
+line_of p r (deletion a calls) = []
 
 unfoldable pub row : Book → ℕ → List ℕ
 row b p = line_of p (file_at b p).role (answer new_rule b (statement p))

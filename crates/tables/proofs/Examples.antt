@@ -13,7 +13,8 @@ use lib.IntN.{ℤ, pos, nat_abs}
 use lib.Signed.{non_neg}
 use Rattle.laws.specs.Integers.{sum_of}
 use Rattle.manual.specs.Minimum.{minimum_of}
-use Rattle.manual.specs.Annual.{larger, largest_total, annual_amount}
+use Rattle.manual.specs.Largest.{larger, largest_total, largest_at_least}
+use Rattle.manual.specs.Annual.{annual_amount}
 use Rattle.manual.specs.Check.{exceeds_tolerance, exceeds_each, call_is_made, checked}
 use Rattle.manual.specs.Figures.{bound, summed, wrong_count, all_within, out_of_range}
 use Rattle.std.specs.Prelude.{Option, Some, None, Result, Ok, Err}
@@ -29,7 +30,7 @@ twelve =
     ∷ pos 67228600 ∷ pos 77372900 ∷ pos 59657000 ∷ pos 72350800 ∷ []
 
 amount : annual_amount 0 twelve ≡ 77372900
-unfolding annual_amount largest_total larger minimum_of
+unfolding annual_amount largest_at_least largest_total larger minimum_of
 amount = refl
 
 pub amount-of-twelve : (r : ℕ) → r ≡ annual_amount 0 twelve → r ≡ 77372900

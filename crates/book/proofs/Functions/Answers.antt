@@ -4,7 +4,7 @@ use Prim.Native.Nat.{ℕ, ◌+◌, ◌≤◌, ◌<◌}
 use native.Mathlib.Omega.{arith}
 use native.Mathlib.Nat.{add-zero}
 use mathlib.Core.Path.{◌≡◌, refl, sym, ap, subst, ◌∙◌}
-use mathlib.Core.Bool.{true, false, cond}
+use mathlib.Core.Bool.{Bool, true, false, cond}
 use mathlib.Core.List.{List, [], ◌∷◌}
 use borrow.Author.Tests.{lt-ltb, le-ltb}
 use lib.Dec.{ltb}
@@ -13,20 +13,20 @@ use lib.ListN.{set}
 use Rattle.laws.specs.Cases.{split}
 use Rattle.file.specs.declared.File.{File}
 use Rattle.file.specs.declared.Statement.{Statement}
-use Rattle.file.specs.Answer.{Answer, Cause, refused, done, counted, decide, accepted, statement_says}
+use Rattle.file.specs.Answer.{Answer, Cause, refused, done, counted, deletion, decide, accepted, statement_says}
 use Rattle.file.specs.Admit.{admitted_file}
 use Rattle.file.specs.KeepsPositions.{admitted-sound}
 use Rattle.file.specs.Statement.{file_statement}
 use Rattle.layout.specs.Book.{Book}
 use Rattle.layout.specs.WellFormed.{SoundBook}
-use Rattle.book.specs.Call.{Act, admit, settle, Call, on, statement, calls_made, is_called}
+use Rattle.book.specs.Call.{Act, admit, settle, delete, Call, on, statement, calls_made, is_called}
 use Rattle.book.specs.Rule.{Rule, old_rule, new_rule}
 use Rattle.book.specs.Account.{file_at, with_file, if_numbered, if_admitted, admits_retired, file_answer, calls_added, answer, applied, step}
 use Rattle.book.specs.Left.{file_left}
 use Rattle.book.specs.Reached.{Given}
 use Rattle.book.proofs.Participant.Decide.{decide_true, decide-false, decide-accepted}
 use Rattle.book.proofs.Functions.OnFile.{refused-left, known-first, known-answer, is-admitted}
-use Rattle.book.proofs.Functions.OnFile.{admitted-left, none_left, settle-left}
+use Rattle.book.proofs.Functions.OnFile.{admitted-left, none_left, settle-left, delete-left}
 use Rattle.book.proofs.Functions.SoundBook.{sound-made}
 use Rattle.book.proofs.History.Life.{given}
 
@@ -75,6 +75,14 @@ module _ (b : Book) (p : ℕ) (low : p ≤ 63) where
       gave (settle m figures) x n g refl e h
       (ap (with_file b p (file_left f t (settle m figures))) (number ∙ ap (λ (y : Answer). cond (is_called y) 1 0) e)
       ∙ settle-left b p numbered m figures)
+
+  -- A deletion that isn't refused.
+  pub left-delete : (a : ℕ) (c : Bool) (n : ℕ) (g : File) → deletion a c ≡ file_answer (file_at b p) b.today.0 delete
+      → g ≡ file_left (file_at b p) b.today.0 delete → n ≡ cond c 1 0 → Given b (on p delete) (deletion a c) (stored_in b p g (b.made + n))
+  unfolding with_file
+  left-delete a c n g e h number =
+      gave delete (deletion a c) n g refl e h
+      (ap (with_file b p (file_left f t delete)) number ∙ delete-left b p numbered a c e)
 
   -- Admissions, by the causes that both rules have.
   pub first-already : (role : ℕ) → (file_at b p).admitted ≡ true → refused 3 ≡ answer old_rule b (on p (admit role))

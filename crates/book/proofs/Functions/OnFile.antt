@@ -12,15 +12,16 @@ use lib.ListN.{length}
 use lib.Seq.{set-get_or}
 use Rattle.laws.specs.Cases.{split, clash, cond-true, cond-false}
 use Rattle.file.specs.declared.File.{File}
-use Rattle.file.specs.Answer.{Answer, refused, done, called, covered, recorded, annual, days_opened, stated, counted, batched, refused_pair}
+use Rattle.file.specs.Answer.{Answer, refused, done, called, covered, recorded, annual, days_opened, stated, counted, batched, refused_pair, deletion}
 use Rattle.file.specs.Answer.{decide, accepted}
 use Rattle.file.specs.Admit.{no_file, admitted_file, calls_of_admission}
 use Rattle.file.specs.CheckLaws.{settled-answer}
 use Rattle.file.specs.Settle.{settle_answer, settled_answer, settlement_calls, check_due}
 use Rattle.calendar.specs.Civil.{month_of}
 use Rattle.manual.specs.Figures.{sum_of}
+use Rattle.file.specs.Deletion.{deletion_calls, deletion_amount_of, deletion_answer}
 use Rattle.layout.specs.Book.{Book}
-use Rattle.book.specs.Call.{Act, admit, settle, Call, on, is_called}
+use Rattle.book.specs.Call.{Act, admit, settle, delete, Call, on, is_called}
 use Rattle.book.specs.Rule.{Rule, old_rule, new_rule}
 use Rattle.book.specs.Account.{file_at, with_file, if_numbered, if_admitted, file_answer, file_after, calls_added}
 use Rattle.book.specs.Account.{admits_retired, unless_retired, answer, applied, step}
@@ -133,6 +134,7 @@ refused-not-called (stated f c s d a) e = refl
 refused-not-called (counted n) e = refl
 refused-not-called (batched n) e = refl
 refused-not-called (refused_pair n i) e = refl
+refused-not-called (deletion a c) e = refl
 
 -- A settlement's answer where no cause holds is a call where the manual's check calls.
 settled-called : (f : File) (t m : ℕ) (figures : List ℤ) → is_called (settled_answer f t m figures) ≡ settlement_calls f t m figures
@@ -146,7 +148,20 @@ settled-called f t m figures =
     either true z = refl
     either false z = refl
 
+-- Whether the answer of a deletion says that it called.
+abbrev says_called : Answer → Bool
+says_called (deletion a calls) = calls
+says_called x = false
+
 module _ (f : File) (t : ℕ) where
+  -- A deletion that isn't refused says whether it called.
+  delete-called : (a : ℕ) (c : Bool) → deletion a c ≡ file_answer f t delete → c ≡ deletion_calls f t
+  unfolding file_answer if_admitted deletion_answer
+  delete-called a c e =
+      let ok : accepted (file_answer f t delete) ≡ true = ap accepted (sym e) in
+      let first = decide-accepted (record { number = 2; holds = not f.admitted } ∷ []) (deletion_answer f t) ok in
+      ap says_called (e ∙ first ∙ decide-accepted _ (deletion (deletion_amount_of f t) (deletion_calls f t)) (ap accepted (sym first) ∙ ok))
+
   -- A settlement that isn't refused called where the manual's check calls.
   pub called_is : (m : ℕ) (figures : List ℤ) → accepted (file_answer f t (settle m figures)) ≡ true
       → is_called (file_answer f t (settle m figures)) ≡ settlement_calls f t m figures
@@ -185,3 +200,12 @@ module _ (b : Book) (p : ℕ) (numbered : ltb 63 p ≡ false) where
       left (settle m figures) (cond (is_called x) 1 0) refl
       (λ e. ap (λ (called : Bool). cond called 1 0) (called_is (file_at b p) b.today.0 m figures e))
       (λ e. ap (λ (called : Bool). cond called 1 0) (refused-not-called x e))
+
+  -- a deletion that isn't refused
+  pub delete-left : (n : ℕ) (c : Bool) → deletion n c ≡ file_answer (file_at b p) b.today.0 delete
+      → with_file b p (file_left (file_at b p) b.today.0 delete) (cond c 1 0) ≡ step new_rule b (on p delete)
+  unfolding calls_added
+  delete-left n c e =
+      left delete (cond c 1 0) refl
+      (λ ok. ap (λ (called : Bool). cond called 1 0) (delete-called (file_at b p) b.today.0 n c e))
+      (λ bad. clash (ap accepted (sym e)) bad)

@@ -15,11 +15,12 @@ use Rattle.refusal.specs.declared.Refusal.{Refusal}
 use Rattle.refusal.specs.declared.Refusal.TheVariants.{NoSuchParticipant}
 use Rattle.refusal.specs.Numbers.{number_of}
 use Rattle.file.specs.declared.Statement.{Statement}
-use Rattle.file.specs.Answer.{Answer, refused, done, called, covered, recorded, annual, days_opened, stated, counted, batched, refused_pair}
+use Rattle.file.specs.Answer.{Answer, refused, done, called, covered, recorded, annual, days_opened, stated, counted, batched, refused_pair, deletion}
 use Rattle.file.specs.Answer.{accepted}
 use Rattle.file.specs.Admit.{no_file, admitted_file}
 use Rattle.file.specs.Annual.{annual_amount_of, annual_answer, annual_file}
 use Rattle.file.specs.declared.AnnualRun.{AnnualRun}
+use Rattle.file.specs.Deletion.{deletion_answer}
 use Rattle.file.specs.Lodge.{lodge_answer}
 use Rattle.file.specs.Release.{release_answer}
 use Rattle.file.specs.Settle.{settle_answer}
@@ -34,7 +35,7 @@ use Rattle.layout.specs.WellFormed.{SoundBook, WellFormed}
 use Rattle.layout.proofs.BookLaws.{book-long, book-file, put-book, put-length, made-book, canonical-put, canonical-made, fresh_words, fresh-words}
 use Rattle.layout.proofs.BookLaws.{canonical-fresh}
 use Rattle.layout.proofs.PartLaws.{next-put}
-use Rattle.book.specs.Call.{Act, admit, lodge, release, settle, annual_run, Call, on, statement, calls_made, is_called}
+use Rattle.book.specs.Call.{Act, admit, lodge, release, settle, annual_run, delete, Call, on, statement, calls_made, is_called}
 use Rattle.book.specs.Rule.{Rule, old_rule, new_rule}
 use Rattle.book.specs.Account.{file_at, fresh_book, if_numbered, if_admitted, admits_retired, file_answer, file_after, calls_added, answer, step, applied}
 use Rattle.book.specs.Left.{file_left}
@@ -96,7 +97,7 @@ pub day-within : (l : List ℕ) (t : ℕ) → WellFormed l → t ≡ today_in l 
 unfolding book_of_words
 day-within l t w e = rw e w.sound.day
 
-room : (l : List ℕ) (n : ℕ) → WellFormed l → n ≤ 4 → get_or l 2 0 + n < 18446744073709551616
+pub room : (l : List ℕ) (n : ℕ) → WellFormed l → n ≤ 4 → get_or l 2 0 + n < 18446744073709551616
 unfolding book_of_words
 room l n w h = count_fits (book_of_words l) n w.sound h
 
@@ -158,6 +159,7 @@ amount_in (stated f c s d a) = 0
 amount_in (counted n) = 0
 amount_in (batched n) = 0
 amount_in (refused_pair n i) = 0
+amount_in (deletion a c) = 0
 
 -- The file of participant p and another count, put back.
 stored-book : (l m : List ℕ) (p : ℕ) (g : File) → p ≤ 63 → Put l (place p) g m → (n : ℕ) → length l ≡ book_length
@@ -172,7 +174,7 @@ module _ (l : List ℕ) (p : ℕ) (w : WellFormed l) (low : p ≤ 63) where
   file-sound f t e q = rw (e, q) (subst (Sound (today_in l)) (file-there l p low) (sound-file (book_of_words l) p w.sound))
 
   -- what is said of the file in the words is said of the book's file
-  said : {X : Type 0} (F : File → X) (x : X) → x ≡ F (file_in_words l p) → x ≡ F (file_at (book_of_words l) p)
+  pub said : {X : Type 0} (F : File → X) (x : X) → x ≡ F (file_in_words l p) → x ≡ F (file_at (book_of_words l) p)
   said F x e = e ∙ ap F (sym (file-there l p low))
 
   module _ (m : List ℕ) (g : File) (put : Put l (place p) g m) where
@@ -184,7 +186,7 @@ module _ (l : List ℕ) (p : ℕ) (w : WellFormed l) (low : p ≤ 63) where
         (canonical-put l m p g w.canonical low put)
 
     -- the file and a count
-    both : (a : Act) (x : Answer) (n : ℕ) → Given (book_of_words l) (on p a) x (stored_in (book_of_words l) p g n) → GivenWords l (on p a) x (set m 2 n)
+    pub both : (a : Act) (x : Answer) (n : ℕ) → Given (book_of_words l) (on p a) x (stored_in (book_of_words l) p g n) → GivenWords l (on p a) x (set m 2 n)
     both a x n h =
         in_words l (set m 2 n) (on p a) x w (subst (Given (book_of_words l) (on p a) x) (sym (stored-book l m p g low put n w.long)) h)
         (length-set m 2 n ∙ put-length l m p g low put)
@@ -239,6 +241,7 @@ own_answer f t (lodge k h) = lodge_answer f t k h
 own_answer f t (release k n) = release_answer f t k n
 own_answer f t (settle m figures) = settle_answer f t m figures
 own_answer f t annual_run = annual_answer f t
+own_answer f t delete = deletion_answer f t
 
 abbrev pub asks_admitted : Act → Bool
 asks_admitted (admit role) = false
@@ -246,6 +249,7 @@ asks_admitted (lodge k h) = true
 asks_admitted (release k n) = true
 asks_admitted (settle m figures) = true
 asks_admitted annual_run = true
+asks_admitted delete = true
 
 behind : (f : File) (t : ℕ) (a : Act) → asks_admitted a ≡ true → (file_answer f t a ≡ if_admitted f (own_answer f t a)) × (admits_retired a ≡ false)
 unfolding file_answer
@@ -254,6 +258,7 @@ behind f t (lodge k h) e = (refl, refl)
 behind f t (release k n) e = (refl, refl)
 behind f t (settle m figures) e = (refl, refl)
 behind f t annual_run e = (refl, refl)
+behind f t delete e = (refl, refl)
 
 module _ (l l' : List ℕ) (p p' : ℕ) (a : Act) (x : Answer) (words : l' ≡ l) (same : p' ≡ p) (known : (file_in_words l p).admitted ≡ true)
     (asks : asks_admitted a ≡ true) (e : x ≡ own_answer (file_in_words l' p') (today_in l') a) where

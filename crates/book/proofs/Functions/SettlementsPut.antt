@@ -140,6 +140,7 @@ module _ (l : List ℕ) (p : ℕ) (w : WellFormed l) (low : p ≤ 63) where
         let s = file-sound l p w low f t refl refl in
         λ i. record {
           admitted = f.admitted;
+          leaving = f.leaving;
           role = f.role;
           firm = f.firm;
           slots = f.slots;
@@ -228,6 +229,7 @@ module _ (l : List ℕ) (p : ℕ) (w : WellFormed l) (low : p ≤ 63) where
         let few : length (open_calls f) < 4 = omega (arith, k.few, count-is, open-count f t s) in
         λ i. record {
           admitted = f.admitted;
+          leaving = f.leaving;
           role = f.role;
           firm = f.firm;
           slots = f.slots;

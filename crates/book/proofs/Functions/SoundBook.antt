@@ -15,21 +15,22 @@ use Rattle.laws.specs.Cases.{split, clash, cond-true, by-test}
 use Rattle.file.specs.declared.File.{File}
 use Rattle.file.specs.Answer.{Answer, refused, done, days_opened, Cause, decide, accepted}
 use Rattle.file.specs.Admit.{no_file, admitted_file}
-use Rattle.file.specs.Fields.{open_calls, with_slots, with_totals, with_next, set_to}
+use Rattle.file.specs.Fields.{open_calls, with_slots, with_totals, with_next, with_deletion, set_to}
 use Rattle.file.specs.Position.{slot_of}
 use Rattle.file.specs.Lodge.{lodge_answer, lodged_file}
 use Rattle.file.specs.Release.{slots_left, release_answer, released_file}
 use Rattle.file.specs.Settle.{settle_answer, settled_file, settlement_calls, calls_settled}
 use Rattle.file.specs.Annual.{annual_amount_of, annual_answer, annual_file}
+use Rattle.file.specs.Deletion.{deletion_calls, deletion_answer, calls_deleted, deleted_file}
 use Rattle.file.specs.Opening.{opened_file}
 use Rattle.file.specs.Sound.{Sound}
 use Rattle.file.specs.DecideLaws.{none-holds}
 use Rattle.file.specs.KeepsPositions.{none-sound, admitted-sound, lodged-sound, released-sound}
-use Rattle.file.specs.KeepsCalls.{open-count, opened-sound, settled-sound, annual-sound}
+use Rattle.file.specs.KeepsCalls.{open-count, opened-sound, settled-sound, annual-sound, deleted-sound}
 use Rattle.layout.specs.Book.{Book}
 use Rattle.layout.specs.WellFormed.{open_count, BlankUnlessAdmitted, SoundBook}
 use Rattle.batch.specs.Batch.{count_in, participant_at}
-use Rattle.book.specs.Call.{Act, admit, lodge, release, settle, annual_run, Call, on, advance, statement, calls_made, batch, part_act}
+use Rattle.book.specs.Call.{Act, admit, lodge, release, settle, annual_run, delete, Call, on, advance, statement, calls_made, batch, part_act}
 use Rattle.book.specs.Account.{fresh_book, file_at, with_file, if_numbered, if_admitted, file_answer, file_after, calls_added, opened_if_admitted}
 use Rattle.book.specs.Rule.{Rule, old_rule, new_rule, MadeCall, history}
 use Rattle.book.specs.Account.{admits_retired, unless_retired, answer_on, applied_on, after_parts, part_answer, open_day, open_days, answer, applied, step, run}
@@ -155,8 +156,15 @@ module _ (f : File) (t : ℕ) (s : Sound t f) (blank : BlankUnlessAdmitted f) wh
       (λ e. rw e (length-append (open_calls f) _ ∙ ap (λ (n : ℕ). n + 1) (open-count f t s)))
       (λ e. rw e (open-count f t s ∙ sym (add-zero f.count)))
 
+  deleted-count : length (calls_deleted f t) ≡ f.count + cond (deletion_calls f t) 1 0
+  unfolding calls_deleted
+  deleted-count =
+      split (deletion_calls f t)
+      (λ e. rw e (length-append (open_calls f) _ ∙ ap (λ (n : ℕ). n + 1) (open-count f t s)))
+      (λ e. rw e (open-count f t s ∙ sym (add-zero f.count)))
+
   grown : (a : Act) → accepted (file_answer f t a) ≡ true → Grown (calls_added f t a) (file_after f t a)
-  unfolding file_answer file_after calls_added admitted_file lodged_file released_file annual_file settled_file
+  unfolding file_answer file_after calls_added admitted_file lodged_file released_file annual_file settled_file deleted_file
   grown (admit role) e = (refl, omega (arith, none))
     where
       none : f.count ≡ 0
@@ -171,6 +179,10 @@ module _ (f : File) (t : ℕ) (s : Sound t f) (blank : BlankUnlessAdmitted f) wh
       (is-admitted f (settle_answer f t m figures) e, omega (arith, settled-count m figures))
   grown annual_run e =
       kept (accepted (annual_answer f t)) (with_next f (set_to (annual_amount_of f t))) (is-admitted f (annual_answer f t) e) refl refl
+  grown delete e =
+      let ok = behind-admitted f (deletion_answer f t) e in
+      rw (cond-true (accepted (deletion_answer f t)) (with_deletion f (calls_deleted f t)) f ok)
+      (is-admitted f (deletion_answer f t) e, omega (arith, deleted-count))
 
 -- The file that a call leaves.
 after-sound : (f : File) (t : ℕ) (a : Act) → t ≤ 29219 → Sound t f → Sound t (file_after f t a)
@@ -180,6 +192,7 @@ after-sound f t (lodge k p) h s = lodged-sound f t k p s
 after-sound f t (release k a) h s = released-sound f t k a s
 after-sound f t (settle m figures) h s = settled-sound f t m figures s
 after-sound f t annual_run h s = annual-sound f t s
+after-sound f t delete h s = deleted-sound f t s
 
 -- The book after n days were opened.
 blank-opened : (d : ℕ) (f : File) → BlankUnlessAdmitted f → BlankUnlessAdmitted (opened_if_admitted d f)

@@ -34,7 +34,7 @@ file-reads : (s p : ℕ) (events : List Event) → LawfulAll s events
     → ReadsAs (today_of s events) (file_in (today_of s events) (mine p events)) (mine p events)
 unfolding file_in
 file-reads s p events lw =
-    record { admitted = refl; role = refl; firm = refl; cover = (part s events lw p).cover; charged = refl; accrued = refl }
+    record { admitted = refl; leaving = refl; role = refl; firm = refl; cover = (part s events lw p).cover; charged = refl; accrued = refl }
 
 -- So does each file of the book that a list of calls leads to.
 figures-are : (s : ℕ) (calls : List MadeCall) → s ≤ 29219 → (p : ℕ) → p < 64

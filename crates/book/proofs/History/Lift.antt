@@ -20,7 +20,7 @@ use Rattle.file.specs.Statement.{file_statement}
 use Rattle.layout.specs.Book.{Book}
 use Rattle.batch.specs.Batch.{count_in, participant_at}
 use Rattle.batch.specs.FormLaws.{Whole}
-use Rattle.book.specs.Call.{Act, admit, lodge, release, settle, annual_run, Call, on, advance, statement, calls_made, batch, part_act}
+use Rattle.book.specs.Call.{Act, admit, lodge, release, settle, annual_run, delete, Call, on, advance, statement, calls_made, batch, part_act}
 use Rattle.book.specs.Account.{fresh_book, file_at, with_file, if_numbered, if_admitted, file_answer, file_after, calls_added, opened_if_admitted}
 use Rattle.book.specs.Rule.{Rule, old_rule, new_rule, MadeCall}
 use Rattle.book.specs.Account.{unless_retired, answer_on, applied_on, after_parts, part_answer, open_day, open_days, answer, applied, step, run}
@@ -103,6 +103,7 @@ registered t own new_rule (lodge k h) = no_more t own (lodge k h)
 registered t own new_rule (release k a) = no_more t own (release k a)
 registered t own new_rule (settle m figures) = no_more t own (settle m figures)
 registered t own new_rule annual_run = no_more t own annual_run
+registered t own new_rule delete = no_more t own delete
 
 -- What holds of one participant holds of each after lawful events; so one call, or one more day, does to the book what the readings say.
 module _ (s : ℕ) (events : List Event) (lw : LawfulAll s events) where

@@ -16,10 +16,11 @@ use Rattle.file.specs.Lodge.{lodge_answer, lodged_file}
 use Rattle.file.specs.Release.{release_answer, released_file}
 use Rattle.file.specs.Settle.{settle_answer, settled_file}
 use Rattle.file.specs.Annual.{annual_answer, annual_file}
+use Rattle.file.specs.Deletion.{deletion_answer, deleted_file}
 use Rattle.file.specs.Opening.{opened_file}
 use Rattle.batch.specs.Batch.{count_in, participant_at}
 use Rattle.layout.specs.Book.{Book}
-use Rattle.book.specs.Call.{Act, admit, lodge, release, settle, annual_run, Call, on, advance, statement, calls_made, batch, part_act}
+use Rattle.book.specs.Call.{Act, admit, lodge, release, settle, annual_run, delete, Call, on, advance, statement, calls_made, batch, part_act}
 use Rattle.book.specs.Rule.{new_rule}
 use Rattle.book.specs.Account.{fresh_book, file_at, with_file, if_numbered, file_answer, file_after, admits_retired, opened_if_admitted}
 use Rattle.book.specs.Account.{answer_on, applied_on, after_parts, days_to_open, open_day, open_days, answer, applied, step}
@@ -50,12 +51,13 @@ registered b p a e =
     not-retired (admits_retired a) x (ap accepted (sym (decide-accepted (cause 1 (ltb 63 p) ∷ []) y e)) ∙ e)
 
 file-other : (f : File) (t : ℕ) (a : Act) → admits_retired a ≡ false → Other f → Other (file_after f t a)
-unfolding file_after admitted_file lodged_file released_file settled_file annual_file
+unfolding file_after admitted_file lodged_file released_file settled_file annual_file deleted_file
 file-other f t (admit role) e h = e
 file-other f t (lodge k x) e h = by-test (accepted (lodge_answer f t k x)) _ f Other (λ y. h) (λ n. h)
 file-other f t (release k n) e h = by-test (accepted (release_answer f t k n)) _ f Other (λ y. h) (λ n. h)
 file-other f t (settle m figures) e h = by-test (accepted (settle_answer f t m figures)) _ f Other (λ y. h) (λ n. h)
 file-other f t annual_run e h = by-test (accepted (annual_answer f t)) _ f Other (λ y. h) (λ n. h)
+file-other f t delete e h = by-test (accepted (deletion_answer f t)) _ f Other (λ y. h) (λ n. h)
 
 opened-other : (d : ℕ) (f : File) → Other f → Other (opened_if_admitted d f)
 unfolding opened_if_admitted opened_file

@@ -18,7 +18,7 @@ use Rattle.file.specs.Fields.{unset}
 use Rattle.file.specs.Admit.{calls_of_admission, admitted_file}
 use Rattle.book.specs.Account.{file_answer, file_after, calls_added}
 use Rattle.book.specs.Call.{admit}
-use Rattle.book.specs.Reading.Events.{Own, act, admitted_in, role_in}
+use Rattle.book.specs.Reading.Events.{Own, act, admitted_in, leaving_in, role_in}
 use Rattle.book.specs.Reading.Holdings.{last_lodged, released_since, left_at, position_in}
 use Rattle.book.specs.Reading.Months.{next_in}
 use Rattle.book.specs.Reading.Calls.{calls_in, open_on, open_in}
@@ -27,7 +27,7 @@ use Rattle.book.specs.Reading.Decisions.{own_causes, own_answer}
 use Rattle.book.specs.Kept.{ring_in, file_in}
 use Rattle.book.proofs.Participant.Lawful.{today_in, NoneHolds, Lawful}
 use Rattle.book.proofs.Participant.Charges.{charged-act, accrued-act}
-use Rattle.book.proofs.Participant.Blank.{blank-calls, blank-next, blank-slots, blank-totals, blank-charged, blank-accrued}
+use Rattle.book.proofs.Participant.Blank.{blank-leaving, blank-calls, blank-next, blank-slots, blank-totals, blank-charged, blank-accrued}
 use Rattle.book.proofs.Participant.OpenCalls.{open-behind}
 use Rattle.book.proofs.Participant.Shortfalls.{newly-admitted}
 
@@ -57,6 +57,10 @@ module _ (s : ℕ) (own : List Own) (role : ℕ) (lw : Lawful s own) (none : Non
   unfolding position_in left_at last_lodged released_since
   slots = blank-slots s own lw unadmitted (today_in s own)
 
+  leaving : leaving_in (act (today_in s own) (admit role) ∷ own) ≡ false
+  unfolding leaving_in
+  leaving = blank-leaving s own lw unadmitted
+
   next : next_in (act (today_in s own) (admit role) ∷ own) ≡ unset
   unfolding next_in
   next = blank-next s own lw unadmitted
@@ -78,6 +82,7 @@ module _ (s : ℕ) (own : List Own) (role : ℕ) (lw : Lawful s own) (none : Non
   admit-file-sym = λ i.
       record {
         admitted = true;
+        leaving = leaving i;
         role = role;
         firm = newly-admitted s role own lw unadmitted i;
         slots = slots i;

@@ -15,7 +15,7 @@ use Rattle.file.specs.Fields.{set_to, with_next}
 use Rattle.file.specs.Annual.{annual_amount_of, annual_answer, annual_file}
 use Rattle.book.specs.Account.{if_admitted, file_answer, file_after}
 use Rattle.book.specs.Call.{annual_run}
-use Rattle.book.specs.Reading.Events.{Own, act, admitted_in, role_in}
+use Rattle.book.specs.Reading.Events.{Own, act, admitted_in, leaving_in, role_in}
 use Rattle.book.specs.Reading.Holdings.{last_lodged, released_since, left_at, position_in}
 use Rattle.book.specs.Reading.Months.{next_in, annual_in}
 use Rattle.book.specs.Reading.Calls.{base_in, calls_in, firm_in, open_in}
@@ -39,16 +39,17 @@ module _ (s : ℕ) (own : List Own) (lw : Lawful s own) where
 
   module _ (none : NoneHolds (own_causes (today_in s own) own annual_run)) where
     taken : accepted (annual_answer (file_in (today_in s own) own) (today_in s own)) ≡ true
-    unfolding own_causes annual_answer decide
-    taken = rw none.1.0
+    unfolding own_causes annual_answer decide file_in
+    taken = rw (none.1.0, none.1.1.0)
 
     -- (2) The file that it leaves.
     set_next : with_next (file_in (today_in s own) own) (set_to (annual_amount_of (file_in (today_in s own) own) (today_in s own)))
         ≡ file_in (today_in s own) (act (today_in s own) annual_run ∷ own)
-    unfolding file_in admitted_in role_in firm_in base_in calls_in position_in left_at last_lodged released_since open_in next_in ring_in
+    unfolding file_in admitted_in leaving_in role_in firm_in base_in calls_in position_in left_at last_lodged released_since open_in next_in ring_in
     set_next = λ i.
         record {
           admitted = admitted_in own;
+          leaving = leaving_in own;
           role = role_in own;
           firm = firm_in (today_in s own) own;
           slots = table 8 (λ k. slot_of (position_in (today_in s own) k own));

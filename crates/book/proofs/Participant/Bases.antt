@@ -11,7 +11,7 @@ use Rattle.laws.specs.Cases.{split}
 use Rattle.calendar.specs.Civil.{is_first_october}
 use Rattle.file.specs.declared.OpenCall.{OpenCall}
 use Rattle.file.specs.Calls.{largest, amounts_of, keep, ends_at}
-use Rattle.book.specs.Call.{admit, lodge, release, settle, annual_run}
+use Rattle.book.specs.Call.{admit, lodge, release, settle, annual_run, delete}
 use Rattle.book.specs.Reading.Events.{Own, day_opened, act}
 use Rattle.book.specs.Reading.Months.{next_in}
 use Rattle.book.specs.Reading.Calls.{base_in, counts_from, firm_from, calls_in, firm_in, open_in}
@@ -38,6 +38,7 @@ base_same s d e (act b (lodge j a) ∷ own) lw h k = base_same s d e own lw.2 h 
 base_same s d e (act b (release j a) ∷ own) lw h k = base_same s d e own lw.2 h k
 base_same s d e (act b (settle m figures) ∷ own) lw h k = base_same s d e own lw.2 h k
 base_same s d e (act b annual_run ∷ own) lw h k = base_same s d e own lw.2 h k
+base_same s d e (act b delete ∷ own) lw h k = base_same s d e own lw.2 h k
 
 -- R is not after today.
 pub base-from : (s d : ℕ) (own : List Own) → Lawful s own → (base_in d own).from ≤ today_in s own
@@ -52,6 +53,7 @@ base-from s d (act b (lodge j a) ∷ own) lw = base-from s d own lw.2
 base-from s d (act b (release j a) ∷ own) lw = base-from s d own lw.2
 base-from s d (act b (settle m figures) ∷ own) lw = base-from s d own lw.2
 base-from s d (act b annual_run ∷ own) lw = base-from s d own lw.2
+base-from s d (act b delete ∷ own) lw = base-from s d own lw.2
 
 -- A day opened changes no R or base of an earlier day.
 pub base-before : (d e : ℕ) (own : List Own) → d < e → base_in d (day_opened e ∷ own) ≡ base_in d own

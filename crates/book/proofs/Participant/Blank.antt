@@ -18,8 +18,8 @@ use Rattle.file.specs.Calls.{largest, keep, in_places}
 use Rattle.file.specs.Fields.{unset}
 use Rattle.file.specs.Totals.{no_total}
 use Rattle.file.specs.Admit.{no_file}
-use Rattle.book.specs.Call.{Act, admit, lodge, release, settle, annual_run}
-use Rattle.book.specs.Reading.Events.{Own, day_opened, act, admitted_in, role_in}
+use Rattle.book.specs.Call.{Act, admit, lodge, release, settle, annual_run, delete}
+use Rattle.book.specs.Reading.Events.{Own, day_opened, act, admitted_in, leaving_in, role_in}
 use Rattle.book.specs.Reading.Holdings.{last_lodged, left_at, position_in}
 use Rattle.book.specs.Reading.Months.{next_in}
 use Rattle.book.specs.Reading.Calls.{base_in, firm_from, calls_in, firm_in, open_on, open_in}
@@ -43,6 +43,7 @@ unadmitted t own (lodge k p) e h = clash (not-false (admitted_in own) h.0) e
 unadmitted t own (release k a) e h = clash (not-false (admitted_in own) h.0) e
 unadmitted t own (settle m figures) e h = clash (not-false (admitted_in own) h.0) e
 unadmitted t own annual_run e h = clash (not-false (admitted_in own) h.0) e
+unadmitted t own delete e h = clash (not-false (admitted_in own) h.0) e
 
 -- Before the admission there are days only.
 pub days-only : (s : ℕ) (own : List Own) → Lawful s own → admitted_in own ≡ false → DaysOnly own
@@ -50,7 +51,13 @@ days-only s [] lw e = tt
 days-only s (day_opened d ∷ own) lw e = days-only s own lw.2 (unfold admitted_in in e)
 days-only s (act d a ∷ own) lw e = unadmitted d own a e lw.1
 
--- Then nothing was lodged or released, called, settled or set.
+-- Then nothing was lodged or released, called, settled or set, and nobody is under deletion.
+leaving-none : (own : List Own) → DaysOnly own → leaving_in own ≡ false
+unfolding leaving_in
+leaving-none [] h = refl
+leaving-none (day_opened d ∷ own) h = leaving-none own h
+leaving-none (act d a ∷ own) h = absurd h
+
 role-none : (own : List Own) → DaysOnly own → role_in own ≡ 0
 unfolding role_in
 role-none [] h = refl
@@ -97,6 +104,9 @@ module _ (s : ℕ) (own : List Own) (lw : Lawful s own) (e : admitted_in own ≡
   pub blank-role : role_in own ≡ 0
   blank-role = role-none own (days-only s own lw e)
 
+  pub blank-leaving : leaving_in own ≡ false
+  blank-leaving = leaving-none own (days-only s own lw e)
+
   pub blank-calls : calls_in own ≡ []
   blank-calls = calls-none own (days-only s own lw e)
 
@@ -139,6 +149,7 @@ module _ (s : ℕ) (own : List Own) (lw : Lawful s own) (e : admitted_in own ≡
   blank-file t = λ i.
       record {
         admitted = e i;
+        leaving = blank-leaving i;
         role = blank-role i;
         firm = blank-firm t i;
         slots = blank-slots t i;

@@ -15,10 +15,11 @@ use Rattle.manual.specs.Figures.{sum_of}
 use Rattle.file.specs.declared.OpenCall.{OpenCall}
 use Rattle.file.specs.Calls.{largest, amounts_of, call_of, keep}
 use Rattle.file.specs.CallLaws.{keep_same}
-use Rattle.book.specs.Call.{Act, admit, lodge, release, settle, annual_run}
+use Rattle.book.specs.Call.{Act, admit, lodge, release, settle, annual_run, delete}
 use Rattle.book.specs.Reading.Events.{Own, day_opened, act, admitted_in}
 use Rattle.book.specs.Reading.Holdings.{cover_in}
-use Rattle.book.specs.Reading.Calls.{Base, base_in, counts_from, firm_from, calls_in, called_in, firm_in}
+use Rattle.book.specs.Reading.Calls.{Base, base_in, counts_from, firm_from, calls_in, called_in, deletion_called, firm_in}
+use Rattle.book.specs.Reading.Months.{deletion_in}
 use Rattle.book.specs.Reading.Charges.{before, opening_shortfall, days_since, count_short, sum_charges, charged_in, accrued_in}
 use Rattle.book.specs.Reading.Decisions.{own_causes}
 use Rattle.book.proofs.Participant.Lawful.{today_in, NoneHolds, Lawful}
@@ -46,6 +47,7 @@ days-none (act d (lodge k h) ∷ own) e = days-none own e
 days-none (act d (release k a) ∷ own) e = days-none own e
 days-none (act d (settle m figures) ∷ own) e = days-none own e
 days-none (act d annual_run ∷ own) e = days-none own e
+days-none (act d delete ∷ own) e = days-none own e
 
 -- A call that fails the test, behind a list of calls, is not kept.
 pub keep-behind : (test : OpenCall → Bool) (made : List OpenCall) (b : Bool) (c : OpenCall) → test c ≡ false
@@ -70,6 +72,12 @@ pub firm-settled : (d t m : ℕ) (figures : List ℤ) (own : List Own) → d ≤
 unfolding firm_in base_in calls_in
 firm-settled d t m figures own h =
     firm-behind d (base_in d own) (calls_in own) (called_in t m figures own (calls_in own)) (nat_abs (sum_of figures)) (t + 10) h
+
+-- Nor does a deletion.
+pub firm-deleted : (d t : ℕ) (own : List Own) → d ≤ t + 10 → firm_in d (act t delete ∷ own) ≡ firm_in d own
+unfolding firm_in base_in calls_in
+firm-deleted d t own h =
+    firm-behind d (base_in d own) (calls_in own) (deletion_called t own (calls_in own)) (deletion_in t own) (t + 10) h
 
 -- The charges of days whose opening shortfalls agree.
 abbrev pub Agree : List ℕ → List Own → List Own → Type 0
@@ -100,6 +108,7 @@ firm-same d t (lodge k p) own h e none = refl
 firm-same d t (release k a) own h e none = refl
 firm-same d t (settle m figures) own h e none = firm-settled d t m figures own (omega arith)
 firm-same d t annual_run own h e none = refl
+firm-same d t delete own h e none = firm-deleted d t own (omega arith)
 
 -- So each opening shortfall since the admission stays.
 agree-past : (t : ℕ) (own : List Own) (a : Act) → NoneHolds (own_causes t own a) → admitted_in own ≡ true

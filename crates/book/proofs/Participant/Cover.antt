@@ -14,7 +14,7 @@ use Rattle.laws.specs.Tabulated.{sum_below, sum_below-ext, sum_below-change}
 use Rattle.file.specs.declared.Position.{Position}
 use Rattle.file.specs.declared.Position.TheVariants.{Empty, Cash, Letter}
 use Rattle.file.specs.Position.{amount_of, in_force_through, counts_through, cover_through, cover_on, filled, not_releasable, slot_of}
-use Rattle.book.specs.Call.{admit, lodge, release, settle, annual_run}
+use Rattle.book.specs.Call.{admit, lodge, release, settle, annual_run, delete}
 use Rattle.book.specs.Reading.Events.{Own, day_opened, act}
 use Rattle.book.specs.Reading.Holdings.{last_lodged, released_since, less, left_at, position_in}
 use Rattle.book.specs.Reading.Holdings.{lodged_where, released_where, cover_in, stays_in_force, deposited_in}
@@ -123,6 +123,7 @@ left-and-released s d e (act day (release k a) ∷ own) lw h =
     omega arith
 left-and-released s d e (act day (settle m figures) ∷ own) lw h = left-and-released s d e own lw.2 h
 left-and-released s d e (act day annual_run ∷ own) lw h = left-and-released s d e own lw.2 h
+left-and-released s d e (act day delete ∷ own) lw h = left-and-released s d e own lw.2 h
 
 -- The positions of day t count through each day from t on for what is left, lapsed letters counting for nothing.
 pub cover-of-positions : (t d e : ℕ) (own : List Own) → t ≤ e

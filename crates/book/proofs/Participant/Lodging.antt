@@ -15,7 +15,7 @@ use Rattle.file.specs.Fields.{with_slots}
 use Rattle.file.specs.Lodge.{lodge_answer, lodged_file}
 use Rattle.book.specs.Account.{if_admitted, file_answer, file_after}
 use Rattle.book.specs.Call.{lodge}
-use Rattle.book.specs.Reading.Events.{Own, act, admitted_in, role_in}
+use Rattle.book.specs.Reading.Events.{Own, act, admitted_in, leaving_in, role_in}
 use Rattle.book.specs.Reading.Holdings.{left_at, position_in}
 use Rattle.book.specs.Reading.Months.{next_in}
 use Rattle.book.specs.Reading.Calls.{base_in, calls_in, firm_in, open_in}
@@ -68,12 +68,12 @@ lodged-kept : (s k : ℕ) (h : Position) (own : List Own) → Lawful s own
     → NoneHolds (own_causes (today_in s own) own (lodge k h))
     → with_slots (file_in (today_in s own) own) (set (slots_in (today_in s own) own) k (slot_of h))
     ≡ file_in (today_in s own) (act (today_in s own) (lodge k h) ∷ own)
-unfolding admitted_in role_in firm_in base_in calls_in open_in next_in ring_in own_causes
+unfolding admitted_in leaving_in role_in firm_in base_in calls_in open_in next_in ring_in own_causes
 lodged-kept s k h own lw none =
     let t = today_in s own in
     with-slots-of t own (act t (lodge k h) ∷ own) (set (slots_in t own) k (slot_of h))
     (lodged-slots t k h own none.1.1.1.0 none.1.1.1.1.0)
-    refl refl refl refl refl
+    refl refl refl refl refl refl
     (λ j. refl)
     (sym (charged-act s own (lodge k h) lw none))
     (sym (accrued-act s own (lodge k h) lw none))

@@ -10,7 +10,7 @@ use lib.ListN.{length}
 use Rattle.file.specs.Answer.{refused, decide, statement_says}
 use Rattle.file.specs.Fields.{cover_of, shortfall_of}
 use Rattle.file.specs.Statement.{file_statement}
-use Rattle.book.specs.Call.{Act, admit, lodge, release, settle, annual_run}
+use Rattle.book.specs.Call.{Act, admit, lodge, release, settle, annual_run, delete}
 use Rattle.book.specs.Account.{file_answer, file_after, calls_added, opened_if_admitted}
 use Rattle.book.specs.Reading.Events.{Own, day_opened, act, admitted_in}
 use Rattle.book.specs.Reading.Holdings.{cover_in}
@@ -23,6 +23,7 @@ use Rattle.book.proofs.Participant.Lodging.{lodging-answers, lodging-leaves}
 use Rattle.book.proofs.Participant.Releasing.{releasing-answers, releasing-leaves}
 use Rattle.book.proofs.Participant.Settling.{settle-answer, settle-file, settle-calls}
 use Rattle.book.proofs.Participant.Annual.{annual-answer, annual-file}
+use Rattle.book.proofs.Participant.Deleting.{delete-answer, delete-file, delete-calls}
 use Rattle.book.proofs.Participant.Opening.{day-opened}
 use Rattle.book.proofs.Participant.Statements.{cover-of-file, statement-is}
 use Rattle.book.proofs.Participant.Shortfalls.{shortfall_in, shortfall-not-higher, begun-with-none}
@@ -53,6 +54,7 @@ module _ (s : ℕ) (own : List Own) (lw : Lawful s own) where
   answered-as (release k a) = releasing-answers s k a own lw
   answered-as (settle m figures) = settle-answer s own m figures lw
   answered-as annual_run = annual-answer s own lw
+  answered-as delete = delete-answer s own lw
 
   -- The file that each accepted call leaves.
   left_as : (a : Act) → NoneHolds (own_causes t own a) → file_after (file_in t own) t a ≡ file_in t (act t a ∷ own)
@@ -61,6 +63,7 @@ module _ (s : ℕ) (own : List Own) (lw : Lawful s own) where
   left_as (release k a) none = releasing-leaves s k a own lw none
   left_as (settle m figures) none = settle-file s own m figures lw none
   left_as annual_run none = annual-file s own lw none
+  left_as delete none = delete-file s own lw none
 
   -- The calls that each adds.
   called-as : (a : Act) → NoneHolds (own_causes t own a)
@@ -71,6 +74,7 @@ module _ (s : ℕ) (own : List Own) (lw : Lawful s own) where
   called-as (release k a) none = zero-add (length (calls_in own))
   called-as (settle m figures) none = settle-calls s own m figures lw
   called-as annual_run none = zero-add (length (calls_in own))
+  called-as delete none = delete-calls s own lw
 
   -- The shortfall.
   shortfall-as : shortfall_of (file_in t own) t ≡ shortfall_in t own

@@ -21,8 +21,8 @@ use Rattle.file.specs.Calls.{in_places, keep, stays_at}
 use Rattle.file.specs.Fields.{unset}
 use Rattle.file.specs.Opening.{slots_opened, calls_opened, firm_raised, takes_effect, firm_opened, next_opened, shortfall_opened, opened_file}
 use Rattle.book.specs.Account.{opened_if_admitted}
-use Rattle.book.specs.Call.{admit, lodge, release, settle, annual_run}
-use Rattle.book.specs.Reading.Events.{Own, day_opened, act, admitted_in, role_in}
+use Rattle.book.specs.Call.{admit, lodge, release, settle, annual_run, delete}
+use Rattle.book.specs.Reading.Events.{Own, day_opened, act, admitted_in, leaving_in, role_in}
 use Rattle.book.specs.Reading.Holdings.{last_lodged, released_since, left_at, position_in, lodged_where, released_where, cover_in}
 use Rattle.book.specs.Reading.Months.{next_in}
 use Rattle.book.specs.Reading.Calls.{firm_in, open_in}
@@ -57,6 +57,7 @@ next-unset (act d (lodge k p) ∷ own) h = next-unset own h
 next-unset (act d (release k a) ∷ own) h = next-unset own h
 next-unset (act d (settle m figures) ∷ own) h = next-unset own h
 next-unset (act d annual_run ∷ own) h = cc
+next-unset (act d delete ∷ own) h = next-unset own h
 
 -- The positions on the next day.
 pub slots-opened : (t : ℕ) (own : List Own)
@@ -121,12 +122,13 @@ accrued-read s own lw h e = rw (shortfall-read s own lw h) (sym (accrued-opened 
 -- An admitted participant's file: opening the next day, field by field.
 pub opened-admitted : (s : ℕ) (own : List Own) → Lawful s own → next_day s own ≤ 29219 → admitted_in own ≡ true
     → opened_file (file_in (today_in s own) own) (next_day s own) ≡ file_in (next_day s own) (with_next_day s own)
-unfolding opened_file file_in admitted_in role_in ring_in
+unfolding opened_file file_in admitted_in leaving_in role_in ring_in
 opened-admitted s own lw h e =
     let t = today_in s own in
     λ i.
     record {
       admitted = admitted_in own;
+      leaving = leaving_in own;
       role = role_in own;
       firm = firm-opened s own lw i;
       slots = slots-opened t own i;

@@ -19,7 +19,7 @@ use Rattle.file.specs.Fields.{with_slots}
 use Rattle.file.specs.Release.{release_floor, slots_left, release_answer, released_file}
 use Rattle.book.specs.Account.{if_admitted, file_answer, file_after}
 use Rattle.book.specs.Call.{release}
-use Rattle.book.specs.Reading.Events.{Own, act, admitted_in, role_in}
+use Rattle.book.specs.Reading.Events.{Own, act, admitted_in, leaving_in, role_in}
 use Rattle.book.specs.Reading.Holdings.{last_lodged, released_since, left_at, position_in, lodged_where, released_where, cover_in}
 use Rattle.book.specs.Reading.Months.{next_in}
 use Rattle.book.specs.Reading.Calls.{base_in, calls_in, firm_in, open_in}
@@ -147,11 +147,12 @@ releasing-answers s k a own lw =
 released-kept : (s k a : ℕ) (own : List Own) → Lawful s own → NoneHolds (own_causes (today_in s own) own (release k a))
     → with_slots (file_in (today_in s own) own) (slots_left (file_in (today_in s own) own) k a)
     ≡ file_in (today_in s own) (act (today_in s own) (release k a) ∷ own)
-unfolding admitted_in role_in firm_in base_in calls_in open_in next_in ring_in own_causes
+unfolding admitted_in leaving_in role_in firm_in base_in calls_in open_in next_in ring_in own_causes
 released-kept s k a own lw none =
     let t = today_in s own in
     with-slots-of t own (act t (release k a) ∷ own) (slots_left (file_in t own) k a)
     (released-slots t k a own none.1.0 (not-false (filled (position_in t k own)) none.1.1.0) none.1.1.1.1.0)
+    refl
     refl
     refl
     refl

@@ -19,7 +19,7 @@ use Rattle.file.specs.declared.MonthTotal.{MonthTotal}
 use Rattle.file.specs.Settle.{outside_months}
 use Rattle.file.specs.Totals.{Total, none, total, no_total, total_of, total_here, total_at, totals_from}
 use Rattle.file.specs.Annual.{annual_totals}
-use Rattle.book.specs.Call.{admit, lodge, release, settle, annual_run}
+use Rattle.book.specs.Call.{admit, lodge, release, settle, annual_run, delete}
 use Rattle.book.specs.Reading.Events.{Own, day_opened, act}
 use Rattle.book.specs.Reading.Months.{total_in, years_totals}
 use Rattle.book.specs.Reading.Decisions.{own_causes}
@@ -51,6 +51,7 @@ no-total-yet s (act d (settle n figures) ∷ own) m lw h =
     (ne_eqb n m (λ e. omega (arith, (settled-within d n figures own lw.1).0, ap month_of lw.0)))
     ∙ no-total-yet s own m lw.2 h
 no-total-yet s (act d annual_run ∷ own) m lw h = no-total-yet s own m lw.2 h
+no-total-yet s (act d delete ∷ own) m lw h = no-total-yet s own m lw.2 h
 
 -- Two months with one place, the one at most twelve months after the other: they are the same, or that one is sixteen before it or more.
 apart : (n m : ℕ) → n % 16 ≡ m % 16 → n ≤ m + 12 → (n ≡ m → ⊥) → n + 16 ≤ m
@@ -103,6 +104,7 @@ place-says s (act d (settle n figures) ∷ own) m lw h =
     place-settled n m (sum_of figures) (ring_in own (m % 16)) (total_in own m) (place-says s own m lw.2 h)
     (λ ne q. no-total-yet s own m lw.2 (omega (arith, apart n m q (omega arith) ne, (settled-within d n figures own lw.1).1)))
 place-says s (act d annual_run ∷ own) m lw h = place-says s own m lw.2 h
+place-says s (act d delete ∷ own) m lw h = place-says s own m lw.2 h
 
 -- The ring law.
 pub ring-says : (s : ℕ) (own : List Own) (m : ℕ) → Lawful s own → month_of (today_in s own) ≤ m + 14

@@ -3,11 +3,11 @@
 use Prim.Native.Nat.{ℕ, ◌+◌, ◌%◌}
 use mathlib.Core.Path.{◌≡◌, refl, sym}
 use mathlib.Core.Bool.{Bool, true, false, cond, ◌&&◌}
-use mathlib.Core.List.{List, [], ◌∷◌, ◌++◌}
+use mathlib.Core.List.{List, [], ◌∷◌}
 use native.Mathlib.Omega.{arith}
 use lib.Dec.{leb}
 use lib.IntN.{ℤ, nat_abs}
-use lib.ListN.{length, length-append}
+use lib.ListN.{length}
 use Rattle.laws.specs.Lists.{table}
 use Rattle.laws.specs.Tabulated.{set-table}
 use Rattle.calendar.specs.Civil.{month_of}
@@ -15,7 +15,6 @@ use Rattle.std.specs.Prelude.{Option, Some, None}
 use Rattle.manual.specs.declared.Call.{Call}
 use Rattle.manual.specs.Check.{checked}
 use Rattle.manual.specs.Figures.{sum_of, wrong_count, out_of_range}
-use Rattle.file.specs.declared.OpenCall.{OpenCall}
 use Rattle.file.specs.Answer.{refused, recorded, decide, accepted}
 use Rattle.file.specs.Position.{slot_of}
 use Rattle.file.specs.Calls.{amounts_of, call_of, in_places}
@@ -24,21 +23,16 @@ use Rattle.file.specs.Fields.{with_totals}
 use Rattle.file.specs.Settle.{outside_months, check_due, deposited, settlement_calls, check_says, settled_answer, settle_answer, calls_settled, settled_file}
 use Rattle.book.specs.Account.{if_admitted, file_answer, file_after, calls_added}
 use Rattle.book.specs.Call.{settle}
-use Rattle.book.specs.Reading.Events.{Own, act, admitted_in, role_in}
+use Rattle.book.specs.Reading.Events.{Own, act, admitted_in, leaving_in, role_in}
 use Rattle.book.specs.Reading.Holdings.{last_lodged, released_since, left_at, position_in, deposited_in}
 use Rattle.book.specs.Reading.Months.{next_in}
 use Rattle.book.specs.Reading.Calls.{calls_in, called_in, firm_in, open_in}
 use Rattle.book.specs.Reading.Decisions.{cause, settlement_answer, own_causes, own_answer}
 use Rattle.book.specs.Kept.{ring_in, file_in}
 use Rattle.book.proofs.Participant.Lawful.{today_in, NoneHolds, Lawful}
-use Rattle.book.proofs.Participant.OpenCalls.{open-calls, open-behind}
+use Rattle.book.proofs.Participant.OpenCalls.{open-calls, open-behind, length-behind}
 use Rattle.book.proofs.Participant.Cover.{deposit-is}
 use Rattle.book.proofs.Participant.Charges.{firm-settled, charged-act, accrued-act}
-
--- One call more, or none.
-length-behind : (made : List OpenCall) (b : Bool) (c : OpenCall) → cond b 1 0 + length made ≡ length (made ++ cond b (c ∷ []) [])
-length-behind made true c = omega (arith, length-append made (c ∷ []))
-length-behind made false c = omega (arith, length-append made [])
 
 -- A settlement's answer is no refusal.
 no-refusal : (due : Bool) (x : ℤ) (last : ℕ) (c : Option Call) → accepted (cond due (check_says x last c) (recorded x)) ≡ true
@@ -111,10 +105,11 @@ module _ (s : ℕ) (own : List Own) (m : ℕ) (figures : List ℤ) (lw : Lawful 
         (with_total (table 16 (ring_in own)) m (sum_of figures))
         (calls_settled (file_in (today_in s own) own) (today_in s own) m figures)
         ≡ file_in (today_in s own) (act (today_in s own) (settle m figures) ∷ own)
-    unfolding file_in admitted_in role_in position_in left_at last_lodged released_since next_in
+    unfolding file_in admitted_in leaving_in role_in position_in left_at last_lodged released_since next_in
     settled = λ i.
         record {
           admitted = admitted_in own;
+          leaving = leaving_in own;
           role = role_in own;
           firm = (sym (firm-settled (today_in s own) (today_in s own) m figures own (omega arith))) i;
           slots = table 8 (λ k. slot_of (position_in (today_in s own) k own));

@@ -12,13 +12,13 @@ use Rattle.laws.specs.Cases.{clash}
 use Rattle.manual.specs.Minimum.{minimum_of}
 use Rattle.file.specs.declared.Position.{Position}
 use Rattle.file.specs.Calls.{largest, keep}
-use Rattle.book.specs.Call.{Act, admit, lodge, release, settle, annual_run}
+use Rattle.book.specs.Call.{Act, admit, lodge, release, settle, annual_run, delete}
 use Rattle.book.specs.Reading.Events.{Own, act, admitted_in}
 use Rattle.book.specs.Reading.Holdings.{lodged_where, released_where, cover_in}
 use Rattle.book.specs.Reading.Calls.{Base, base_in, firm_from, calls_in, firm_in}
 use Rattle.book.specs.Reading.Decisions.{cover_left, must_stay, own_causes}
 use Rattle.book.proofs.Participant.Lawful.{today_in, NoneHolds, Lawful}
-use Rattle.book.proofs.Participant.Charges.{firm-behind, firm-settled}
+use Rattle.book.proofs.Participant.Charges.{firm-behind, firm-settled, firm-deleted}
 use Rattle.book.proofs.Participant.Blank.{blank-calls}
 
 -- The shortfall on day t, by the reading.
@@ -55,6 +55,11 @@ annual-raises-none : (t : ℕ) (own : List Own) → shortfall_in t (act t annual
 unfolding firm_in base_in calls_in cover_in lodged_where released_where
 annual-raises-none t own = omega arith
 
+-- Nor a deletion: its call, too, has its last free day ten days on.
+deletion-raises-none : (t : ℕ) (own : List Own) → shortfall_in t (act t delete ∷ own) ≡ shortfall_in t own
+unfolding cover_in lodged_where released_where
+deletion-raises-none t own = ap (λ (firm : ℕ). firm - cover_in t own) (firm-deleted t t own (omega arith))
+
 -- A call that opened no day left no admitted participant's shortfall higher.
 pub shortfall-not-higher : (s : ℕ) (own : List Own) (a : Act) → Lawful s own → admitted_in own ≡ true
     → NoneHolds (own_causes (today_in s own) own a)
@@ -67,6 +72,7 @@ shortfall-not-higher s own (release k a) lw admitted none =
 shortfall-not-higher s own (settle m figures) lw admitted none =
     omega (arith, settlement-raises-none (today_in s own) m figures own)
 shortfall-not-higher s own annual_run lw admitted none = annual-raises-none (today_in s own) own
+shortfall-not-higher s own delete lw admitted none = omega (arith, deletion-raises-none (today_in s own) own)
 
 -- A participant's firm amount on the day of its admission is 0: the minimum's call has its last free day ten days on.
 pub newly-admitted : (s role : ℕ) (own : List Own) → Lawful s own → admitted_in own ≡ false
@@ -87,3 +93,4 @@ begun-with-none s own (lodge k h) lw out now = clash now out
 begun-with-none s own (release k a) lw out now = clash now out
 begun-with-none s own (settle m figures) lw out now = clash now out
 begun-with-none s own annual_run lw out now = clash now out
+begun-with-none s own delete lw out now = clash now out

@@ -8,10 +8,10 @@ use Rattle.manual.specs.Figures.{sum_of}
 use Rattle.file.specs.declared.OpenCall.{OpenCall}
 use Rattle.file.specs.Calls.{largest, amounts_of, call_of, keep}
 use Rattle.file.specs.Settle.{check_due}
-use Rattle.book.specs.Call.{admit, lodge, release, settle, annual_run}
+use Rattle.book.specs.Call.{admit, lodge, release, settle, annual_run, delete}
 use Rattle.book.specs.Reading.Events.{Own, day_opened, act}
 use Rattle.book.specs.Reading.Holdings.{deposited_in}
-use Rattle.book.specs.Reading.Months.{next_in}
+use Rattle.book.specs.Reading.Months.{deletion_in, next_in}
 
 -- R and the base.
 pub record Base : Type 0 where
@@ -29,6 +29,7 @@ base_in d (act e (lodge k h) ∷ own) = base_in d own
 base_in d (act e (release k a) ∷ own) = base_in d own
 base_in d (act e (settle m figures) ∷ own) = base_in d own
 base_in d (act e annual_run ∷ own) = base_in d own
+base_in d (act e delete ∷ own) = base_in d own
 
 -- ".. with R ≤ last free day < d".
 abbrev pub counts_from : ℕ → ℕ → OpenCall → Bool
@@ -49,7 +50,13 @@ called_in d m figures own made =
     check_due (month_of d) m
     && call_is_made (sum_of figures) (deposited_in d own) (firm_from d (base_in d own) made) (amounts_of (open_on d made))
 
--- Every call made, the oldest first: an admission's minimum, and the settlements that called.
+-- Paper 02, Ask 4: whether a deletion called: "If it exceeds the firm amount and every open call it becomes an open call .., whatever the cover", so
+-- where its amount is above the largest of these.
+unfoldable pub deletion_called : ℕ → List Own → List OpenCall → Bool
+deletion_called d own made = ltb (largest (firm_from d (base_in d own) made) (amounts_of (open_on d made))) (deletion_in d own)
+
+-- Every call made, the oldest first: an admission's minimum, the settlements that called, and a deletion that called, "with last free day t + 10, .. and
+-- is counted among the calls made" (paper 02, Ask 4).
 unfoldable pub calls_in : List Own → List OpenCall
 calls_in [] = []
 calls_in (day_opened d ∷ own) = calls_in own
@@ -60,6 +67,8 @@ calls_in (act d (release k a) ∷ own) = calls_in own
 calls_in (act d (settle m figures) ∷ own) =
     calls_in own ++ cond (called_in d m figures own (calls_in own)) (call_of (nat_abs (sum_of figures)) (d + 10) ∷ []) []
 calls_in (act d annual_run ∷ own) = calls_in own
+calls_in (act d delete ∷ own) =
+    calls_in own ++ cond (deletion_called d own (calls_in own)) (call_of (deletion_in d own) (d + 10) ∷ []) []
 
 -- The firm amount on day d, and the calls open on day t.
 unfoldable pub firm_in : ℕ → List Own → ℕ

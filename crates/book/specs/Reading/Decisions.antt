@@ -2,21 +2,21 @@
 -- that a list of calls makes.
 -- Assumes nothing.
 use Rattle.std.specs.Prelude.{ℕ, zero, suc, ◌+◌, ◌-◌, min, Bool, cond, not, ◌&&◌, ◌||◌, List, [], ◌∷◌, ◌++◌, leb, ltb, eqb, length, ℤ}
-use Rattle.calendar.specs.Civil.{month_of, in_annual_days}
+use Rattle.calendar.specs.Civil.{month_of, in_annual_days, in_deletion_months}
 use Rattle.manual.specs.Check.{checked}
 use Rattle.manual.specs.Figures.{sum_of, wrong_count, out_of_range}
-use Rattle.file.specs.Answer.{Answer, refused, Cause, done, recorded, annual, days_opened, stated, counted, decide, accepted}
+use Rattle.file.specs.Answer.{Answer, refused, Cause, done, recorded, annual, days_opened, stated, counted, deletion, decide, accepted}
 use Rattle.file.specs.Position.{amount_of, filled, not_releasable, outside_amounts, against_days}
 use Rattle.file.specs.Calls.{largest, amounts_of}
 use Rattle.file.specs.Settle.{outside_months, check_due, check_says}
 use Rattle.batch.specs.Batch.{count_in, participant_at, form_of}
-use Rattle.book.specs.Call.{Act, admit, lodge, release, settle, annual_run, Call, on, advance, statement, calls_made, batch}
+use Rattle.book.specs.Call.{Act, admit, lodge, release, settle, annual_run, delete, Call, on, advance, statement, calls_made, batch}
 use Rattle.book.specs.Call.{part_act, batch_says}
 use Rattle.book.specs.Rule.{Rule, old_rule, new_rule, MadeCall}
-use Rattle.book.specs.Reading.Events.{Event, Own, did, act, mine, today_of, with_days, admitted_in}
+use Rattle.book.specs.Reading.Events.{Event, Own, did, act, mine, today_of, with_days, admitted_in, leaving_in}
 use Rattle.book.specs.Reading.Holdings.{position_in, cover_in, deposited_in}
-use Rattle.book.specs.Reading.Months.{next_in, annual_in, years_totals}
-use Rattle.book.specs.Reading.Calls.{calls_in, called_in, firm_in, open_in}
+use Rattle.book.specs.Reading.Months.{next_in, annual_in, years_totals, deletion_in}
+use Rattle.book.specs.Reading.Calls.{calls_in, called_in, deletion_called, firm_in, open_in}
 use Rattle.book.specs.Reading.Charges.{charged_in, accrued_in}
 
 -- A cause of refusal.
@@ -40,7 +40,8 @@ settlement_answer t m figures own =
     (recorded (sum_of figures))
 
 -- The causes of a call today on a participant with this history of its own, in paper 01's order, after cause 1; an admission has one more since
--- paper 02, Ask 3 (`retirement`).
+-- paper 02, Ask 3 (`retirement`). Since Ask 4: "24 outside August and September or already in the status, after 2; 25 annual run for such a file, after
+-- 14; 13 comes after 24", "A fifth open call gives 13 here too".
 unfoldable pub own_causes : ℕ → List Own → Act → List Cause
 own_causes t own (admit role) = cause 3 (admitted_in own) ∷ cause 4 (ltb 5 role) ∷ []
 own_causes t own (lodge k h) =
@@ -65,22 +66,29 @@ own_causes t own (settle m figures) =
     ∷ cause 11 (out_of_range figures)
     ∷ cause 13 (called_in t m figures own (calls_in own) && leb 4 (length (open_in t own)))
     ∷ []
-own_causes t own annual_run = cause 2 (not (admitted_in own)) ∷ cause 14 (not (in_annual_days t)) ∷ []
+own_causes t own annual_run =
+    cause 2 (not (admitted_in own)) ∷ cause 14 (not (in_annual_days t)) ∷ cause 25 (leaving_in own) ∷ []
+own_causes t own delete =
+    cause 2 (not (admitted_in own))
+    ∷ cause 24 (not (in_deletion_months t) || leaving_in own)
+    ∷ cause 13 (deletion_called t own (calls_in own) && leb 4 (length (open_in t own)))
+    ∷ []
 
--- Its answer where none holds.
+-- Its answer where none holds. Paper 02, Ask 4: "The answer gives the amount and whether it became a call."
 unfoldable pub own_answer : ℕ → List Own → Act → Answer
 own_answer t own (admit role) = done
 own_answer t own (lodge k h) = done
 own_answer t own (release k a) = done
 own_answer t own (settle m figures) = settlement_answer t m figures own
 own_answer t own annual_run = annual (annual_in t own) (length (years_totals t own))
+own_answer t own delete = deletion (deletion_in t own) (deletion_called t own (calls_in own))
 
 -- The statement's figures today.
 unfoldable pub own_statement : ℕ → List Own → Answer
 own_statement t own =
     stated (firm_in t own) (cover_in t own) (firm_in t own - cover_in t own) (charged_in own) (accrued_in own)
 
--- "one count of calls made, admissions' calls included": those of participants 0 to n − 1.
+-- "one count of calls made, admissions' calls included", and since paper 02, Ask 4 deletions': those of participants 0 to n − 1.
 unfoldable pub calls_below : ℕ → List Event → ℕ
 calls_below zero events = 0
 calls_below (suc n) events = length (calls_in (mine n events)) + calls_below n events
@@ -93,6 +101,7 @@ retirement new_rule (lodge k h) = []
 retirement new_rule (release k a) = []
 retirement new_rule (settle m figures) = []
 retirement new_rule annual_run = []
+retirement new_rule delete = []
 
 -- What a call that names participant p is decided to answer, made under a rule after these events from a fresh book on day s.
 abbrev pub decision_on : Rule → ℕ → List Event → ℕ → Act → Answer

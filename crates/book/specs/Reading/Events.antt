@@ -1,7 +1,7 @@
 -- A history: the accepted calls and the days opened, the newest first.
 -- Assumes nothing.
 use Rattle.std.specs.Prelude.{ℕ, zero, suc, ◌+◌, Bool, true, false, cond, List, [], ◌∷◌, eqb}
-use Rattle.book.specs.Call.{Act, admit, lodge, release, settle, annual_run}
+use Rattle.book.specs.Call.{Act, admit, lodge, release, settle, annual_run, delete}
 
 -- What happened: a day was opened, or a participant's call was accepted on a day.
 pub data Event : Type 0 where
@@ -40,6 +40,7 @@ admitted_in (act d (lodge k h) ∷ own) = admitted_in own
 admitted_in (act d (release k a) ∷ own) = admitted_in own
 admitted_in (act d (settle m figures) ∷ own) = admitted_in own
 admitted_in (act d annual_run ∷ own) = admitted_in own
+admitted_in (act d delete ∷ own) = admitted_in own
 
 unfoldable pub role_in : List Own → ℕ
 role_in [] = 0
@@ -49,3 +50,15 @@ role_in (act d (lodge k h) ∷ own) = role_in own
 role_in (act d (release k a) ∷ own) = role_in own
 role_in (act d (settle m figures) ∷ own) = role_in own
 role_in (act d annual_run ∷ own) = role_in own
+role_in (act d delete ∷ own) = role_in own
+
+-- Paper 02, Ask 4: "A new call puts an admitted participant into that status": it is under deletion from its accepted deletion on.
+unfoldable pub leaving_in : List Own → Bool
+leaving_in [] = false
+leaving_in (day_opened d ∷ own) = leaving_in own
+leaving_in (act d (admit role) ∷ own) = leaving_in own
+leaving_in (act d (lodge k h) ∷ own) = leaving_in own
+leaving_in (act d (release k a) ∷ own) = leaving_in own
+leaving_in (act d (settle m figures) ∷ own) = leaving_in own
+leaving_in (act d annual_run ∷ own) = leaving_in own
+leaving_in (act d delete ∷ own) = true

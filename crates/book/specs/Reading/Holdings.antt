@@ -4,7 +4,7 @@ use Rattle.std.specs.Prelude.{ℕ, ◌+◌, ◌-◌, Bool, cond, ◌&&◌, List,
 use Rattle.file.specs.declared.Position.{Position}
 use Rattle.file.specs.declared.Position.TheVariants.{Empty, Cash, Letter}
 use Rattle.file.specs.Position.{amount_of, in_force, emptied_on}
-use Rattle.book.specs.Call.{admit, lodge, release, settle, annual_run}
+use Rattle.book.specs.Call.{admit, lodge, release, settle, annual_run, delete}
 use Rattle.book.specs.Reading.Events.{Own, day_opened, act}
 
 -- "what was last lodged there": at place k.
@@ -16,6 +16,7 @@ last_lodged k (act d (lodge j h) ∷ own) = cond (eqb j k) h (last_lodged k own)
 last_lodged k (act d (release j a) ∷ own) = last_lodged k own
 last_lodged k (act d (settle m figures) ∷ own) = last_lodged k own
 last_lodged k (act d annual_run ∷ own) = last_lodged k own
+last_lodged k (act d delete ∷ own) = last_lodged k own
 
 -- "what was released since" at place k.
 unfoldable pub released_since : ℕ → List Own → ℕ
@@ -26,6 +27,7 @@ released_since k (act d (lodge j h) ∷ own) = cond (eqb j k) 0 (released_since 
 released_since k (act d (release j a) ∷ own) = cond (eqb j k) (a + released_since k own) (released_since k own)
 released_since k (act d (settle m figures) ∷ own) = released_since k own
 released_since k (act d annual_run ∷ own) = released_since k own
+released_since k (act d delete ∷ own) = released_since k own
 
 -- A position less an amount; "it is empty if that is nothing".
 abbrev pub less : ℕ → Position → Position
@@ -51,6 +53,7 @@ lodged_where counts (act e (lodge k h) ∷ own) = cond (counts h) (amount_of h) 
 lodged_where counts (act e (release k a) ∷ own) = lodged_where counts own
 lodged_where counts (act e (settle m figures) ∷ own) = lodged_where counts own
 lodged_where counts (act e annual_run ∷ own) = lodged_where counts own
+lodged_where counts (act e delete ∷ own) = lodged_where counts own
 
 -- What the releases take from it, "a release of a letter taking that letter's dates".
 unfoldable pub released_where : (Position → Bool) → List Own → ℕ
@@ -61,6 +64,7 @@ released_where counts (act e (lodge k h) ∷ own) = released_where counts own
 released_where counts (act e (release k a) ∷ own) = cond (counts (last_lodged k own)) a 0 + released_where counts own
 released_where counts (act e (settle m figures) ∷ own) = released_where counts own
 released_where counts (act e annual_run ∷ own) = released_where counts own
+released_where counts (act e delete ∷ own) = released_where counts own
 
 -- "Cover on d": what counts is in force on it.
 unfoldable pub cover_in : ℕ → List Own → ℕ

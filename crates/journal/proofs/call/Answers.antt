@@ -177,9 +177,29 @@ returns-then-eq-13 c =
     (here _ _ _ _ (c.eq-else-eq-12.ensures ∙ ap (pointwise eqb c.args.name.now) c.as_slice-else-eq-12.ensures) c.if-eq-13.true)))))))))))))
     (plain_is _ _ _ c.closed-then-eq-13.ensures.whole)
 
-pub returns-else-eq-13 : goal.returns-else-eq-13
+pub returns-then-eq-14 : goal.returns-then-eq-14
+unfolding named_call calls_of call_names
+returns-then-eq-14 c =
+    call_at 13 _ _ _ _ _
+    (later _ _ _ _ _ (c.eq.ensures ∙ ap (pointwise eqb c.args.name.now) c.as_slice.ensures) c.if-eq.false
+    (later _ _ _ _ _ (c.eq-else-eq.ensures ∙ ap (pointwise eqb c.args.name.now) c.as_slice-else-eq.ensures) c.if-eq-2.false
+    (later _ _ _ _ _ (c.eq-else-eq-2.ensures ∙ ap (pointwise eqb c.args.name.now) c.as_slice-else-eq-2.ensures) c.if-eq-3.false
+    (later _ _ _ _ _ (c.eq-else-eq-3.ensures ∙ ap (pointwise eqb c.args.name.now) c.as_slice-else-eq-3.ensures) c.if-eq-4.false
+    (later _ _ _ _ _ (c.eq-else-eq-4.ensures ∙ ap (pointwise eqb c.args.name.now) c.as_slice-else-eq-4.ensures) c.if-eq-5.false
+    (later _ _ _ _ _ (c.eq-else-eq-5.ensures ∙ ap (pointwise eqb c.args.name.now) c.as_slice-else-eq-5.ensures) c.if-eq-6.false
+    (later _ _ _ _ _ (c.eq-else-eq-6.ensures ∙ ap (pointwise eqb c.args.name.now) c.as_slice-else-eq-6.ensures) c.if-eq-7.false
+    (later _ _ _ _ _ (c.eq-else-eq-7.ensures ∙ ap (pointwise eqb c.args.name.now) c.as_slice-else-eq-7.ensures) c.if-eq-8.false
+    (later _ _ _ _ _ (c.eq-else-eq-8.ensures ∙ ap (pointwise eqb c.args.name.now) c.as_slice-else-eq-8.ensures) c.if-eq-9.false
+    (later _ _ _ _ _ (c.eq-else-eq-9.ensures ∙ ap (pointwise eqb c.args.name.now) c.as_slice-else-eq-9.ensures) c.if-eq-10.false
+    (later _ _ _ _ _ (c.eq-else-eq-10.ensures ∙ ap (pointwise eqb c.args.name.now) c.as_slice-else-eq-10.ensures) c.if-eq-11.false
+    (later _ _ _ _ _ (c.eq-else-eq-11.ensures ∙ ap (pointwise eqb c.args.name.now) c.as_slice-else-eq-11.ensures) c.if-eq-12.false
+    (later _ _ _ _ _ (c.eq-else-eq-12.ensures ∙ ap (pointwise eqb c.args.name.now) c.as_slice-else-eq-12.ensures) c.if-eq-13.false
+    (here _ _ _ _ (c.eq-else-eq-13.ensures ∙ ap (pointwise eqb c.args.name.now) c.as_slice-else-eq-13.ensures) c.if-eq-14.true))))))))))))))
+    (plain_is _ _ _ c.delete.ensures)
+
+pub returns-else-eq-14 : goal.returns-else-eq-14
 unfolding call_names
-returns-else-eq-13 c =
+returns-else-eq-14 c =
     no_call _ _ _
     (later _ _ _ _ _ (c.eq.ensures ∙ ap (pointwise eqb c.args.name.now) c.as_slice.ensures) c.if-eq.false
     (later _ _ _ _ _ (c.eq-else-eq.ensures ∙ ap (pointwise eqb c.args.name.now) c.as_slice-else-eq.ensures) c.if-eq-2.false
@@ -194,4 +214,5 @@ returns-else-eq-13 c =
     (later _ _ _ _ _ (c.eq-else-eq-10.ensures ∙ ap (pointwise eqb c.args.name.now) c.as_slice-else-eq-10.ensures) c.if-eq-11.false
     (later _ _ _ _ _ (c.eq-else-eq-11.ensures ∙ ap (pointwise eqb c.args.name.now) c.as_slice-else-eq-11.ensures) c.if-eq-12.false
     (later _ _ _ _ _ (c.eq-else-eq-12.ensures ∙ ap (pointwise eqb c.args.name.now) c.as_slice-else-eq-12.ensures) c.if-eq-13.false
-    (no_more _))))))))))))))
+    (later _ _ _ _ _ (c.eq-else-eq-13.ensures ∙ ap (pointwise eqb c.args.name.now) c.as_slice-else-eq-13.ensures) c.if-eq-14.false
+    (no_more _)))))))))))))))

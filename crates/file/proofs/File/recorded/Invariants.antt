@@ -8,7 +8,7 @@ use Rattle.file.proofs.File.recorded.Given as goal
 
 abbrev pub invariant-loop-passed : goal.invariant-loop-passed
 invariant-loop-passed l = record {
-  long : length l.room ≡ 12;
+  long : length l.room ≡ 13;
   count : l.count ≤ l.passed;
   found : take l.count l.room ≡ totals_from (total_at l.self.totals) l.fn.first.0 l.passed;
 }
