@@ -1,17 +1,18 @@
 """Wrong meanings, for tools/mutants --shared: each changes a definition that both accounts share, or the same number or order in both at once.
 """
-from wrong_books import ACCOUNT, OPENING, POSITION, SETTLE
+from wrong_books import ACCOUNT, ANNUAL, DELETION, FIELDS, OPENING, POSITION, SETTLE
 
 CIVIL = 'calendar/specs/Civil.antt'
-CALLS, FIELDS, TOTALS, ANSWER = 'file/specs/Calls.antt', 'file/specs/Fields.antt', 'file/specs/Totals.antt', 'file/specs/Answer.antt'
-ADMIT, LODGE, RELEASE, ANNUAL = 'file/specs/Admit.antt', 'file/specs/Lodge.antt', 'file/specs/Release.antt', 'file/specs/Annual.antt'
+CALLS, TOTALS, ANSWER = 'file/specs/Calls.antt', 'file/specs/Totals.antt', 'file/specs/Answer.antt'
+ADMIT, LODGE, RELEASE = 'file/specs/Admit.antt', 'file/specs/Lodge.antt', 'file/specs/Release.antt'
 CAUSES, INTEGERS, LARGEST = 'laws/specs/Causes.antt', 'laws/specs/Integers.antt', 'laws/specs/Largest.antt'
 SIGNED, EVERY, LISTS = 'laws/specs/Signed.antt', 'laws/specs/Every.antt', 'laws/specs/Lists.antt'
 AMOUNT, CHARGE, CHECK = 'manual/specs/Annual.antt', 'manual/specs/Charge.antt', 'manual/specs/Check.antt'
+AT_LEAST, LEAVING = 'manual/specs/Largest.antt', 'manual/specs/Deletion.antt'
 FIGURES, MINIMUM = 'manual/specs/Figures.antt', 'manual/specs/Minimum.antt'
 LENGTHS, GUARANTEE, RANGES, RATIO = (f'special/specs/{name}.antt' for name in ('Causes', 'Guarantee', 'Ranges', 'Ratio'))
 DECISIONS, READ_CALLS, CHARGES = (f'book/specs/Reading/{name}.antt' for name in ('Decisions', 'Calls', 'Charges'))
-HOLDINGS, MONTHS = (f'book/specs/Reading/{name}.antt' for name in ('Holdings', 'Months'))
+HOLDINGS, MONTHS, EVENTS = (f'book/specs/Reading/{name}.antt' for name in ('Holdings', 'Months', 'Events'))
 BYTES, BATCH, SAYS, LEAST = 'batch/specs/Bytes.antt', 'batch/specs/Batch.antt', 'book/specs/Call.antt', 'laws/specs/Least.antt'
 RULE = 'book/specs/Rule.antt'
 
@@ -26,7 +27,7 @@ def named(number, holds):
     return f'record {{ number = {number}; holds = {holds} }}'
 
 
-# Causes of a lodging, a release and a settlement, as the account and the reading write them.
+# Causes of a lodging, a release, a settlement, an annual run and a deletion, as the account and the reading write them.
 SLOT = 'position_at f.slots k'
 HELD = 'position_in t k own'
 LODGED = {6: (f'filled ({SLOT})', f'filled ({HELD})'), 8: ('outside_amounts (amount_of p)', 'outside_amounts (amount_of h)'),
@@ -37,6 +38,11 @@ RELEASED = {7: (f'not (filled ({SLOT}))', f'not (filled ({HELD}))'), 8: ('outsid
 SETTLED = {12: ('outside_months (month_of t) m',) * 2, 10: ('wrong_count figures',) * 2, 11: ('out_of_range figures',) * 2,
            13: ('settlement_calls f t m figures && leb 4 (length (open_calls f))',
                 'called_in t m figures own (calls_in own) && leb 4 (length (open_in t own))')}
+
+RUN = {14: ('not (in_annual_days t)',) * 2, 25: ('f.leaving', 'leaving_in own')}
+DELETED = {24: ('not (in_deletion_months t) || f.leaving', 'not (in_deletion_months t) || leaving_in own'),
+           13: ('deletion_calls f t && leb 4 (length (open_calls f))',
+                'deletion_called t own (calls_in own) && leb 4 (length (open_in t own))')}
 
 
 def reordered(path, causes, one, other):
@@ -69,6 +75,24 @@ DEPOSITED, STAYS = 'cover_through t (t + 11) f.slots', 'in_force t p && in_force
 def deposits(account, reading):
     """What is deposited, in both accounts."""
     return [(SETTLE, DEPOSITED, account), (HOLDINGS, STAYS, reading)]
+
+
+def most_open(calls):
+    """How many open calls refuse one more of a settlement, in both accounts."""
+    return [(SETTLE, 'leb 4 (length', f'leb {calls} (length'),
+            (DECISIONS, 'called_in t m figures own (calls_in own) && leb 4', f'called_in t m figures own (calls_in own) && leb {calls}')]
+
+
+# How an amount is worked out from totals: its path, its left side, and the amount as it is.
+FROM_TOTALS = {AMOUNT: ('annual_amount role', 'largest_at_least (minimum_of role)'), LEAVING: ('deletion_amount', 'largest_at_least 0')}
+
+
+def amount_by_cases(path, none, some):
+    """An amount from totals by other equations, where there are none and where a comes first and the rest behind it."""
+    left, right = FROM_TOTALS[path]
+    return [(path, 'Prelude.{ℕ, List, ℤ}', 'Prelude.{ℕ, cond, List, [], ◌∷◌, ℤ, pos, nat_abs}'),
+            (path, 'Largest.{largest_at_least}', 'Largest.{larger, largest_total, largest_at_least}'),
+            (path, f'{left} totals = {right} totals', f'{left} [] = {none}\n{left} (a ∷ rest) = {some}')]
 
 
 def places(path, after, last):
@@ -127,6 +151,82 @@ def admission_free_day(days):
 RETIRED, BEHIND = 'admits_retired a && accepted answer', 'cause 23 (eqb role 1) ∷ []'
 SINCE, STRETCH = 'map (under new_rule) since', 'map (under old_rule) first'
 
+# What a call asks of a file, in all its forms.
+ACTS = '(admit role)', '(lodge k h)', '(release k a)', '(settle m figures)', 'annual_run', 'delete'
+
+
+def cause_of_deletion(number, account, reading):
+    """When a deletion is refused with one of its causes, in both accounts."""
+    return [(DELETION, DELETED[number][0], account), (DECISIONS, DELETED[number][1], reading)]
+
+
+def latest(account, reading):
+    """Which of its recorded months a deletion's amount is of, in both accounts."""
+    return [(DELETION, 'drop (length totals - 3) totals', account), (MONTHS, 'take 3 (totals_before', f'{reading}(totals_before')]
+
+
+def window(first, last):
+    """The window of a deletion, from P − first to P − last, in both accounts."""
+    return [(DELETION, '(month_of t - 14) (month_of t - 1 - (month_of t - 14))',
+             f'(month_of t - {first}) (month_of t - {last - 1} - (month_of t - {first}))'),
+            (MONTHS, '(month_of d - 1) 13', f'(month_of d - {last - 1}) {first - last + 1}')]
+
+
+# What a deletion's amount must exceed, as the account and the reading write it.
+EXCEEDED = '(f.firm ∷ open_amounts f)', '(largest (firm_from d (base_in d own) made) (amounts_of (open_on d made)))'
+EXCEEDS = f'exceeds_each (pos (deletion_amount_of f t)) {EXCEEDED[0]}', f'ltb {EXCEEDED[1]} (deletion_in d own)'
+
+
+def exceeding(account, reading):
+    """What a deletion's amount must exceed, in both accounts."""
+    return [(DELETION, EXCEEDED[0], account), (READ_CALLS, f'ltb {EXCEEDED[1]} (deletion_in d own)', f'ltb {reading} (deletion_in d own)')]
+
+
+def calling(account, reading):
+    """When a deletion calls, in both accounts."""
+    return [(DELETION, EXCEEDS[0], account), (READ_CALLS, EXCEEDS[1], reading)]
+
+
+def also_asked(account, reading):
+    """What is asked besides, for a deletion's call, in both accounts."""
+    return calling(f'{EXCEEDS[0]} && {account}', f'{EXCEEDS[1]} && {reading}')
+
+
+def deletion_free_day(days):
+    """The last free day of a deletion's call, in both accounts."""
+    return [(DELETION, '(deletion_amount_of f t) (t + 10)', f'(deletion_amount_of f t) (t + {days})'),
+            (READ_CALLS, '(deletion_in d own) (d + 10)', f'(deletion_in d own) (d + {days})')]
+
+
+# The months of deletions, and what a deletion answers, as the account and the reading write it.
+DELETION_MONTHS = 'eqb (place_of m) 7 || eqb (place_of m) 8'
+ANSWERED = '(deletion (deletion_amount_of f t) (deletion_calls f t))', 'deletion (deletion_in t own) (deletion_called t own (calls_in own))'
+
+
+def of_calls(left, others, deletion):
+    """The equations of a function of a call: what it gives for a deletion and for the others."""
+    calls = [f'(on p {act})' for act in ACTS] + ['(advance day budget)', '(statement p)', 'calls_made', '(batch file)']
+    return ''.join(f'{left} {call} = {deletion if call == "(on p delete)" else others}\n' for call in calls) + '\n'
+
+
+# The status taken by a deletion that is refused with 13: the book and the events that it leaves. Its call isn't made.
+TAKEN = 'abbrev pub taken_by : Rule → Book → Call → Book\n' + of_calls(
+    'taken_by rule b', 'b',
+    'cond (Rattle.std.specs.Prelude.eqb (Rattle.book.specs.Call.refusal_of (answer rule b (on p delete))) 13) '
+    '(with_file b p (Rattle.file.specs.Fields.with_deletion (file_at b p) (Rattle.file.specs.Fields.open_calls (file_at b p))) 0) b')
+READ_TAKEN = 'abbrev pub taken_by : Rule → ℕ → List Event → Call → List Event\n' + of_calls(
+    'taken_by rule s events', 'events',
+    'cond (eqb (Rattle.book.specs.Call.refusal_of (decision rule s events (on p delete))) 13) (did (today_of s events) p delete ∷ events) events')
+
+# How many calls a deletion made, read from a participant's own calls.
+OF_DELETION = ('abbrev pub of_deletion : List Own → ℕ\nof_deletion [] = 0\nof_deletion (day_opened d ∷ own) = of_deletion own\n' + ''.join(
+    f'of_deletion (act d {act} ∷ own) = {"cond (deletion_called d own (calls_in own)) 1 0" if act == "delete" else "of_deletion own"}\n'
+    for act in ACTS) + '\n')
+# The smallest of a total and those after it.
+SMALLEST = ('abbrev pub smallest : ℤ → List ℤ → ℤ\nsmallest a [] = a\n'
+            'smallest a (b ∷ rest) = cond (Rattle.std.specs.Int.Signed.lt_z a (smallest b rest)) a (smallest b rest)\n\n')
+
+
 # The special guarantee's causes 19, 11 and 18, in their order.
 LONG = ('(wrong_lengths (length medium) (length low) (length marks) (length zero_medium) (length zero_low) (length excess_medium) (length excess_low))\n'
         '    (Err ListLengths)')
@@ -180,8 +280,8 @@ SHARED = [
     ('961 months', [(CIVIL, 'months = 960', 'months = 961')], 'Dates.far-past-the-last'),
     ('a calendar that ends in September 2099', [(CIVIL, 'last_day = 29219', 'last_day = 29127')], 'Dates.first-october-2099'),
     ('days of the month from 0', [(CIVIL, 'd - first_day (month_of d) + 1', 'd - first_day (month_of d)')], 'Dates.day-0-first'),
-    ('August taken for September', [(CIVIL, 'eqb (place_of m) 8', 'eqb (place_of m) 7')], 'Dates.august-no-september'),
-    ('October taken for September', [(CIVIL, 'eqb (place_of m) 8', 'eqb (place_of m) 9')], 'Dates.september'),
+    ('August taken for September', [(CIVIL, 'is_september m = eqb (place_of m) 8', 'is_september m = eqb (place_of m) 7')], 'Dates.august-no-september'),
+    ('October taken for September', [(CIVIL, 'is_september m = eqb (place_of m) 8', 'is_september m = eqb (place_of m) 9')], 'Dates.september'),
     ('the annual run until 9 September', [(CIVIL, 'leb (day_of_month d) 10', 'leb (day_of_month d) 9')], 'Dates.annual-september-10'),
     ('the annual run until 11 September', [(CIVIL, 'leb (day_of_month d) 10', 'leb (day_of_month d) 11')], 'Dates.annual-september-11'),
     ('the annual run in every month',
@@ -298,12 +398,12 @@ SHARED = [
     ('a total of 0 where none is recorded', [(TOTALS, 'added none rest = rest', 'added none rest = pos 0 ∷ rest')], 'Settlements.recorded-only'),
     ('a recorded total left out', [(TOTALS, 'added (total e) rest = e ∷ rest', 'added (total e) rest = rest')], 'Settlements.july-to-june'),
     ('the smaller for the larger', [(INTEGERS, 'cond (lt_z a b) b a', 'cond (lt_z a b) a b')], 'Settlements.larger-one'),
-    ('the first total left out of the largest', [(AMOUNT, 'larger a (largest_total b rest)', 'largest_total b rest')], 'Settlements.largest-in-front'),
-    ('the last total left out of the largest', [(AMOUNT, 'larger a (largest_total b rest)', 'a')], 'Settlements.largest-at-end'),
+    ('the first total left out of the largest', [(AT_LEAST, 'larger a (largest_total b rest)', 'largest_total b rest')], 'Settlements.largest-in-front'),
+    ('the last total left out of the largest', [(AT_LEAST, 'larger a (largest_total b rest)', 'a')], 'Settlements.largest-at-end'),
     ('an annual amount below the minimum',
-     [(AMOUNT, 'nat_abs (larger (largest_total a rest) (pos (minimum_of role)))', 'nat_abs (largest_total a rest)')], 'Settlements.annual-below'),
+     amount_by_cases(AMOUNT, 'minimum_of role', 'nat_abs (largest_total a rest)'), 'Settlements.annual-below'),
     ('an annual amount of 0 where none is recorded',
-     [(AMOUNT, 'annual_amount role [] = minimum_of role', 'annual_amount role [] = 0')], 'Settlements.annual-none'),
+     [(AT_LEAST, 'largest_at_least least [] = least', 'largest_at_least least [] = 0')], 'Settlements.annual-none'),
     ('a minimum for a Producer', [(MINIMUM, '1000000 ∷ 0 ∷ 0 ∷ 0 ∷ []', '1000000 ∷ 1000000 ∷ 0 ∷ 0 ∷ []')], 'Settlements.annual-nothing'),
     ('€10,000 for a Supplier', [(MINIMUM, '2000000 ∷ 2000000 ∷', '1000000 ∷ 2000000 ∷')], 'Settlements.annual-below'),
     ('a minimum for a number that is no role', [(MINIMUM, 'get_or minimums role 0', 'get_or minimums role 1000000')], 'Settlements.minimums'),
@@ -346,8 +446,8 @@ SHARED = [
     ("eleven free days kept for a settlement's call", kept_free_day(11), 'Decisions.fifth-later'),
     ("nine free days for an admission's call", admission_free_day(9), 'Decisions.last-free-day'),
     ("eleven free days for an admission's call", admission_free_day(11), 'Decisions.first-charged-day'),
-    ('a fifth open call allowed', in_both(SETTLE, 'leb 4 (length', 'leb 5 (length'), 'Decisions.fifth-call'),
-    ('a fourth open call refused', in_both(SETTLE, 'leb 4 (length', 'leb 3 (length'), 'Decisions.fourth-call'),
+    ('a fifth open call allowed', most_open(5), 'Decisions.fifth-call'),
+    ('a fourth open call refused', most_open(3), 'Decisions.fourth-call'),
     ('an advance to day 29,220', in_both(ACCOUNT, 'ltb 29219 day', 'ltb 29220 day'), 'Decisions.advance-past'),
     ('no advance to day 29,219', in_both(ACCOUNT, 'ltb 29219 day', 'ltb 29218 day'), 'Decisions.advance-last-day'),
     ('an advance to today refused',
@@ -401,8 +501,8 @@ SHARED = [
     ('annual: 14 before 2',
      [(ACCOUNT, 'annual_run = if_admitted f (annual_answer f t)',
        'annual_run = cond (accepted (annual_answer f t)) (if_admitted f (annual_answer f t)) (annual_answer f t)'),
-      (DECISIONS, 'cause 2 (not (admitted_in own)) ∷ cause 14 (not (in_annual_days t)) ∷ []',
-       'cause 14 (not (in_annual_days t)) ∷ cause 2 (not (admitted_in own)) ∷ []')],
+      (DECISIONS, 'cause 2 (not (admitted_in own)) ∷ cause 14 (not (in_annual_days t)) ∷ cause 25',
+       'cause 14 (not (in_annual_days t)) ∷ cause 2 (not (admitted_in own)) ∷ cause 25')],
      'Decisions.annual-2-before-14'),
     ('statement: 2 before 1',
      [(ACCOUNT, 'if_numbered p (if_admitted (file_at b p) (statement_says', 'if_admitted (file_at b p) (if_numbered p (statement_says'),
@@ -507,7 +607,7 @@ SHARED = [
     ('a refused fresh book on day 1', [(ACCOUNT, '(fresh_book d) (fresh_book 0)', '(fresh_book d) (fresh_book 1)')], 'Decisions.fresh-beside'),
     ('a participant admitted with role 0',
      [(ADMIT, '      role = role;', '      role = 0;'),
-      ('book/specs/Reading/Events.antt', 'role_in (act d (admit role) ∷ own) = role', 'role_in (act d (admit role) ∷ own) = 0')],
+      (EVENTS, 'role_in (act d (admit role) ∷ own) = role', 'role_in (act d (admit role) ∷ own) = 0')],
      'Decisions.next-left'),
     ('an advance with day and budget exchanged',
      [(ACCOUNT, 'answer rule b (advance day budget)', 'answer rule b (advance budget day)'),
@@ -558,7 +658,7 @@ SHARED = [
      [(ACCOUNT, 'old_rule a answer = answer', f'old_rule a answer = cond ({RETIRED}) (refused 23) answer'),
       (DECISIONS, 'retirement old_rule a = []', '\n'.join(
           f'retirement old_rule {call} = {BEHIND if call == "(admit role)" else "[]"}'
-          for call in ('(admit role)', '(lodge k h)', '(release k a)', '(settle m figures)', 'annual_run')))],
+          for call in ACTS))],
      'Retirement.first-role-1'),
     ('the rules exchanged',
      [(ACCOUNT, 'old_rule a answer = answer', '\0'),
@@ -566,7 +666,7 @@ SHARED = [
       (ACCOUNT, '\0', f'old_rule a answer = cond ({RETIRED}) (refused 23) answer'),
       (DECISIONS, 'retirement : Rule → Act → List Cause\nretirement old_rule a = []', 'retirement : Rule → Act → List Cause\nretirement new_rule a = []')]
      + [(DECISIONS, f'retirement new_rule {call}', f'retirement old_rule {call}')
-        for call in ('(admit role)', '(lodge k h)', '(release k a)', '(settle m figures)', 'annual_run')],
+        for call in ACTS],
      'Retirement.role-1'),
     ('a first stretch by the new rule', [(RULE, 'map (under old_rule) first', 'map (under new_rule) first')], 'Retirement.kept-3-before-23'),
     ('calls since by the old rule', [(RULE, 'map (under new_rule) since', 'map (under old_rule) since')], 'Retirement.refused-again'),
@@ -588,6 +688,171 @@ SHARED = [
       (DECISIONS, 'cause 2 (not (admitted_in own))\n    ∷ cause 12',
        'cause 2 (not (admitted_in own))\n    ∷ cause 23 (eqb (Rattle.book.specs.Reading.Events.role_in own) 1)\n    ∷ cause 12')],
      'Retirement.first-batch'),
+    # ---- participants under deletion: when a participant is placed there
+    ('deletions in July too', [(CIVIL, DELETION_MONTHS, f'eqb (place_of m) 6 || ({DELETION_MONTHS})')], 'Deletions.days-2020'),
+    ('deletions in August only', [(CIVIL, DELETION_MONTHS, 'eqb (place_of m) 7')], 'Deletions.days-2020'),
+    ('deletions in September only', [(CIVIL, f'is_deletion_month m = {DELETION_MONTHS}', 'is_deletion_month m = eqb (place_of m) 8')],
+     'Deletions.days-2020'),
+    ('deletions in September and October',
+     [(CIVIL, DELETION_MONTHS, 'eqb (place_of m) 8 || eqb (place_of m) 9')], 'Deletions.days-2020'),
+    ('deletions in every month', [(CIVIL, 'leb d last_day && is_deletion_month (month_of d)', 'leb d last_day')], 'Deletions.days-2020'),
+    # .. its amount
+    ('a deletion of the smallest total',
+     amount_by_cases(LEAVING, '0', 'nat_abs (larger (smallest a rest) (pos 0))')
+     + [(LEAVING, 'unfoldable pub deletion_amount :', f'{SMALLEST}unfoldable pub deletion_amount :')],
+     'Deletions.amount-one'),
+    ('a deletion of the sum of the totals',
+     amount_by_cases(LEAVING, '0', 'nat_abs (larger (Rattle.laws.specs.Integers.sum_of (a ∷ rest)) (pos 0))'), 'Deletions.amount-one'),
+    ('a deletion of 1 at least', [(LEAVING, 'largest_at_least 0', 'largest_at_least 1')], 'Deletions.amount-none'),
+    ('a deletion of 1 where none is recorded',
+     amount_by_cases(LEAVING, '1', 'nat_abs (larger (largest_total a rest) (pos 0))'), 'Deletions.amount-none'),
+    ("a deletion of a negative total's size", amount_by_cases(LEAVING, '0', 'nat_abs (largest_total a rest)'), 'Deletions.amount-negative'),
+    ("a deletion of the role's minimum at least",
+     [(DELETION, 'deletion_amount (last_three', 'Rattle.manual.specs.Annual.annual_amount f.role (last_three'),
+      (MONTHS, 'deletion_amount (take 3', 'annual_amount (role_in own) (take 3')],
+     'Deletions.no-month'),
+    ('a deletion of the latest month', latest('drop (length totals - 1) totals', 'take 1 '), 'Deletions.fifth'),
+    ('a deletion of the two latest months', latest('drop (length totals - 2) totals', 'take 2 '), 'Deletions.with-gaps'),
+    ('a deletion of the four latest months', latest('drop (length totals - 4) totals', 'take 4 '), 'Deletions.three-latest'),
+    ('a deletion of all recorded months', latest('totals', ''), 'Deletions.three-latest'),
+    ('a deletion of the three earliest months',
+     latest('Rattle.std.specs.Prelude.take 3 totals',
+            '(λ (l : List ℤ). Rattle.std.specs.Prelude.drop (Rattle.std.specs.Prelude.length l - 3) l) '),
+     'Deletions.three-latest'),
+    ('a deletion of months from P − 15 on', window(15, 2), 'Deletions.p-15'),
+    ('a deletion of months from P − 13 on', window(13, 2), 'Deletions.p-14'),
+    ('a deletion of months until P − 3', window(14, 3), 'Deletions.with-gaps'),
+    # .. its call
+    ('a deletion that need not exceed the open calls', exceeding('(f.firm ∷ [])', '(firm_from d (base_in d own) made)'), 'Deletions.fifth-uncalled'),
+    ('a deletion that need not exceed the firm amount',
+     exceeding('(0 ∷ open_amounts f)', '(largest 0 (amounts_of (open_on d made)))'), 'Deletions.at-firm'),
+    ('a deletion that must exceed the next amount too',
+     exceeding('(f.next.amount ∷ f.firm ∷ open_amounts f)',
+               '(largest (next_in own).amount (firm_from d (base_in d own) made ∷ amounts_of (open_on d made)))'),
+     'Deletions.below_next'),
+    ('a deletion that must exceed the firm amount and the open calls together',
+     exceeding(f'({SUM_OF_ALL} (f.firm ∷ open_amounts f))) ∷ [])',
+               f'({SUM_OF_ALL} (firm_from d (base_in d own) made ∷ amounts_of (open_on d made)))))'),
+     'Deletions.fifth'),
+    ('a deletion that need only reach the firm amount and the open calls',
+     calling('leb 1 (deletion_amount_of f t) && leb (Rattle.file.specs.Calls.largest f.firm (open_amounts f)) (deletion_amount_of f t)',
+             f'leb 1 (deletion_in d own) && leb {EXCEEDED[1]} (deletion_in d own)'),
+     'Deletions.fifth-uncalled'),
+    ('a deletion that calls for 0',
+     calling('leb (Rattle.file.specs.Calls.largest f.firm (open_amounts f)) (deletion_amount_of f t)', f'leb {EXCEEDED[1]} (deletion_in d own)'),
+     'Deletions.participant-63'),
+    ('a deletion with the tolerance of the check',
+     also_asked('Rattle.manual.specs.Check.exceeds_tolerance (pos (deletion_amount_of f t)) (Rattle.file.specs.Settle.deposited f t)',
+                'Rattle.manual.specs.Check.exceeds_tolerance (Rattle.std.specs.Prelude.pos (deletion_in d own)) (deposited_in d own)'),
+     'Deletions.whatever-the-cover'),
+    ('a deletion with a tolerance above the firm amount',
+     also_asked('Rattle.manual.specs.Check.exceeds_tolerance (pos (deletion_amount_of f t)) f.firm',
+                'Rattle.manual.specs.Check.exceeds_tolerance (Rattle.std.specs.Prelude.pos (deletion_in d own)) (firm_from d (base_in d own) made)'),
+     'Deletions.above-firm'),
+    ('a deletion that must exceed the cover',
+     also_asked('Rattle.std.specs.Prelude.ltb (Rattle.file.specs.Fields.cover_of f t) (deletion_amount_of f t)',
+                'ltb (Rattle.book.specs.Reading.Holdings.cover_in d own) (deletion_in d own)'),
+     'Deletions.whatever-the-cover'),
+    ('a deletion that must exceed what is deposited',
+     also_asked('Rattle.std.specs.Prelude.ltb (Rattle.file.specs.Settle.deposited f t) (deletion_amount_of f t)',
+                'ltb (deposited_in d own) (deletion_in d own)'),
+     'Deletions.whatever-the-cover'),
+    ("nine free days for a deletion's call", deletion_free_day(9), 'UnderDeletion.last-free-day'),
+    ("eleven free days for a deletion's call", deletion_free_day(11), 'UnderDeletion.first-charged-day'),
+    ("a deletion's call in front of the others",
+     [(DELETION, '(open_calls f ++ (call_of (deletion_amount_of f t) (t + 10) ∷ []))', '(call_of (deletion_amount_of f t) (t + 10) ∷ open_calls f)'),
+      (READ_CALLS, 'calls_in own ++ cond (deletion_called d own (calls_in own)) (call_of (deletion_in d own) (d + 10) ∷ []) []',
+       'cond (deletion_called d own (calls_in own)) (call_of (deletion_in d own) (d + 10) ∷ []) [] ++ calls_in own')],
+     'Deletions.open-call'),
+    ("a deletion's call that is not counted",
+     [(ACCOUNT, 'calls_added f t delete = cond (deletion_calls f t) 1 0', 'calls_added f t delete = 0'),
+      (READ_CALLS, 'unfoldable pub firm_in : ', f'{OF_DELETION}unfoldable pub firm_in : '),
+      (DECISIONS, 'length (calls_in (mine n events))',
+       '(length (calls_in (mine n events)) - Rattle.book.specs.Reading.Calls.of_deletion (mine n events))')],
+     'Deletions.counts'),
+    # .. what it answers, and its causes
+    ('a deletion that answers 0 where it makes no call',
+     [(DELETION, ANSWERED[0], '(deletion (cond (deletion_calls f t) (deletion_amount_of f t) 0) (deletion_calls f t))'),
+      (DECISIONS, ANSWERED[1], 'deletion (cond (deletion_called t own (calls_in own)) (deletion_in t own) 0) (deletion_called t own (calls_in own))')],
+     'Deletions.fifth-uncalled'),
+    ('a deletion that answers whether it made no call',
+     [(DELETION, ANSWERED[0], '(deletion (deletion_amount_of f t) (not (deletion_calls f t)))'),
+      (DECISIONS, ANSWERED[1], 'deletion (deletion_in t own) (not (deletion_called t own (calls_in own)))')],
+     'Deletions.participant-63'),
+    ('a deletion that leaves nothing', [(ANSWER, 'accepted (deletion a calls) = true', 'accepted (deletion a calls) = false')], 'Deletions.already'),
+    ('deletion: 24 before 2',
+     [(ACCOUNT, 'f t delete = if_admitted f (deletion_answer f t)',
+       'f t delete = cond (accepted (deletion_answer f t)) (if_admitted f (deletion_answer f t)) (deletion_answer f t)'),
+      (DECISIONS, f'cause 2 (not (admitted_in own))\n    ∷ cause 24 ({DELETED[24][1]})',
+       f'cause 24 ({DELETED[24][1]})\n    ∷ cause 2 (not (admitted_in own))')],
+     'Deletions.two-before-24'),
+    ('deletion: 13 before 24', reordered(DELETION, DELETED, 24, 13), 'Deletions.twentyfour-before-13'),
+    ('deletion: 23 for 24', [(DELETION, 'number = 24', 'number = 23'), (DECISIONS, 'cause 24', 'cause 23')], 'Deletions.july-31'),
+    ('deletion: 25 for 24', [(DELETION, 'number = 24', 'number = 25'), (DECISIONS, 'cause 24', 'cause 25')], 'Deletions.july-31'),
+    ('deletion: 24 for 13',
+     [(DELETION, 'number = 13', 'number = 24'), (DECISIONS, 'cause 13 (deletion_called', 'cause 24 (deletion_called')], 'Deletions.fifth'),
+    ('a deletion on any day', cause_of_deletion(24, 'f.leaving', 'leaving_in own'), 'Deletions.july-31'),
+    ('a second deletion', cause_of_deletion(24, 'not (in_deletion_months t)', 'not (in_deletion_months t)'), 'Deletions.already'),
+    ('a fifth open call of a deletion allowed',
+     cause_of_deletion(13, 'deletion_calls f t && leb 5 (length (open_calls f))', 'deletion_called t own (calls_in own) && leb 5 (length (open_in t own))'),
+     'Deletions.fifth'),
+    ('a fourth open call of a deletion refused',
+     cause_of_deletion(13, 'deletion_calls f t && leb 3 (length (open_calls f))', 'deletion_called t own (calls_in own) && leb 3 (length (open_in t own))'),
+     'Deletions.fourth'),
+    ('a deletion refused at four open calls though it makes none',
+     cause_of_deletion(13, 'leb 4 (length (open_calls f))', 'leb 4 (length (open_in t own))'), 'Deletions.fifth-uncalled'),
+    ('a deletion refused as an admission with role 1 is',
+     [(ACCOUNT, 'admits_retired delete = false', 'admits_retired delete = Rattle.std.specs.Prelude.true'),
+      (DECISIONS, 'retirement new_rule delete = []', 'retirement new_rule delete = cause 23 Rattle.std.specs.Prelude.true ∷ []')],
+     'Deletions.participant-63'),
+    # .. and what follows of the status
+    ('the status taken by a deletion refused with 13',
+     [(ACCOUNT, 'unfoldable pub step : ', f'{TAKEN}unfoldable pub step : '),
+      (ACCOUNT, 'step rule b c = cond (accepted (answer rule b c)) (applied b c) b',
+       'step rule b c = cond (accepted (answer rule b c)) (applied b c) (taken_by rule b c)'),
+      (DECISIONS, 'unfoldable pub events_of : ', f'{READ_TAKEN}unfoldable pub events_of : '),
+      (DECISIONS, '(with_call s (events_of s before) e.call) (events_of s before)',
+       '(with_call s (events_of s before) e.call) (taken_by e.rule s (events_of s before) e.call)'),
+      (READ_CALLS, '++ cond (deletion_called d own (calls_in own)) (call_of',
+       '++ cond (deletion_called d own (calls_in own) '
+       '&& Rattle.std.specs.Prelude.not (leb 4 (Rattle.std.specs.Prelude.length (open_on d (calls_in own))))) (call_of')],
+     'Deletions.fifth-later'),
+    ('a deletion that does not take the status',
+     [(FIELDS, 'leaving = true;', 'leaving = f.leaving;'),
+      (EVENTS, 'leaving_in (act d delete ∷ own) = true', 'leaving_in (act d delete ∷ own) = leaving_in own')],
+     'Deletions.already'),
+    ('a participant admitted under deletion',
+     [(ADMIT, '      admitted = true;\n      leaving = false;', '      admitted = true;\n      leaving = true;'),
+      (EVENTS, 'leaving_in (act d (admit role) ∷ own) = leaving_in own', 'leaving_in (act d (admit role) ∷ own) = true')],
+     'Deletions.participant-63'),
+    ('a status of deletion that ends on 1 October',
+     [(OPENING, 'leaving = f.leaving;', 'leaving = f.leaving && Rattle.std.specs.Prelude.not (is_first_october d);'),
+      (EVENTS, 'leaving_in (day_opened d ∷ own) = leaving_in own',
+       'leaving_in (day_opened d ∷ own) = cond (Rattle.calendar.specs.Civil.is_first_october d) false (leaving_in own)')],
+     'Deletions.already-next-year'),
+    ('an annual run under deletion',
+     [(ANNUAL, f" ∷ {named(25, 'f.leaving')}", ''), (DECISIONS, ' ∷ cause 25 (leaving_in own)', '')], 'UnderDeletion.no-annual-run'),
+    ('annual: 25 before 14', reordered(ANNUAL, RUN, 14, 25), 'UnderDeletion.fourteen-before-25'),
+    ('annual: 24 for 25', [(ANNUAL, 'number = 25', 'number = 24'), (DECISIONS, 'cause 25', 'cause 24')], 'UnderDeletion.no-annual-run'),
+    ('annual: 26 for 25', [(ANNUAL, 'number = 25', 'number = 26'), (DECISIONS, 'cause 25', 'cause 26')], 'UnderDeletion.no-annual-run'),
+    ('a next amount unset by a deletion',
+     [(DELETION, '(with_deletion f (calls_deleted f t))',
+       '(Rattle.file.specs.Fields.with_next (with_deletion f (calls_deleted f t)) Rattle.file.specs.Fields.unset)'),
+      (MONTHS, 'next_in (act d delete ∷ own) = next_in own', 'next_in (act d delete ∷ own) = unset')],
+     'UnderDeletion.next-kept-short'),
+    ('a next amount replaced by that of a deletion',
+     [(DELETION, '(with_deletion f (calls_deleted f t))',
+       '(Rattle.file.specs.Fields.with_next (with_deletion f (calls_deleted f t)) (Rattle.file.specs.Fields.set_to (deletion_amount_of f t)))'),
+      (MONTHS, 'next_in (act d delete ∷ own) = next_in own', 'next_in (act d delete ∷ own) = set_to (deletion_in d own)')],
+     'UnderDeletion.next-kept-short'),
+    ('no check of a settlement under deletion',
+     [(SETTLE, 'check_due (month_of t) m && call_is_made (sum_of figures) (deposited f t) f.firm (open_amounts f)',
+       'not f.leaving && (check_due (month_of t) m && call_is_made (sum_of figures) (deposited f t) f.firm (open_amounts f))'),
+      (SETTLE, 'cond (check_due (month_of t) m)', 'cond (not f.leaving && check_due (month_of t) m)'),
+      (READ_CALLS, 'check_due (month_of d) m\n    &&',
+       '(Rattle.std.specs.Prelude.not (Rattle.book.specs.Reading.Events.leaving_in own) && check_due (month_of d) m)\n    &&'),
+      (DECISIONS, 'cond (check_due (month_of t) m)', 'cond (not (leaving_in own) && check_due (month_of t) m)')],
+     'UnderDeletion.settle-below-call'),
     # ---- the file of a month: its bytes
     ('most significant byte first',
      [(BYTES, 'get_or file at 0 + 256 * number_at file (suc at) n', 'get_or file (at + n) 0 + 256 * number_at file at n')], 'Files.two_bytes'),

@@ -12,9 +12,10 @@ use crate::rows::{Row, put_rows, read_row, read_rows};
 use calendar::Day;
 use file::{File, MonthTotal, NextAmount, OpenCall, Slot};
 
-// The file behind a place.
+// The file behind a place. Inlined, since a caller that asks for few of its fields reads only their words.
 // Kept: words and a place, here, in `rows` and in `parts`: `FileWords` holds them, and a writer's words are no book between writes.
 #[tactic(auto, unfolding(crate::specs::Files::file_of_words))]
+#[inline]
 pub fn file_at(words: &[u64], at: usize) -> File
     requires { at + 97 ≤ length words.now }
     ensures { result ≡ file_of_words (words_at words.now at) }
