@@ -1,5 +1,5 @@
-// Admissions and annual runs (paper 01, 'The calls'; paper 02, Asks 3 and 4): an admission puts a new file, an annual run takes the file out of the words,
-// calls its method, and writes the next amount.
+// Admissions and annual runs (paper 01, 'The calls'; paper 02, Asks 3 and 4): an admission puts a new file, an annual run
+// takes the file out of the words, calls its method, and writes the next amount.
 ghost use Rattle.std.specs.Prelude.{◌≡◌, true, ◌≤◌};
 ghost use Rattle.layout.specs.Words.{book_of_words, file_in_words, today_in};
 ghost use Rattle.file.specs.Annual.{annual_answer};

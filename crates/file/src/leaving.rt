@@ -12,8 +12,8 @@ use manual::deletion::deletion_amount;
 use refusal::Refusal;
 
 impl File {
-    // The amount of a deletion today: the largest total of the three latest recorded months among P − 14 to P − 2, and 0 if there is none or it is
-    // negative.
+    // The amount of a deletion today: the largest total of the three latest recorded months among P − 14 to P − 2, and
+    // 0 if there is none or it is negative.
     fn amount_of_deletion(&self, today: Day) -> u64
         ensures { result ≡ deletion_amount_of self.now today.0 }
     {
