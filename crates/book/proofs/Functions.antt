@@ -11,4 +11,3 @@ pub mod OnSettlements
 pub mod SettlementsPut
 pub mod OnBatches
 pub mod OnPositions
-pub mod FilesInWords

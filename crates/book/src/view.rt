@@ -1,7 +1,8 @@
 // A participant's file in the words of a book, lent to be read (paper 01, 'One participant's file').
 ghost use Rattle.std.specs.Prelude.{◌≡◌, ◌+◌, ◌≤◌, ◌<◌, length, get_or, true, MatchResult};
 ghost use Rattle.refusal.specs.declared.Refusal.TheVariants.{NoSuchParticipant};
-ghost use Rattle.file.specs.Calls.{amounts_of};
+ghost use Rattle.file.specs.Calls.{amounts_of, call_of};
+ghost use Rattle.file.specs.Fields.{open_calls};
 ghost use Rattle.file.specs.Position.{cover_through, position_at};
 ghost use Rattle.file.specs.Release.{release_floor};
 ghost use Rattle.file.specs.Sound.{Sound};
@@ -15,7 +16,7 @@ use calendar::Day;
 use file::release::release_floor;
 use file::{File, OpenCall, Position, Slot};
 use layout::files::{cover_at, file_at};
-use layout::parts::{is_admitted, number};
+use layout::parts::{flag, is_admitted, number};
 use layout::rows::{read_row, read_rows};
 use refusal::Refusal;
 
@@ -130,6 +131,23 @@ impl<'a> FileView<'a> {
         ensures { (result ≡ (file_seen self.entry).count) × (result ≤ 4) }
     {
         self.word(4)
+    }
+
+    // One of its open calls.
+    #[tactic(auto, using(crate::proofs::Functions::Viewing::calls))]
+    pub fn open_call(self, k: u64) -> OpenCall
+        requires { k < (file_seen self).count }
+        ensures { result ≡ get_or (open_calls (file_seen self.entry)) k (call_of 0 0) }
+    {
+        read_row::<OpenCall>(self.words, self.place(), k as usize)
+    }
+
+    // Whether a next amount is set.
+    #[tactic(auto, unfolding(layout::specs::Files::file_of_words))]
+    pub fn next_is_set(self) -> bool
+        ensures { result ≡ (file_seen self.entry).next.set }
+    {
+        flag(self.word(5))
     }
 
     // The days charged.

@@ -6,12 +6,12 @@ use mathlib.Core.List.{List, [], ◌∷◌, ◌++◌, map}
 use native.Mathlib.Omega.{arith}
 use native.Mathlib.Numerals.{add-one}
 use borrow.Author.Tests.{lt-ltb, ne_eqb}
-use mir.Val.{Fits, bool_byte}
-use mir.Syntax.{w64}
+use mir.Val.{bool_byte}
 use lib.Dec.{ltb, eqb}
 use lib.ListN.{length, take, set, get_or, replicate, length-append, length-take}
 use lib.Seq.{take-suc, take_all}
 use Rattle.manual.specs.Charge.{day_charge}
+use Rattle.manual.specs.Laws.{day_charge-bound}
 use Rattle.laws.specs.Lists.{All}
 use Rattle.laws.specs.Cases.{cond-true, cond-false}
 use Rattle.laws.specs.Places.{up_to, up_to-none, up_to-turn, up_to-all}
@@ -19,14 +19,16 @@ use Rattle.file.specs.declared.Position.TheVariants.{Empty}
 use Rattle.file.specs.declared.Slot.{Slot}
 use Rattle.file.specs.declared.OpenCall.{OpenCall}
 use Rattle.file.specs.declared.File.{File}
+use Rattle.file.specs.declared.Charges.{Charges}
 use Rattle.file.specs.Position.{slot_of, lapsed_by, emptied_on, cover_on}
 use Rattle.file.specs.Fields.{open_calls, with_slots}
+use Rattle.file.specs.Charges.{charges_of, charged_for}
 use Rattle.file.specs.Opening.{slots_opened, calls_opened, firm_raised, takes_effect, firm_opened, next_opened, shortfall_opened, opened_file}
 use Rattle.file.specs.Calls.{largest, amounts_of, call_of, in_places, keep, ends_at, stays_at}
 use Rattle.file.specs.CallLaws.{keep-more, keep_same, keep-length, largest-more, amounts-append, in_places-next}
 use Rattle.file.specs.Ending.{calls_passed, calls_ended, next_taken}
-use Rattle.file.specs.Sound.{Sound, SoundPosition}
-use Rattle.file.specs.KeepsCalls.{open-length, slots-sound, charge-bound}
+use Rattle.file.specs.Sound.{Sound, SoundPosition, total_bound}
+use Rattle.file.specs.KeepsCalls.{open-length, slots-sound, firm-bound}
 
 -- ---- the loop over the positions
 
@@ -165,19 +167,29 @@ pub calls_all : (f r : File) (d i : ℕ) (items : List OpenCall) → items ≡ o
 unfolding calls_ended
 calls_all f r d i items e h p = p ∙ ap (calls_passed d f) (take_all i (open_calls f) (omega (arith, ap length e)))
 
--- ---- the days charged
+-- ---- the charges
 
--- one where there is a shortfall
-abbrev pub charged_days : ℕ → ℕ
-charged_days shortfall = bool_byte (ltb 0 shortfall)
-
-charged-one : (shortfall : ℕ) → charged_days shortfall ≡ cond (eqb shortfall 0) 0 1
+charged-one : (shortfall : ℕ) → bool_byte (ltb 0 shortfall) ≡ cond (eqb shortfall 0) 0 1
 charged-one zero = refl
 charged-one (suc n) = rw (ne_eqb (suc n) 0 (λ (e : suc n ≡ 0). omega arith), lt-ltb 0 (suc n) (omega arith)) refl
 
-charged-few : (shortfall : ℕ) → charged_days shortfall ≤ 1
+pub charged-few : (shortfall : ℕ) → bool_byte (ltb 0 shortfall) ≤ 1
 charged-few zero = omega arith
 charged-few (suc n) = rw (lt-ltb 0 (suc n) (omega arith)) (omega arith)
+
+pub charges-after : (c : Charges) (shortfall charge : ℕ) → charge ≡ day_charge shortfall
+    → record { charged = c.charged + bool_byte (ltb 0 shortfall); accrued = c.accrued + charge } ≡ charged_for c shortfall
+charges-after c shortfall charge e =
+    λ i. record { charged = c.charged + charged-one shortfall i; accrued = c.accrued + e i }
+
+-- The charges of a file that was sound on the day before have room for another day.
+pub charges-fit : (f : File) (t : ℕ) (c : Charges) (shortfall : ℕ) → Sound t f → t < 29219 → c ≡ charges_of f → shortfall ≤ total_bound
+    → (c.charged < 18446744073709551615) × (c.accrued + day_charge shortfall < 18446744073709551616)
+charges-fit f t c shortfall s h e few =
+    let bound : day_charge shortfall ≤ total_bound = day_charge-bound shortfall total_bound few (omega arith) in
+    let days : c.charged ≡ f.charged = ap (λ (x : Charges). x.charged) e in
+    let mills : c.accrued ≡ f.accrued = ap (λ (x : Charges). x.accrued) e in
+    (omega (arith, s.charged), omega (arith, s.charged, s.accrued, bound))
 
 -- ---- the file
 
@@ -191,46 +203,44 @@ module _ (f : File) (d : ℕ) (slots : List Slot) (slots-is : slots ≡ map (slo
   unfolding firm_opened takes_effect firm_raised open_calls next_taken calls_ended calls_passed
   file-firm = rw (taken, ended) refl
 
+  file-charges : charges_of h ≡ charges_of f
+  unfolding next_taken calls_ended calls_passed
+  file-charges = rw (taken, ended) refl
+
   -- the emptied positions are within their bounds
   pub opened-slots : All (λ (s : Slot). SoundPosition s.position) f.slots → All (λ (s : Slot). SoundPosition s.position) h.slots
   opened-slots a = rw file-slots (slots-sound f d a)
 
-  -- the shortfall
-  shortfall_is : (covered shortfall : ℕ) → covered ≡ cover_on d h.slots → shortfall ≡ h.firm - covered → shortfall ≡ shortfall_opened f d
-  unfolding shortfall_opened
-  shortfall_is covered shortfall c k = k ∙ rw (c, file-firm, file-slots) refl
+  module _ (covered shortfall : ℕ) (c : covered ≡ cover_on d h.slots) (k : shortfall ≡ h.firm - covered) (charges : Charges) (e : charges ≡ charges_of h) where
+    -- the shortfall
+    shortfall_is : shortfall ≡ shortfall_opened f d
+    unfolding shortfall_opened
+    shortfall_is = k ∙ rw (c, file-firm, file-slots) refl
 
-  -- what fits
-  module _ (s : Sound (d - 1) f × (1 ≤ d) × (d ≤ 29219)) where
-    pub days-fit : (shortfall : ℕ) → Fits w64 (h.charged + charged_days shortfall)
-    unfolding next_taken calls_ended calls_passed
-    days-fit shortfall =
-        let same : h.charged ≡ f.charged = rw (taken, ended) refl in
-        omega (arith, s.0.charged, charged-few shortfall)
+    -- what fits
+    pub opened-fit : Sound (d - 1) f × (1 ≤ d) × (d ≤ 29219) → (charges.charged < 18446744073709551615) × (charges.accrued + day_charge shortfall < 18446744073709551616)
+    opened-fit s =
+        charges-fit f (d - 1) charges shortfall s.0 (omega (arith, s.1, s.2)) (e ∙ file-charges)
+        (omega (arith, k, firm-bound f (d - 1) d s.0, file-firm))
 
-    pub charge-fits : (covered shortfall : ℕ) → covered ≡ cover_on d h.slots → shortfall ≡ h.firm - covered → (charge : ℕ) → charge ≡ day_charge shortfall
-        → Fits w64 (h.accrued + charge)
-    unfolding next_taken calls_ended calls_passed
-    charge-fits covered shortfall c k charge e =
-        let same : h.accrued ≡ f.accrued = rw (taken, ended) refl in
-        omega (arith, s.0.charged, s.0.accrued, charge-bound f (d - 1) d s.0, e ∙ ap day_charge (shortfall_is covered shortfall c k))
+    -- the whole file
+    pub file-opened : (after : Charges) → after ≡ charged_for charges shortfall →
+        record {
+          admitted = h.admitted;
+          leaving = h.leaving;
+          role = h.role;
+          firm = h.firm;
+          slots = h.slots;
+          calls = h.calls;
+          count = h.count;
+          next = h.next;
+          totals = h.totals;
+          charged = after.charged;
+          accrued = after.accrued;
+        }
+        ≡ opened_file f d
+    unfolding opened_file calls_opened firm_opened firm_raised next_opened takes_effect open_calls slots_opened next_taken calls_ended calls_passed
+    file-opened after a =
+        rw (a, e, shortfall_is, taken, ended, slots-is) refl
 
-  -- the whole file
-  pub file-opened : (covered shortfall : ℕ) → covered ≡ cover_on d h.slots → shortfall ≡ h.firm - covered → (charge : ℕ) → charge ≡ day_charge shortfall →
-      record {
-        admitted = h.admitted;
-        leaving = h.leaving;
-        role = h.role;
-        firm = h.firm;
-        slots = h.slots;
-        calls = h.calls;
-        count = h.count;
-        next = h.next;
-        totals = h.totals;
-        charged = h.charged + charged_days shortfall;
-        accrued = h.accrued + charge;
-      }
-      ≡ opened_file f d
-  unfolding opened_file calls_opened firm_opened firm_raised next_opened takes_effect open_calls slots_opened next_taken calls_ended calls_passed
-  file-opened covered shortfall c k charge e =
-      rw (e, charged-one shortfall, shortfall_is covered shortfall c k, taken, ended, slots-is) refl
+pub ruleset charges = (charges-after, charged-few)

@@ -2,6 +2,7 @@ pub mod Sums
 pub mod Lodgings
 pub mod Releases
 pub mod AtOpening
+pub mod Unchanged
 pub mod Settling
 pub mod Windows
 pub mod Runs

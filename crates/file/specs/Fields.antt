@@ -2,6 +2,7 @@
 -- Assumes nothing.
 use Rattle.std.specs.Prelude.{ℕ, ◌-◌, true, false, List, length, take}
 use Rattle.file.specs.declared.File.{File}
+use Rattle.file.specs.declared.Charges.{Charges}
 use Rattle.file.specs.declared.Slot.{Slot}
 use Rattle.file.specs.declared.OpenCall.{OpenCall}
 use Rattle.file.specs.declared.NextAmount.{NextAmount}
@@ -98,4 +99,21 @@ with_next f next =
       totals = f.totals;
       charged = f.charged;
       accrued = f.accrued;
+    }
+
+-- The file with other charges.
+abbrev pub with_charges : File → Charges → File
+with_charges f c =
+    record {
+      admitted = f.admitted;
+      leaving = f.leaving;
+      role = f.role;
+      firm = f.firm;
+      slots = f.slots;
+      calls = f.calls;
+      count = f.count;
+      next = f.next;
+      totals = f.totals;
+      charged = c.charged;
+      accrued = c.accrued;
     }

@@ -16,6 +16,7 @@ pub mod Annual
 pub mod Deletion
 pub mod DeletionLaws
 pub mod Opening
+pub mod Charges
 pub mod Ending
 pub mod Statement
 pub mod Sound

@@ -105,6 +105,13 @@ pub struct Deletion {
     pub called: bool,
 }
 
+// The charges of a file: the days charged and the accrued charge.
+#[derive(Clone, Copy)]
+pub struct Charges {
+    pub charged: u64,
+    pub accrued: u64,
+}
+
 // A statement: firm amount, cover, shortfall, days charged, accrued charge.
 #[derive(Clone, Copy)]
 pub struct Statement {

@@ -1,13 +1,15 @@
 // Opening a day for an admitted participant (paper 01, 'Advance').
-ghost use Rattle.std.specs.Prelude.{◌≡◌, ◌-◌, ◌≤◌, map};
+ghost use Rattle.std.specs.Prelude.{◌≡◌, ◌+◌, ◌-◌, ◌≤◌, ◌<◌, map};
 ghost use Rattle.file.specs.Position.{slot_of, lapsed_by, emptied_on};
 ghost use Rattle.file.specs.Calls.{ends_at};
 ghost use Rattle.file.specs.Ending.{calls_ended, next_taken};
+ghost use Rattle.manual.specs.Charge.{day_charge};
+ghost use Rattle.file.specs.Charges.{charges_of, charged_for};
 ghost use Rattle.file.specs.Opening.{opened_file};
 ghost use Rattle.file.specs.Sound.{Sound};
 
 use crate::cover::cover;
-use crate::{File, NextAmount, OpenCall, Position, Slot};
+use crate::{Charges, File, NextAmount, OpenCall, Position, Slot};
 use calendar::{Day, is_first_october};
 use manual::charge::day_charge;
 
@@ -24,7 +26,7 @@ fn empty_lapsed(slots: &mut [Slot; 8], day: Day)
 
 impl Position {
     // Whether it is a letter whose last day is before a day.
-    fn has_lapsed(self, day: Day) -> bool
+    pub fn has_lapsed(self, day: Day) -> bool
         ensures { result ≡ lapsed_by day.0 self }
     {
         matches!(self, Position::Letter(_, _, last) if last < day)
@@ -33,10 +35,24 @@ impl Position {
 
 impl OpenCall {
     // Whether its last free day is the day before a day.
-    fn ends_at(self, day: Day) -> bool
+    pub fn ends_at(self, day: Day) -> bool
         ensures { result ≡ ends_at day.0 self }
     {
         day.0.checked_sub(1) == Some(self.last.0)
+    }
+}
+
+impl Charges {
+    // The charges after a day with a shortfall was charged.
+    #[tactic(auto, using(crate::proofs::AtOpening::charges))]
+    pub fn after(self, shortfall: u64) -> Charges
+        requires { (self.charged < 18446744073709551615) × (self.accrued + day_charge shortfall < 18446744073709551616) }
+        ensures { result ≡ charged_for self shortfall }
+    {
+        Charges {
+            charged: self.charged + (0 < shortfall) as u64,
+            accrued: self.accrued + day_charge(shortfall),
+        }
     }
 }
 
@@ -81,8 +97,19 @@ impl File {
         self.end_calls(day);
         self.take_next(day);
         let shortfall = self.firm.saturating_sub(cover(&self.slots, day));
-        self.charged += (0 < shortfall) as u64;
-        self.accrued += day_charge(shortfall);
+        let Charges { charged, accrued } = self.charges().after(shortfall);
+        self.charged = charged;
+        self.accrued = accrued;
+    }
+
+    // Its charges.
+    fn charges(&self) -> Charges
+        ensures { result ≡ charges_of self.now }
+    {
+        Charges {
+            charged: self.charged,
+            accrued: self.accrued,
+        }
     }
 
     // The file after the day was opened, which follows the day on which the file is sound.

@@ -19,9 +19,9 @@ use Rattle.file.specs.Totals.{no_total}
 use Rattle.layout.specs.Parts.{flag_of, admitted_of, leaving_of}
 use Rattle.layout.specs.Parts.{slot_of_words, open_call_of_words, total_of_words, slot_words, open_call_words, total_words, written, SlotBack}
 use Rattle.layout.specs.Parts.{CallBack, TotalBack}
-use Rattle.layout.specs.Files.{slot_in, slots_of_words, calls_of_words, totals_of_words, file_of_words, words_at, flat, own_words}
+use Rattle.layout.specs.Files.{slot_in, call_in, slots_of_words, calls_of_words, totals_of_words, file_of_words, words_at, flat, own_words}
 use Rattle.layout.specs.Files.{file_words, Put, PutRows}
-use Rattle.layout.specs.RowLaws.{slots-table}
+use Rattle.layout.specs.RowLaws.{slots-table, calls-table}
 use Rattle.layout.proofs.Backs.{flag-back, admitted-back, leaving-back}
 use Rattle.layout.proofs.Written.{written_next, written_in}
 use Rattle.layout.proofs.Flat.{flat-length, flat-at}
@@ -32,6 +32,11 @@ use Rattle.layout.proofs.Flat.{flat-length, flat-at}
 pub slot-there : (l : List ℕ) (at k : ℕ) (d : Slot) → k < 8 → get_or (slots_of_words (words_at l at)) k d ≡ slot_in l (at + (9 + 4 * k))
 slot-there l at k d h =
     ap (λ (slots : List Slot). get_or slots k d) (slots-table l at) ∙ get_d-table 8 (λ (j : ℕ). slot_in l (at + (9 + 4 * j))) k d h
+
+-- Which open call stands where.
+pub call-there : (l : List ℕ) (at k : ℕ) (d : OpenCall) → k < 4 → get_or (calls_of_words (words_at l at)) k d ≡ call_in l (at + (41 + 2 * k))
+call-there l at k d h =
+    ap (λ (calls : List OpenCall). get_or calls k d) (calls-table l at) ∙ get_d-table 4 (λ (j : ℕ). call_in l (at + (41 + 2 * j))) k d h
 
 -- There are as many as a file has.
 pub slots-long : (w : ℕ → ℕ) → length (slots_of_words w) ≡ 8

@@ -1,4 +1,4 @@
--- A part of a file put back by its own words alone: a position, a month's total, an open call, the number of them, the next amount.
+-- A part of a file put back by its own words alone: a position, a month's total, an open call, the number of them, the next amount, the charges.
 -- Assumes nothing.
 use Prim.Native.Nat.{ℕ, zero, suc, ◌+◌, ◌*◌, ◌≤◌, ◌<◌}
 use mathlib.Core.Path.{◌≡◌, refl, sym, ap, ◌∙◌}
@@ -11,10 +11,11 @@ use Rattle.laws.specs.Cases.{split}
 use Rattle.laws.specs.Tabulated.{all-table}
 use Rattle.laws.specs.Lists.{All, all_set}
 use Rattle.file.specs.declared.File.{File}
+use Rattle.file.specs.declared.Charges.{Charges}
 use Rattle.file.specs.declared.Slot.{Slot}
 use Rattle.file.specs.declared.OpenCall.{OpenCall}
 use Rattle.file.specs.declared.MonthTotal.{MonthTotal}
-use Rattle.file.specs.Fields.{with_slots, with_next, set_to}
+use Rattle.file.specs.Fields.{with_slots, with_next, with_charges, set_to}
 use Rattle.layout.specs.Parts.{number_of, flag_of, signed_of_word, slot_of_words, open_call_of_words, total_of_words, slot_words, open_call_words, total_words}
 use Rattle.layout.specs.Parts.{SlotBack, CallBack, TotalBack, written}
 use Rattle.layout.specs.Files.{file_of_words, slots_of_words, calls_of_words, totals_of_words, words_at, flat, own_words, file_words, Put}
@@ -171,6 +172,10 @@ module _ (f : File) where
   unfolding file_words written
   next-words a = refl
 
+  charges-words : (c : Charges) → file_words (with_charges f c) ≡ written (file_words f) 6 (c.charged ∷ c.accrued ∷ [])
+  unfolding file_words written
+  charges-words c = refl
+
 module _ (l m : List ℕ) (p : ℕ) (same : l ≡ book_words (book_of_words l)) (long : length l ≡ book_length) (low : p ≤ 63) where
   abbrev f : File
   f = file_in_words l p
@@ -193,6 +198,13 @@ module _ (l m : List ℕ) (p : ℕ) (same : l ≡ book_words (book_of_words l)) 
   put : (g : File) → length g.slots ≡ 8 → length g.calls ≡ 4 → length g.totals ≡ 16 → All SlotBack g.slots → All CallBack g.calls
       → All TotalBack g.totals → m ≡ written l (place p + 1) (file_words g) → Put l (place p) g m
   put g eight four sixteen bs bc bt e = put_of g l m (place p) eight four sixteen bs bc bt (omega arith) e
+
+  -- nothing
+  pub same-put : m ≡ l → Put l (place p) f m
+  unfolding file_of_words
+  same-put e =
+      put f (slots-long w) (calls-long w) (totals-long w) (slots_read w) (calls-read w) (totals-read w)
+      (e ∙ words-stand l p same low)
 
   -- a position
   pub slot-put : (k : ℕ) (s : Slot) → k < 8 → SlotBack s → m ≡ written l (place p + (9 + 4 * k)) (slot_words s)
@@ -244,6 +256,15 @@ module _ (l m : List ℕ) (p : ℕ) (same : l ≡ book_words (book_of_words l)) 
       let at : place p + 5 ≡ place p + 1 + 4 = omega arith in
       put (with_next f (set_to a)) (slots-long w) (calls-long w) (totals-long w) (slots_read w) (calls-read w) (totals-read w)
       (stored (with_next f (set_to a)) 4 (1 ∷ a ∷ []) (next-words f a) (omega arith) (e ∙ ap (λ (j : ℕ). written l j (1 ∷ a ∷ [])) at))
+
+  -- the charges
+  pub charges-put : (c : Charges) → m ≡ written l (place p + 7) (c.charged ∷ c.accrued ∷ []) → Put l (place p) (with_charges f c) m
+  unfolding file_of_words
+  charges-put c e =
+      let vs = c.charged ∷ c.accrued ∷ [] in
+      let at : place p + 7 ≡ place p + 1 + 6 = omega arith in
+      put (with_charges f c) (slots-long w) (calls-long w) (totals-long w) (slots_read w) (calls-read w) (totals-read w)
+      (stored (with_charges f c) 6 vs (charges-words f c) (omega arith) (e ∙ ap (λ (j : ℕ). written l j vs) at))
 
 -- One part put after another: the file that was put last stands there.
 pub put-again : (l m n : List ℕ) (at : ℕ) (g h : File) → at + 97 ≤ length l → Put l at g m → Put m at h n → Put l at h n

@@ -10,7 +10,7 @@ ghost use Rattle.layout.specs.Files.{slots_of_words, file_of_words, words_at, ow
 use crate::parts::{flag, flag_word, is_admitted, is_leaving, put_words, status_word};
 use crate::rows::{Row, put_rows, read_row, read_rows};
 use calendar::Day;
-use file::{File, MonthTotal, NextAmount, OpenCall, Slot};
+use file::{Charges, File, MonthTotal, NextAmount, OpenCall, Slot};
 
 // The file behind a place. Inlined, since a caller that asks for few of its fields reads only their words.
 // Kept: words and a place, here, in `rows` and in `parts`: `FileWords` holds them, and a writer's words are no book between writes.
@@ -76,6 +76,14 @@ pub fn put_next(words: &mut [u64], at: usize, amount: u64)
     ensures { words.new ≡ written words.old (at + 5) (1 ∷ amount ∷ []) }
 {
     put_words(words, at + 5, &[1, amount]);
+}
+
+// Writes the charges of the file behind a place.
+pub fn put_charges(words: &mut [u64], at: usize, charges: Charges)
+    requires { at + 97 ≤ length words.old }
+    ensures { words.new ≡ written words.old (at + 7) (charges.charged ∷ charges.accrued ∷ []) }
+{
+    put_words(words, at + 7, &[charges.charged, charges.accrued]);
 }
 
 // What the positions of the file behind a place give from one day through another that isn't before it.

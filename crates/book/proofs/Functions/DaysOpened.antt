@@ -1,155 +1,268 @@
--- Days opened over an array of files: file by file within a day, day by day within an advance.
+-- Days opened in the words of a book: file by file within a day, day by day within an advance.
 -- Assumes nothing.
-use Prim.Native.Nat.{ℕ, zero, suc, ◌+◌, ◌-◌, ◌≤◌, ◌<◌, min}
+use Prim.Native.Nat.{ℕ, suc, ◌+◌, ◌-◌, ◌≤◌, ◌<◌, min}
 use native.Mathlib.Omega.{arith}
-use native.Mathlib.Nat.{add-zero}
 use native.Mathlib.Numerals.{add-one}
 use mathlib.Core.Path.{◌≡◌, refl, sym, ap, subst, ◌∙◌}
 use mathlib.Core.Bool.{Bool, true, false, cond, ◌||◌}
-use mathlib.Core.List.{List, [], map}
+use mathlib.Core.List.{List, [], ◌∷◌}
 use lib.Dec.{ltb}
-use lib.ListN.{length, get_or, set, length-map}
-use Rattle.laws.specs.Lists.{All, all-at, all_map}
-use Rattle.laws.specs.Places.{up_to, up_to-none, up_to-next, up_to-all, up_to-long, up_to-turn}
+use lib.ListN.{length, get_or, set, length-set}
+use Rattle.laws.specs.Places.{up_to, up_to-none, up_to-next, up_to-all, up_to-turn}
+use Rattle.file.specs.declared.Charges.{Charges}
 use Rattle.file.specs.declared.File.{File}
+use Rattle.file.specs.Admit.{no_file}
 use Rattle.file.specs.Answer.{Answer, refused, days_opened, decide, accepted}
 use Rattle.file.specs.Sound.{Sound}
+use Rattle.file.specs.Fields.{shortfall_of, cover_of, with_charges}
+use Rattle.file.specs.Position.{cover_on, cover_through}
 use Rattle.file.specs.Opening.{opened_file}
+use Rattle.file.specs.Charges.{changes_on, charged_for, charges_after}
+use Rattle.file.proofs.AtOpening.{charges-fit}
+use Rattle.file.proofs.Unchanged.{unchanged-opened}
+use Rattle.manual.specs.Charge.{day_charge}
 use Rattle.layout.specs.Book.{Book}
+use Rattle.layout.specs.Files.{Put}
+use Rattle.layout.specs.Parts.{written}
+use Rattle.layout.specs.Words.{book_length, place, file_in_words, today_in, book_of_words, book_words}
+use Rattle.layout.specs.WellFormed.{SoundBook, WellFormed}
+use Rattle.layout.proofs.BookLaws.{book-long, book-file, put-book, put-length, today-book, canonical-put, canonical-today}
+use Rattle.layout.proofs.PartLaws.{same-put, charges-put}
 use Rattle.book.specs.Call.{advance}
 use Rattle.book.specs.Rule.{new_rule}
 use Rattle.book.specs.Account.{opened_if_admitted, open_day, open_days, answer, applied, step}
-use Rattle.book.specs.Opened.{files_opened}
+use Rattle.book.specs.InWords.{GivenWords}
+use Rattle.book.specs.Opened.{Openable}
 use Rattle.book.specs.Reached.{Given}
 use Rattle.book.proofs.Participant.Decide.{decide_true, decide-false}
 use Rattle.book.proofs.Functions.OnFile.{refused-left}
-use Rattle.book.proofs.Functions.SoundBook.{sound-opened}
-use Rattle.book.proofs.History.Advances.{not-outside, days-fit}
+use Rattle.book.proofs.Functions.OnWords.{in_words, nothing_written, file-sound}
+use Rattle.book.proofs.Functions.SoundBook.{day-sound}
+use Rattle.book.proofs.History.Advances.{not-outside, days-fit, open_days-last, open_days-today}
 use Rattle.book.proofs.History.Life.{given}
 
 -- ---- one file at an opening
 
-pub opened-yes : (d : ℕ) (f g : File) → f.admitted ≡ true → g ≡ opened_file f d → g ≡ opened_if_admitted d f
+opened-yes : (d : ℕ) (f : File) → f.admitted ≡ true → opened_file f d ≡ opened_if_admitted d f
 unfolding opened_if_admitted
-opened-yes d f g e h = h ∙ sym (ap (λ (t : Bool). cond t (opened_file f d) f) e)
+opened-yes d f e = sym (ap (λ (t : Bool). cond t (opened_file f d) f) e)
 
-pub opened-not : (d : ℕ) (f : File) → f.admitted ≡ false → f ≡ opened_if_admitted d f
+opened-not : (d : ℕ) (f : File) → f.admitted ≡ false → f ≡ opened_if_admitted d f
 unfolding opened_if_admitted
 opened-not d f e = sym (ap (λ (t : Bool). cond t (opened_file f d) f) e)
 
--- ---- one pass over the files, on day d
+module _ (l : List ℕ) (p : ℕ) (o : Openable l p) where
+  pub openable-long : length l ≡ book_length
+  openable-long = o.long
 
--- The first i of the files are opened.
-pub record Pass (d i : ℕ) (before files : List File) : Type 0 where
+  pub openable-low : p ≤ 63
+  openable-low = o.low
+
+  pub openable-sound : Sound (today_in l) (file_in_words l p)
+  openable-sound = o.sound
+
+  module _ (d : ℕ) (next : d ≡ suc (today_in l)) where
+    abbrev f : File
+    f = file_in_words l p
+
+    pub opens-sound : (g : File) → g ≡ f → Sound (d - 1) g × (1 ≤ d) × (d ≤ 29219)
+    opens-sound g e =
+        let before : d - 1 ≡ today_in l = omega arith in
+        (rw (before, e) o.sound, omega arith, omega (arith, o.within))
+
+    pub opens-within : d ≤ 29219
+    opens-within = omega (arith, o.within)
+
+    -- a participant that isn't admitted
+    pub not-opened : f.admitted ≡ false → Put l (place p) (opened_if_admitted d f) l
+    not-opened e = subst (λ (g : File). Put l (place p) g l) (opened-not d f e) (same-put l l p o.canonical o.long o.low refl)
+
+    -- the file is put back
+    pub file-put : (m : List ℕ) (at : ℕ) (g h : File) → f.admitted ≡ true → g ≡ f → h ≡ opened_file g d → at ≡ place p → Put l at h m
+        → Put l (place p) (opened_if_admitted d f) m
+    file-put m at g h e same opened here put =
+        subst (λ (z : File). Put l (place p) z m) (opened ∙ ap (λ (z : File). opened_file z d) same ∙ opened-yes d f e) (rw here at put)
+
+    -- its charges are
+    pub charges-stored : (m : List ℕ) (at : ℕ) (c : Charges) → f.admitted ≡ true → changes_on d f ≡ false → c ≡ charges_after f d
+        → at ≡ place p → m ≡ written l (at + 7) (c.charged ∷ c.accrued ∷ []) → Put l (place p) (opened_if_admitted d f) m
+    charges-stored m at c e quiet is here put =
+        subst (λ (z : File). Put l (place p) z m)
+        (ap (with_charges f) is ∙ sym (unchanged-opened f (today_in l) d o.sound quiet) ∙ opened-yes d f e)
+        (charges-put l m p o.canonical o.long o.low c (rw here at put))
+
+-- the charges of a file of which the day changes nothing else
+module _ (f : File) (d : ℕ) (charged accrued firm covered shortfall : ℕ) (charged-is : charged ≡ f.charged) (accrued-is : accrued ≡ f.accrued)
+    (firm-is : firm ≡ f.firm) (covered-is : covered ≡ cover_through d d f.slots) (shortfall-is : shortfall ≡ firm - covered) where
+  abbrev charges : Charges
+  charges = record { charged = charged; accrued = accrued }
+
+  pub charges-room : (t : ℕ) → Sound t f → (d ≡ suc t) × (d ≤ 29219) → (charged < 18446744073709551615) × (accrued + day_charge shortfall < 18446744073709551616)
+  charges-room t s next =
+      charges-fit f t charges shortfall s (omega (arith, next.0, next.1)) (λ i. record { charged = charged-is i; accrued = accrued-is i })
+      (omega (arith, s.firm))
+
+  pub charges-are : (after : Charges) → after ≡ charged_for charges shortfall → after ≡ charges_after f d
+  unfolding charges_after shortfall_of cover_of cover_on
+  charges-are after e = e ∙ rw (charged-is, accrued-is, shortfall-is, firm-is, covered-is) refl
+
+pub ruleset files = (openable-long, openable-low, openable-sound, opens-sound, opens-within, not-opened, file-put, charges-stored)
+
+-- ---- one pass over the files, on the day after today
+
+-- In the words m the day after that of the words l was opened for the first i participants.
+pub record Pass (i : ℕ) (l m : List ℕ) : Type 0 where
   pub few : i ≤ 64
-  pub long : length before ≡ 64
-  pub sound : All (Sound (d - 1)) before
-  pub sofar : files ≡ up_to (opened_if_admitted d) i before
+  pub formed : WellFormed l
+  pub within : suc (today_in l) ≤ 29219
+  pub long : length m ≡ book_length
+  pub canonical : m ≡ book_words (book_of_words m)
+  pub stand : book_of_words m
+      ≡ record {
+        files = up_to (opened_if_admitted (suc (today_in l))) i (book_of_words l).files;
+        today = (book_of_words l).today;
+        made = (book_of_words l).made;
+      }
 
-pub pass-first : (d : ℕ) (files : List File) → length files ≡ 64 → All (Sound (d - 1)) files → Pass d 0 files files
-pass-first d files long sound =
-    record { few = omega arith; long = long; sound = sound; sofar = sym (up_to-none (opened_if_admitted d) files) }
-
--- as many files as before
-pub pass-long : (d i : ℕ) (before files : List File) → Pass d i before files → length files ≡ 64
-pass-long d i before files s = ap length s.sofar ∙ up_to-long (opened_if_admitted d) i before ∙ s.long
-
--- the next file is one of before, and sound
-pub pass-sound : (d i : ℕ) (z : File) (before files : List File) → Pass d i before files → i < 64 → Sound (d - 1) (get_or files i z)
-pass-sound d i z before files s h =
-    subst (Sound (d - 1))
-    (sym (ap (λ (l : List File). get_or l i z) s.sofar ∙ up_to-next (opened_if_admitted d) i before z))
-    (all-at (Sound (d - 1)) before i z (let e = s.long in omega arith) s.sound)
-
--- one more is opened
-pub pass-next : (d i : ℕ) (z f : File) (before files : List File) → Pass d i before files → i < 64
-    → f ≡ opened_if_admitted d (get_or files i z) → Pass d (i + 1) before (set files i f)
-pass-next d i z f before files s h e =
+pub pass-first : (l : List ℕ) → WellFormed l → today_in l + 1 ≤ 29219 → Pass 0 l l
+pass-first l w h =
     record {
       few = omega arith;
-      long = s.long;
-      sound = s.sound;
-      sofar = up_to-turn (opened_if_admitted d) files before i 64 (get_or files i z) f z s.long h s.sofar refl e;
+      formed = w;
+      within = omega arith;
+      long = w.long;
+      canonical = w.canonical;
+      stand = λ i. record {
+        files = sym (up_to-none (opened_if_admitted (suc (today_in l))) (book_of_words l).files) i;
+        today = (book_of_words l).today;
+        made = (book_of_words l).made;
+      };
     }
 
--- all are opened
-pub pass-all : (d i : ℕ) (before files : List File) → Pass d i before files → 64 ≤ i → files ≡ map (opened_if_admitted d) before
-pass-all d i before files s h = s.sofar ∙ up_to-all (opened_if_admitted d) i before (let e = s.long in omega arith)
+module _ (i : ℕ) (l m : List ℕ) (s : Pass i l m) where
+  -- today is as it was
+  same-today : today_in m ≡ today_in l
+  unfolding book_of_words
+  same-today = ap (λ (b : Book). b.today.0) s.stand
+
+  pub pass-day : (d : ℕ) → d ≡ today_in l + 1 → d ≡ suc (today_in m)
+  pass-day d e = omega (arith, same-today)
+
+  pub pass-numbered : i < 64 → i ≤ 63
+  pass-numbered h = omega arith
+
+  -- the next file is as it was
+  same-file : i < 64 → file_in_words m i ≡ file_in_words l i
+  same-file h =
+      sym (book-file m i (omega arith))
+      ∙ ap (λ (b : Book). get_or b.files i no_file) s.stand
+      ∙ up_to-next (opened_if_admitted (suc (today_in l))) i (book_of_words l).files no_file
+      ∙ book-file l i (omega arith)
+
+  pub pass-openable : i < 64 → Openable m i
+  pass-openable h =
+      record {
+        long = s.long;
+        canonical = s.canonical;
+        low = omega arith;
+        within = omega (arith, same-today, s.within);
+        sound = rw (same-today, same-file h) (file-sound l i s.formed (omega arith) (file_in_words l i) (today_in l) refl refl);
+      }
+
+  -- one more is opened
+  pub pass-next : (n : List ℕ) (d : ℕ) → i < 64 → d ≡ today_in l + 1 → Put m (place i) (opened_if_admitted d (file_in_words m i)) n → Pass (i + 1) l n
+  pass-next n d h next put =
+      let g = opened_if_admitted (suc (today_in l)) in
+      let e : d ≡ suc (today_in l) = omega arith in
+      let f = opened_if_admitted d (file_in_words m i) in
+      let low : i ≤ 63 = omega arith in
+      record {
+        few = omega arith;
+        formed = s.formed;
+        within = s.within;
+        long = put-length m n i f low put ∙ s.long;
+        canonical = canonical-put m n i f s.canonical low put;
+        stand =
+            put-book m n i f low put
+            ∙ (λ j. record {
+              files = up_to-turn g (book_of_words m).files (book_of_words l).files i 64 (file_in_words m i) f no_file (book-long l) h
+                  (ap (λ (b : Book). b.files) s.stand) (sym (book-file m i low)) (ap (λ (k : ℕ). opened_if_admitted k (file_in_words m i)) e) j;
+              today = (s.stand j).today;
+              made = (s.stand j).made;
+            });
+      }
+
+  -- all are opened, and today is the next day
+  pub pass-all : (d : ℕ) → 64 ≤ i → d ≡ today_in l + 1
+      → (book_of_words (set m 1 d) ≡ open_day (book_of_words l)) × WellFormed (set m 1 d)
+  unfolding open_day book_of_words
+  pass-all d h next =
+      let g = opened_if_admitted (suc (today_in l)) in
+      let e : d ≡ suc (today_in l) = omega arith in
+      let low : d ≤ 29219 = omega (arith, s.within) in
+      let long : 3 ≤ length m = omega (arith, s.long) in
+      let b = book_of_words l in
+      let leads : book_of_words (set m 1 d) ≡ open_day b =
+      today-book m d long low
+      ∙ (λ j. record {
+        files = (ap (λ (k : Book). k.files) s.stand ∙ up_to-all g i b.files (omega (arith, book-long l))) j;
+        today = record { 0 = e j };
+        made = (s.stand j).made;
+      }) in (
+        leads,
+        record {
+          long = length-set m 1 d ∙ s.long;
+          canonical = canonical-today m d s.canonical long low;
+          sound = subst SoundBook (sym leads) (day-sound b (omega (arith, s.within)) s.formed.sound);
+        },
+      )
+
+pub ruleset passes = (pass-first, pass-day, pass-numbered, pass-openable, pass-next, pass-all)
 
 -- ---- the days in turn
 
--- Of the days after day t, `past` have been opened, and the others will lead to what all of them lead to.
-pub record Turn (t days past : ℕ) (before files : List File) : Type 0 where
+-- Of so many days after that of the words l, `past` have been opened in the words m.
+pub record Turn (days past : ℕ) (l m : List ℕ) : Type 0 where
   pub few : past ≤ days
-  pub long : length files ≡ 64
-  pub sound : All (Sound (t + past)) files
-  pub rest : files_opened (days - past) (t + past) files ≡ files_opened days t before
+  pub within : today_in l + days ≤ 29219
+  pub formed : WellFormed m
+  pub leads : book_of_words m ≡ open_days past (book_of_words l)
 
-pub turn-first : (t days : ℕ) (files : List File) → length files ≡ 64 → All (Sound t) files → Turn t days 0 files files
-turn-first t days files long sound =
-    let e : t + 0 ≡ t = add-zero t in
-    let n : days - 0 ≡ days = omega arith in
-    record {
-      few = omega arith;
-      long = long;
-      sound = subst (λ (k : ℕ). All (Sound k) files) (sym e) sound;
-      rest = ap (λ (k : ℕ). files_opened k (t + 0) files) n ∙ ap (λ (k : ℕ). files_opened days k files) e;
-    }
+pub turn-first : (days : ℕ) (l : List ℕ) → WellFormed l → today_in l + days ≤ 29219 → Turn days 0 l l
+unfolding open_days
+turn-first days l w h = record { few = omega arith; within = h; formed = w; leads = refl }
 
--- the files are sound on the day before the one that is opened next
-pub turn-sound : (t days past : ℕ) (before files : List File) → Turn t days past before files → All (Sound (t + past + 1 - 1)) files
-turn-sound t days past before files s =
-    let e : t + past ≡ t + past + 1 - 1 = omega arith in
-    subst (λ (k : ℕ). All (Sound k) files) e s.sound
+module _ (days past : ℕ) (l m : List ℕ) (s : Turn days past l m) where
+  -- there is a day after today
+  pub turn-within : past < days → today_in m + 1 ≤ 29219
+  unfolding book_of_words
+  turn-within h =
+      let today : today_in m ≡ today_in l + past = ap (λ (b : Book). b.today.0) s.leads ∙ open_days-today past (book_of_words l) in
+      omega (arith, s.within)
 
--- a day after which all files are opened
-pub turn-next : (t days past : ℕ) (before files after : List File) → Turn t days past before files → past < days
-    → t + days ≤ 29219 → after ≡ map (opened_if_admitted (t + past + 1)) files → Turn t days (past + 1) before after
-unfolding files_opened
-turn-next t days past before files after s h le opened =
-    let day : t + past + 1 ≡ suc (t + past) = add-one (t + past) in
-    let next : t + (past + 1) ≡ suc (t + past) = omega arith in
-    let left : days - past ≡ suc (days - (past + 1)) = omega arith in
-    let done : after ≡ map (opened_if_admitted (suc (t + past))) files
-    = opened ∙ ap (λ (d : ℕ). map (opened_if_admitted d) files) day in
-    record {
-      few = omega arith;
-      long = ap length done ∙ length-map files (opened_if_admitted (suc (t + past))) ∙ s.long;
-      sound = subst (λ (k : ℕ). All (Sound k) after) (sym next)
-          (subst (All (Sound (suc (t + past)))) (sym done)
-          (all_map (Sound (t + past)) (Sound (suc (t + past))) (opened_if_admitted (suc (t + past))) files
-          (λ f k. sound-opened (t + past) f (omega arith) k)
-          s.sound));
-      rest = ap (files_opened (days - (past + 1)) (t + (past + 1))) done
-          ∙ ap (λ (k : ℕ). files_opened (days - (past + 1)) k (map (opened_if_admitted (suc (t + past))) files)) next
-          ∙ ap (λ (k : ℕ). files_opened k (t + past) files) (sym left)
-          ∙ s.rest;
-    }
+  pub turn-formed : WellFormed m
+  turn-formed = s.formed
 
-pub turn_last : (t days past : ℕ) (before files : List File) → Turn t days past before files → days ≤ past
-    → files ≡ files_opened days t before
-unfolding files_opened
-turn_last t days past before files s h =
-    let n : days - past ≡ 0 = omega arith in
-    ap (λ (k : ℕ). files_opened k (t + past) files) (sym n) ∙ s.rest
+  -- one more is opened
+  pub turn-next : (n : List ℕ) → past < days → (book_of_words n ≡ open_day (book_of_words m)) × WellFormed n → Turn days (past + 1) l n
+  turn-next n h opened =
+      record {
+        few = omega arith;
+        within = s.within;
+        formed = opened.1;
+        leads =
+            opened.0
+            ∙ ap open_day s.leads
+            ∙ sym (open_days-last past (book_of_words l))
+            ∙ ap (λ (k : ℕ). open_days k (book_of_words l)) (sym (add-one past));
+      }
 
--- ---- the book
+  pub turn-all : days ≤ past → (book_of_words m ≡ open_days days (book_of_words l)) × WellFormed m
+  turn-all h = let e : past ≡ days = omega (arith, s.few) in (s.leads ∙ ap (λ (k : ℕ). open_days k (book_of_words l)) e, s.formed)
 
--- Days opened in the book are days opened over its files.
-pub days-opened : (n : ℕ) (b : Book)
-    → open_days n b ≡ record { files = files_opened n b.today.0 b.files; today = record { 0 = b.today.0 + n }; made = b.made }
-unfolding open_days open_day files_opened
-days-opened zero b = λ i. record { files = b.files; today = record { 0 = sym (add-zero b.today.0) i }; made = b.made }
-days-opened (suc n) b =
-    days-opened n (open_day b)
-    ∙ (λ i. record {
-      files = files_opened n (suc b.today.0) (map (opened_if_admitted (suc b.today.0)) b.files);
-      today = record { 0 = next b.today.0 n i };
-      made = b.made;
-    })
-  where
-    next : (t n : ℕ) → suc t + n ≡ t + suc n
-    next t n = omega arith
+pub ruleset turns = (turn-first, turn-within, turn-formed, turn-next, turn-all)
+
+-- ---- an advance
 
 -- A refused advance.
 late-answer : (b : Book) (day budget : ℕ) → (ltb 29219 day || ltb day b.today.0) ≡ true
@@ -158,12 +271,6 @@ unfolding answer
 late-answer b day budget e =
     sym (decide_true (record { number = 17; holds = ltb 29219 day || ltb day b.today.0 }) [] (days_opened (min budget (day - b.today.0))) e)
 
-pub refused-outside : (b : Book) (day budget : ℕ) (outside : Bool) → outside ≡ (ltb 29219 day || ltb day b.today.0)
-    → outside ≡ true → Given b (advance day budget) (refused 17) b
-refused-outside b day budget outside e h =
-    let x = late-answer b day budget (sym e ∙ h) in
-    given b (advance day budget) (refused 17) b x (refused-left b (advance day budget) 17 x)
-
 -- An accepted one.
 opened-answer : (b : Book) (day budget : ℕ) → (ltb 29219 day || ltb day b.today.0) ≡ false
     → days_opened (min budget (day - b.today.0)) ≡ answer new_rule b (advance day budget)
@@ -171,28 +278,43 @@ unfolding answer decide
 opened-answer b day budget e =
     sym (decide-false (record { number = 17; holds = ltb 29219 day || ltb day b.today.0 }) [] (days_opened (min budget (day - b.today.0))) e)
 
-pub gave-days : (b : Book) (day budget n : ℕ) (outside : Bool) (files : List File)
-    → outside ≡ (ltb 29219 day || ltb day b.today.0) → outside ≡ false
-    → n ≡ min budget (day - b.today.0) → files ≡ files_opened n b.today.0 b.files
-    → Given b (advance day budget) (days_opened n) (record { files = files; today = record { 0 = b.today.0 + n }; made = b.made })
+gave-days : (b : Book) (day budget n : ℕ) → (ltb 29219 day || ltb day b.today.0) ≡ false → n ≡ min budget (day - b.today.0)
+    → Given b (advance day budget) (days_opened n) (open_days n b)
 unfolding step applied
-gave-days b day budget n outside files test h number all =
-    let e = opened-answer b day budget (sym test ∙ h) in
-    given b (advance day budget) (days_opened n) (record { files = files; today = record { 0 = b.today.0 + n }; made = b.made })
+gave-days b day budget n h number =
+    let e = opened-answer b day budget h in
+    given b (advance day budget) (days_opened n) (open_days n b)
     (ap days_opened number ∙ e)
-    ((λ i. record { files = all i; today = record { 0 = b.today.0 + n }; made = b.made })
-    ∙ sym (days-opened n b)
-    ∙ ap (λ (m : ℕ). open_days m b) number
-    ∙ ap (λ (x : Answer). cond (accepted x) (open_days (min budget (day - b.today.0)) b) b) e)
+    (ap (λ (m : ℕ). open_days m b) number ∙ ap (λ (x : Answer). cond (accepted x) (open_days (min budget (day - b.today.0)) b) b) e)
 
--- What opening the days asks: the day isn't before today, and the days stay within the calendar.
-module _ (day t : ℕ) (outside : Bool) (test : outside ≡ (ltb 29219 day || ltb day t)) (h : outside ≡ false) where
-  pub not-before : t ≤ day
-  not-before = (not-outside day t (sym test ∙ h)).1
+module _ (l : List ℕ) (day budget t : ℕ) (outside : Bool) (w : WellFormed l) (now : t ≡ today_in l)
+    (test : outside ≡ (ltb 29219 day || ltb day t)) where
+  today-is : t ≡ (book_of_words l).today.0
+  unfolding book_of_words
+  today-is = now
 
-  pub days-within : (budget n : ℕ) → n ≡ min budget (day - t) → t + n ≤ 29219
-  days-within budget n e = subst (λ (k : ℕ). t + k ≤ 29219) (sym e) (days-fit day t budget (sym test ∙ h))
+  pub outside-given : outside ≡ true → GivenWords l (advance day budget) (refused 17) l
+  outside-given h =
+      let b = book_of_words l in
+      let x = late-answer b day budget (rw (← today-is) (sym test ∙ h)) in
+      nothing_written l (advance day budget) (refused 17) w
+      (given b (advance day budget) (refused 17) b x (refused-left b (advance day budget) 17 x))
 
-pub ruleset passes = (pass-first, pass-sound, pass-next, pass-all)
+  module _ (h : outside ≡ false) where
+    pub not-before : t ≤ day
+    not-before = (not-outside day t (sym test ∙ h)).1
 
-pub ruleset turns = (turn-first, turn-sound, turn-next, turn_last)
+    pub days-within : (n : ℕ) → n ≡ min budget (day - t) → today_in l + n ≤ 29219
+    days-within n e = rw (← now) (subst (λ (k : ℕ). t + k ≤ 29219) (sym e) (days-fit day t budget (sym test ∙ h)))
+
+    pub days-given : (m : List ℕ) (n : ℕ) → n ≡ min budget (day - t) → (book_of_words m ≡ open_days n (book_of_words l)) × WellFormed m
+        → GivenWords l (advance day budget) (days_opened n) m
+    days-given m n number opened =
+        let b = book_of_words l in
+        in_words l m (advance day budget) (days_opened n) w
+        (subst (Given b (advance day budget) (days_opened n)) (sym opened.0)
+        (gave-days b day budget n (rw (← today-is) (sym test ∙ h)) (number ∙ ap (λ (k : ℕ). min budget (day - k)) today-is)))
+        (opened.1.long ∙ sym w.long)
+        opened.1.canonical
+
+pub ruleset advances = (outside-given, not-before, days-within, days-given)

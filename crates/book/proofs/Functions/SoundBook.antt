@@ -200,7 +200,7 @@ unfolding opened_if_admitted opened_file
 blank-opened d f blank =
     by-test f.admitted (opened_file f d) f BlankUnlessAdmitted (λ e n. clash e n) (λ e. blank)
 
-day-sound : (b : Book) → suc b.today.0 ≤ 29219 → SoundBook b → SoundBook (open_day b)
+pub day-sound : (b : Book) → suc b.today.0 ≤ 29219 → SoundBook b → SoundBook (open_day b)
 unfolding open_day
 day-sound b h s =
     record {

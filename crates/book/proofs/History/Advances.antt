@@ -40,7 +40,7 @@ open_days-sum (suc m) n b =
     open_days-sum m n (open_day b) ∙ ap (λ (k : ℕ). open_days k b) e
 
 -- The day that opening n days leads to.
-open_days-today : (n : ℕ) (b : Book) → (open_days n b).today.0 ≡ b.today.0 + n
+pub open_days-today : (n : ℕ) (b : Book) → (open_days n b).today.0 ≡ b.today.0 + n
 unfolding open_days open_day
 open_days-today zero b = omega arith
 open_days-today (suc n) b = let e = open_days-today n (open_day b) in omega arith
