@@ -5,6 +5,7 @@ pub mod Settlements
 pub mod Guarantees
 pub mod Decisions
 pub mod Deposits
+pub mod Openings
 pub mod Files
 pub mod Batches
 pub mod Deletions

@@ -6,6 +6,7 @@ pub mod Settlements
 pub mod Guarantees
 pub mod Decisions
 pub mod Deposits
+pub mod Openings
 pub mod Written
 pub mod Files
 pub mod Batches
