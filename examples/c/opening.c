@@ -17,7 +17,7 @@ static uint32_t last_day(uint64_t p, uint64_t k) { return k < 4 ? 29219 : (uint3
 /* The roles in turn, with a supplier's for the retired one. */
 static uint64_t role(uint64_t p) { return p % 6 == GUARANTEE_SELF_SUPPLIED ? GUARANTEE_SUPPLIER : p % 6; }
 
-/* Whether a call was refused. */
+/* Makes the book; whether a call was refused. */
 static int begin(void)
 {
     uint64_t refusal = guarantee_fresh(book, GUARANTEE_WORDS, 0);
@@ -47,6 +47,8 @@ int main(void)
         return 1;
     for (uint64_t p = 0; p < 64; p++) {
         GuaranteeStatement s = guarantee_statement(book, GUARANTEE_WORDS, p);
+        if (s.refusal != GUARANTEE_ACCEPTED)
+            return 1;
         printf("%" PRIu64 " %" PRIu64 " %" PRIu64 " %" PRIu64 " %" PRIu64 " %" PRIu64 "\n", p, s.firm, s.cover, s.shortfall, s.days_charged, s.accrued_mills);
     }
     fprintf(stderr, "%.0f\n", took);

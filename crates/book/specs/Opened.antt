@@ -4,7 +4,7 @@ use Rattle.std.specs.Prelude.{ℕ, suc, ◌≤◌, ◌≡◌, List, length}
 use Rattle.file.specs.Sound.{Sound}
 use Rattle.layout.specs.Words.{book_length, file_in_words, today_in, book_of_words, book_words}
 
--- The day after today may be opened for participant p: its file is as of today, whatever files the day was opened for already.
+-- The day after today may be opened for participant p: its file is as of today, whichever other files the day was opened for before.
 pub record Openable (l : List ℕ) (p : ℕ) : Type 0 where
   pub long : length l ≡ book_length
   pub canonical : l ≡ book_words (book_of_words l)

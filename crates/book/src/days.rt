@@ -56,7 +56,7 @@ impl FileView<'_> {
             || (self.next_is_set() && is_first_october(day))
     }
 
-    // The charges after a day, by the firm amount and the positions as they are.
+    // The charges after a day whose opening changes nothing else: by the firm amount and the positions as they are.
     fn charges_after(self, day: Day) -> Charges
         requires { (day.0 ≡ suc (today_seen self)) × (day.0 ≤ 29219) }
         ensures { result ≡ charges_after (file_seen self.entry) day.0 }
@@ -69,8 +69,8 @@ impl FileView<'_> {
     }
 }
 
-// Opens the day after today for a participant, where it is admitted: its file is taken out of the words and put back, or, where the day changes
-// nothing else of it, its charges are.
+// Opens the day after today for a participant, where it is admitted: its file is taken out of the words and put back; where the day changes only its
+// charges, they alone are.
 #[tactic(auto, using(crate::proofs::Functions::DaysOpened::files))]
 fn open_file(words: &mut [u64], participant: u64, day: Day)
     requires { Openable words.old participant × (day.0 ≡ suc (today_in words.old)) }

@@ -1,4 +1,4 @@
--- Openings that change no more of a file than its charges: each fact is computed from the definitions.
+-- Which openings change more of a file than its charges, and the charges after the others: each fact is computed from the definitions.
 -- Assumes nothing.
 use mathlib.Core.Path.{refl}
 use Rattle.calendar.specs.Civil.{leap, length_in, length_of, first_day, holding, month_of, day_of_month, is_first_october}
@@ -31,8 +31,10 @@ openings =
       unset-on-1-october = refl;
       covered = refl;
       one-cent = refl;
+      at-least = refl;
       above-least = refl;
       day-before-first = refl;
       first-day = refl;
       last-day = refl;
+      day-after-last = refl;
     }

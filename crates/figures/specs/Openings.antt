@@ -1,4 +1,4 @@
--- Openings that change no more of a file than its charges, at their bounds (paper 01, 'Advance'; paper 02, Ask 5).
+-- Which openings change more of a file than its charges, and the charges after the others, at their bounds (paper 01, 'Advance'; paper 02, Ask 5).
 -- Assumes nothing.
 use Rattle.std.specs.Prelude.{ℕ, ◌≡◌, true, false, List, [], ◌∷◌, map, length}
 use Rattle.file.specs.declared.Position.{Position}
@@ -60,11 +60,13 @@ pub record Openings : Type 0 where
   pub next-on-2-october : changes_on 640 (with_next_amount (set_to 5)) ≡ false
   pub next-in-leap-year : changes_on 274 (with_next_amount (set_to 5)) ≡ true
   pub unset-on-1-october : changes_on 639 (with_next_amount unset) ≡ false
-  -- "then the day is charged": no shortfall, of one cent, and of 100,000,001 cents
+  -- "then the day is charged": no shortfall, of one cent, and of 100,000,000 and 100,000,001 cents
   pub covered : charges_after (with_positions (Cash 60 ∷ letter_with 40 10 20 ∷ [])) 15 ≡ record { charged = 2; accrued = 250000000 }
   pub one-cent : charges_after (with_positions (Cash 60 ∷ letter_with 39 10 20 ∷ [])) 15 ≡ record { charged = 3; accrued = 350000000 }
+  pub at-least : charges_after (with_parts 100000000 [] [] unset) 15 ≡ record { charged = 3; accrued = 350000000 }
   pub above-least : charges_after (with_parts 100000001 [] [] unset) 15 ≡ record { charged = 3; accrued = 350000001 }
   -- .. by the cover on that day: a letter counts from its first day through its last
   pub day-before-first : charges_after (with_positions (letter_with 100 10 20 ∷ [])) 9 ≡ record { charged = 3; accrued = 350000000 }
   pub first-day : charges_after (with_positions (letter_with 100 10 20 ∷ [])) 10 ≡ record { charged = 2; accrued = 250000000 }
   pub last-day : charges_after (with_positions (letter_with 100 10 20 ∷ [])) 20 ≡ record { charged = 2; accrued = 250000000 }
+  pub day-after-last : charges_after (with_positions (letter_with 100 10 20 ∷ [])) 21 ≡ record { charged = 3; accrued = 350000000 }

@@ -23,6 +23,6 @@ charged_for c shortfall = record { charged = c.charged + cond (eqb shortfall 0) 
 unfoldable pub changes_on : ℕ → File → Bool
 changes_on d f = list_any (λ (s : Slot). lapsed_by d s.position) f.slots || (list_any (ends_at d) (open_calls f) || takes_effect f d)
 
--- The charges after day d, by the firm amount and the positions as they are.
+-- The charges after day d where its opening changes nothing else: by the firm amount and the positions as they are.
 unfoldable pub charges_after : File → ℕ → Charges
 charges_after f d = charged_for (charges_of f) (shortfall_of f d)

@@ -98,7 +98,7 @@ module _ (f : File) (t d : ℕ) (s : Sound t f) where
   next-bound = split (takes_effect f d) (λ e. rw e (omega arith)) (λ e. rw e s.next)
 
   -- the shortfall and the charge
-  pub charge-bound : day_charge (shortfall_opened f d) ≤ total_bound
+  charge-bound : day_charge (shortfall_opened f d) ≤ total_bound
   unfolding shortfall_opened
   charge-bound = day_charge-bound (firm_opened f d - cover_on d (slots_opened f d)) total_bound (omega (arith, firm-bound)) (omega arith)
 

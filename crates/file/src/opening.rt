@@ -43,7 +43,7 @@ impl OpenCall {
 }
 
 impl Charges {
-    // The charges after a day with a shortfall was charged.
+    // The charges after a day was charged for a shortfall, which may be 0.
     #[tactic(auto, using(crate::proofs::AtOpening::charges))]
     pub fn after(self, shortfall: u64) -> Charges
         requires { (self.charged < 18446744073709551615) × (self.accrued + day_charge shortfall < 18446744073709551616) }

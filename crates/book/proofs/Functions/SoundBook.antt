@@ -62,7 +62,7 @@ sound-later t f h s =
     }
 
 -- A file at the opening of the next day.
-pub sound-opened : (t : ℕ) (f : File) → suc t ≤ 29219 → Sound t f → Sound (suc t) (opened_if_admitted (suc t) f)
+sound-opened : (t : ℕ) (f : File) → suc t ≤ 29219 → Sound t f → Sound (suc t) (opened_if_admitted (suc t) f)
 unfolding opened_if_admitted
 sound-opened t f h s =
     by-test f.admitted (opened_file f (suc t)) f (Sound (suc t)) (λ e. opened-sound f t s h) (λ e. sound-later t f h s)
