@@ -1,4 +1,5 @@
--- Words of a book in which a day is being opened, file by file.
+-- Words of a book in which a day is being opened, file by file. Paper 02, Ask 5: "one pass: for each opened day an admitted file is taken out of the
+-- book once and put back once".
 -- Assumes nothing.
 use Rattle.std.specs.Prelude.{ℕ, suc, ◌≤◌, ◌≡◌, List, length}
 use Rattle.file.specs.Sound.{Sound}

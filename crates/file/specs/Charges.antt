@@ -15,11 +15,12 @@ use Rattle.file.specs.Opening.{takes_effect}
 abbrev pub charges_of : File → Charges
 charges_of f = record { charged = f.charged; accrued = f.accrued }
 
--- The charges after a day with a shortfall: one day more if it is above 0, and the day's charge.
+-- "then the day is charged": the charges after a day with a shortfall, one day more if it is above 0, and the day's charge.
 abbrev pub charged_for : Charges → ℕ → Charges
 charged_for c shortfall = record { charged = c.charged + cond (eqb shortfall 0) 0 1; accrued = c.accrued + day_charge shortfall }
 
--- Whether opening day d changes more of the file than its charges: a letter is emptied, an open call is removed, or the next amount takes effect.
+-- Whether opening day d changes more of the file than its charges: "letters with last day before d are emptied", "each open call with last free day
+-- d − 1 is removed", or "d is 1 October and the next amount is set".
 unfoldable pub changes_on : ℕ → File → Bool
 changes_on d f = list_any (λ (s : Slot). lapsed_by d s.position) f.slots || (list_any (ends_at d) (open_calls f) || takes_effect f d)
 
