@@ -1,9 +1,9 @@
 /* The guarantee book of a transmission operator: its calls, its questions and the special guarantee, for C99 and C++.
  *
- * A book is GUARANTEE_WORDS words of 64 bits that the caller owns: 64 participants' files, today, and the count of calls made. Each function
- * takes the words' address and how many they are. guarantee_fresh writes a book into words of any content. Every other function asks that
- * words which are as many as a book's are a book: guarantee_fresh and the calls wrote them and nothing else did, or guarantee_check said so
- * of words that were loaded. docs/EMBEDDING.md says how the library is linked, how words are saved and loaded, and what is proved.
+ * A book is GUARANTEE_WORDS words of 64 bits that the caller owns: 64 participants' files, and today. Each function takes the words' address
+ * and how many they are. guarantee_fresh writes a book into words of any content. Every other function asks that words which are as many as a
+ * book's are a book: guarantee_fresh and the calls wrote them and nothing else did, or guarantee_check said so of words that were loaded.
+ * docs/EMBEDDING.md says how the library is linked, how words are saved and loaded, and what is proved.
  *
  * Units: amounts are cents; charges are mills, of which 1,000 make one cent; day 0 is 1 January 2020 and the last is 29,219 (31 December
  * 2099); month 0 is January 2020 and the last is 959. Participants are 0 to 63, a participant's positions 0 to 7, roles 0 to 5.
@@ -27,7 +27,7 @@ extern "C" {
 #endif
 
 /* How many words a book has. */
-#define GUARANTEE_WORDS 6147
+#define GUARANTEE_WORDS 6210
 
 /* Why a call is refused. Where more than one cause holds, the first in the call's own order is answered; each function names its order. */
 enum {
@@ -57,7 +57,9 @@ enum {
     GUARANTEE_ROLE_RETIRED = 23,      /* the role, 1, is no longer registered */
     GUARANTEE_NO_DELETION = 24,       /* a deletion is made in August and September only, of each participant once */
     GUARANTEE_UNDER_DELETION = 25,    /* an annual run of a participant that is under deletion */
-    GUARANTEE_NOT_A_BOOK = 100        /* the words aren't GUARANTEE_WORDS many: none was read or written */
+    GUARANTEE_NOT_A_BOOK = 100,       /* the words aren't GUARANTEE_WORDS many: none was read or written; guarantee_check: they are no book */
+    GUARANTEE_EARLIER_LAYOUT = 101    /* the words are a book that an earlier version saved, of another layout: guarantee_check alone answers
+                                       * it; none but the first was read */
 };
 
 /* Roles of a participant, and the minimum guarantee of each. */
@@ -121,9 +123,10 @@ typedef struct GuaranteeStatement {
     uint64_t shortfall;               /* the firm amount less the cover, never below 0 */
     uint64_t days_charged;
     uint64_t accrued_mills;
+    uint64_t calls_made;              /* how many calls for more were made to it, its admission's and its deletion's included, open or not */
 } GuaranteeStatement;
 
-/* The count of calls made. */
+/* The sum of the participants' counts of calls made. */
 typedef struct GuaranteeCount {
     uint64_t refusal;
     uint64_t count;
@@ -218,16 +221,17 @@ GuaranteeAdvanced guarantee_advance(uint64_t *words, size_t length, uint32_t day
 /* Today: the last day that was opened, or the day of the fresh book. */
 GuaranteeDay guarantee_today(const uint64_t *words, size_t length);
 
-/* Whether words are a book: GUARANTEE_ACCEPTED if they are, GUARANTEE_NOT_A_BOOK if not. It may be asked of words of any number and content;
- * after words were loaded from a file it is asked before anything else. */
+/* Whether words are a book: GUARANTEE_ACCEPTED if they are, GUARANTEE_EARLIER_LAYOUT if they have the number and the first word of a book of the
+ * layout before, 6,147 words that begin with 1, and GUARANTEE_NOT_A_BOOK for all others. It may be asked of words of any number and content; after
+ * words were loaded from a file it is asked before anything else, with as many words as the file has. */
 uint64_t guarantee_check(const uint64_t *words, size_t length);
 
 /* ---- the accountant */
 
-/* A participant's statement today. The order of refusals is 1, 2. */
+/* A participant's statement today, with the count of its own calls. The order of refusals is 1, 2. */
 GuaranteeStatement guarantee_statement(const uint64_t *words, size_t length, uint64_t participant);
 
-/* How many calls for more were made, of all participants, admissions' and deletions' included. It is never refused for a book. */
+/* How many calls for more were made, of all participants: the sum of the counts in their statements. It is never refused for a book. */
 GuaranteeCount guarantee_calls_made(const uint64_t *words, size_t length);
 
 #ifdef __cplusplus

@@ -1,4 +1,4 @@
-"""Paper 01's 'Figures to reproduce' that concern the book, and paper 02's batch, D, role retired and deletion, by the reference:
+"""Paper 01's 'Figures to reproduce' that concern the book, and paper 02's batch, D, role retired, deletion and counts of calls, by the reference:
 python3 reference/check.py
 
 Each figure is reached by a history from a fresh book, so that cover, firm amount and charges are the reading's own. The batches are bytes worked
@@ -22,19 +22,19 @@ def same(what, got, expected):
 
 
 def called(e, asked, last):
-    return (2, e, asked, last, 0, 0)
+    return (2, e, asked, last, 0, 0, 0)
 
 
 def covered(e):
-    return (3, e, 0, 0, 0, 0)
+    return (3, e, 0, 0, 0, 0, 0)
 
 
 def recorded(e):
-    return (4, e, 0, 0, 0, 0)
+    return (4, e, 0, 0, 0, 0, 0)
 
 
-def statement(firm, cover, days, mills):
-    return (7, firm, cover, max(firm - cover, 0), days, mills)
+def statement(firm, cover, days, mills, made):
+    return (7, firm, cover, max(firm - cover, 0), days, mills, made)
 
 
 def settle(h, p, e, back=2):
@@ -43,7 +43,7 @@ def settle(h, p, e, back=2):
 
 
 def go(h, days):
-    same('days opened', h.advance(h.today + days, days), (6, days, 0, 0, 0, 0))
+    same('days opened', h.advance(h.today + days, days), (6, days, 0, 0, 0, 0, 0))
 
 
 def firm_and_cover(d):
@@ -54,7 +54,7 @@ def firm_and_cover(d):
         same(f'called to {d}', settle(h, 0, d), called(d, d, h.today + 10))
         h.lodge(0, 0, 'cash', d)
     go(h, 11)
-    same(f'firm amount and cover {d}', h.statement(0), statement(d, d, 0, 0))
+    same(f'firm amount and cover {d}', h.statement(0), statement(d, d, 0, 0, int(d > 0)))
     same(f'no call open at {d}', h.people[0].open_calls(h.today), [])
     return h
 
@@ -65,7 +65,7 @@ def short_of(s):
     h.admit(0, 4)
     settle(h, 0, s)
     go(h, 10)
-    same(f'called to {s}, last free day', h.statement(0), statement(0, 0, 0, 0))
+    same(f'called to {s}, last free day', h.statement(0), statement(0, 0, 0, 0, int(s > 0)))
     return h
 
 
@@ -86,28 +86,28 @@ def examples():
     same('admission', h.admit(0, 0), History.DONE)
     for back, euros in zip(range(14, 2, -1), table):
         same('example 1, a month', settle(h, 0, 100 * euros, back), recorded(100 * euros))
-    same('example 1', h.annual(0), (5, 77372900, 12, 0, 0, 0))
+    same('example 1', h.annual(0), (5, 77372900, 12, 0, 0, 0, 0))
     h.lodge(0, 0, 'cash', 77372900)
     same('July is settled in September', settle(h, 0, 75446400), recorded(75446400))
     go(h, 29)
-    same('30 September 2021', h.statement(0), statement(2000000, 77372900, 0, 0))
+    same('30 September 2021', h.statement(0), statement(2000000, 77372900, 0, 0, 1))
     go(h, 1)
-    same('1 October 2021', h.statement(0), statement(77372900, 77372900, 0, 0))
+    same('1 October 2021', h.statement(0), statement(77372900, 77372900, 0, 0, 1))
     same('no call open', h.people[0].open_calls(h.today), [])
     same('example 2, the first month', settle(h, 0, 75446400), covered(75446400))
     same('example 2, the second month', settle(h, 0, 93679500), called(93679500, 16306600, 649))
     go(h, 10)
-    same('example 3, last free day', h.statement(0), statement(77372900, 77372900, 0, 0))
+    same('example 3, last free day', h.statement(0), statement(77372900, 77372900, 0, 0, 2))
     go(h, 2)
-    same('example 3, two days', h.statement(0), statement(93679500, 77372900, 2, 200000000))
+    same('example 3, two days', h.statement(0), statement(93679500, 77372900, 2, 200000000, 2))
     h.lodge(0, 1, 'cash', 10000000)
     same('example 3, shortfall left', h.statement(0)[3], 6306600)
     go(h, 3)
-    same('example 3, five days', h.statement(0), statement(93679500, 87372900, 5, 500000000))
+    same('example 3, five days', h.statement(0), statement(93679500, 87372900, 5, 500000000, 2))
     h.lodge(0, 2, 'cash', 6306600)
     go(h, 1)
-    same('no charge after payment', h.statement(0), statement(93679500, 93679500, 5, 500000000))
-    same('calls made', h.calls_made(), (8, 2, 0, 0, 0, 0))
+    same('no charge after payment', h.statement(0), statement(93679500, 93679500, 5, 500000000, 2))
+    same('calls made', h.calls_made(), (8, 2, 0, 0, 0, 0, 0))
 
 
 def checks():
@@ -120,7 +120,7 @@ def checks():
     h = firm_and_cover(0)
     same('D = 0, E = 0', settle(h, 0, 0), covered(0))
     same('D = 0, E = -5', settle(h, 0, -5), covered(-5))
-    same('D = 0, no call was made', h.calls_made(), (8, 0, 0, 0, 0, 0))
+    same('D = 0, no call was made', h.calls_made(), (8, 0, 0, 0, 0, 0, 0))
 
 
 def charges():
@@ -128,16 +128,16 @@ def charges():
         same(f'day charge of {s}', day_charge(s), mills)
         h = short_of(s)
         go(h, 1)
-        same(f'one day short of {s}', h.statement(0), statement(s, 0, 1 if s > 0 else 0, mills))
+        same(f'one day short of {s}', h.statement(0), statement(s, 0, 1 if s > 0 else 0, mills, int(s > 0)))
     h = short_of(150000000)
     go(h, 1)
-    same('S = 150,000,000', h.statement(0), statement(150000000, 0, 1, 150000000))
+    same('S = 150,000,000', h.statement(0), statement(150000000, 0, 1, 150000000, 1))
     h.lodge(0, 0, 'cash', 100000000)
     go(h, 1)
-    same('then 50,000,000', h.statement(0), statement(150000000, 100000000, 2, 250000000))
+    same('then 50,000,000', h.statement(0), statement(150000000, 100000000, 2, 250000000, 1))
     h.lodge(0, 1, 'cash', 50000000)
     go(h, 1)
-    same('no charge after payment', h.statement(0), statement(150000000, 150000000, 2, 250000000))
+    same('no charge after payment', h.statement(0), statement(150000000, 150000000, 2, 250000000, 1))
 
 
 def two_calls():
@@ -148,9 +148,9 @@ def two_calls():
     go(h, 5)
     same('a second call', settle(h, 0, 200), called(200, 200, h.today + 10))
     go(h, 6)
-    same('the first call is due', h.statement(0), statement(100, 0, 1, 100000000))
+    same('the first call is due', h.statement(0), statement(100, 0, 1, 100000000, 2))
     go(h, 5)
-    same('the second call is due', h.statement(0), statement(200, 0, 6, 600000000))
+    same('the second call is due', h.statement(0), statement(200, 0, 6, 600000000, 2))
 
 
 # ---- batches (paper 02, ask 1): the bytes of files, in hexadecimal digits
@@ -177,7 +177,7 @@ def batch(what, text, due, h=None):
     """Compares the answer to a batch, `n` or `number, index`. A refused one leaves every reading as it was."""
     h = h or batch_book()
     before = [(who.acts[:], h.statement(p)) for p, who in sorted(h.people.items())], h.calls_made()
-    answer = (9, due, 0, 0, 0, 0) if isinstance(due, int) else (10, *due, 0, 0, 0)
+    answer = (9, due, 0, 0, 0, 0, 0) if isinstance(due, int) else (10, *due, 0, 0, 0, 0)
     same(f'batch, {what}', h.batch(bytes.fromhex(text)), answer)
     if answer[0] == 10:
         after = [(who.acts[:], h.statement(p)) for p, who in sorted(h.people.items())], h.calls_made()
@@ -297,17 +297,17 @@ def batch_settlements():
     h = batch('called, called and a credit', THREE + '0105' + FIVE + '0005' + SEVEN + '0205 f9ffffffffffffff' + ZERO * 4, 3)
     same('batch, the totals', [h.people[p].total(13) for p in (0, 1, 2)], [7, 5, -7])
     same('batch, its calls', [h.people[p].calls() for p in (0, 1, 2)], [[(7, 466)], [(5, 466)], [(1000000, 466)]])
-    same('batch, calls made', h.calls_made(), (8, 3, 0, 0, 0, 0))
+    same('batch, calls made', h.calls_made(), (8, 3, 0, 0, 0, 0, 0))
     batch('the same month again', ONE + '0105 0400000000000000' + ZERO * 4, 1, h)
-    same('batch, a total replaced', (h.people[1].total(13), h.calls_made()), (4, (8, 3, 0, 0, 0, 0)))
+    same('batch, a total replaced', (h.people[1].total(13), h.calls_made()), (4, (8, 3, 0, 0, 0, 0, 0)))
     go(h, 11)
-    same('batch, its call is due', h.statement(0), statement(7, 0, 1, 100000000))
+    same('batch, its call is due', h.statement(0), statement(7, 0, 1, 100000000, 1))
     h = batch_book()
     for e in (1, 2, 3, 4):
         same('batch, an open call', settle(h, 1, e), called(e, e, 466))
     batch('13 of pair 1', TWO + '0005' + SEVEN + '0105' + FIVE, (13, 1), h)
     batch('none of it is checked', '0c00' + TWO[4:] + '0005' + SEVEN + '0105' + FIVE, 2, h)
-    same('batch, calls made after 13', h.calls_made(), (8, 5, 0, 0, 0, 0))
+    same('batch, calls made after 13', h.calls_made(), (8, 5, 0, 0, 0, 0, 0))
 
 
 # ---- role retired (paper 02, ask 3)
@@ -323,7 +323,7 @@ def admissions():
             before = sorted(h.people)
             same(f'admit {p} {role}, first stretch {first_stretch}', h.admit(p, role), expected)
             same(f'admit {p} {role}, who is admitted', sorted(h.people), sorted(before + [p]) if expected == History.DONE else before)
-        same(f'calls of admissions, first stretch {first_stretch}', h.calls_made(), (8, 4 if first_stretch else 2, 0, 0, 0, 0))
+        same(f'calls of admissions, first stretch {first_stretch}', h.calls_made(), (8, 4 if first_stretch else 2, 0, 0, 0, 0, 0))
     for day in (0, LAST_DAY, LAST_DAY + 1):
         same(f'fresh on {day}, the rule', [fresh(day)[1].first_stretch, fresh(day, True)[1].first_stretch], [False, True])
 
@@ -335,24 +335,24 @@ def first_stretch():
     h.end_stretch()
     same('role 1, the first call behind it, on the same day', h.admit(1, 1), History.refused(23))
     same('role 0 behind it', h.admit(1, 0), History.DONE)
-    same('two minimums are called', h.calls_made(), (8, 2, 0, 0, 0, 0))
-    same('the annual run, raised to the minimum', h.annual(0), (5, 2000000, 0, 0, 0, 0))
+    same('two minimums are called', h.calls_made(), (8, 2, 0, 0, 0, 0, 0))
+    same('the annual run, raised to the minimum', h.annual(0), (5, 2000000, 0, 0, 0, 0, 0))
     same('a total below the minimum', settle(h, 0, 1999999, 3), recorded(1999999))
-    same('the annual run of one month', h.annual(0), (5, 2000000, 1, 0, 0, 0))
+    same('the annual run of one month', h.annual(0), (5, 2000000, 1, 0, 0, 0, 0))
     go(h, 10)
-    same('the last free day of its minimum', h.statement(0), statement(0, 0, 0, 0))
+    same('the last free day of its minimum', h.statement(0), statement(0, 0, 0, 0, 1))
     go(h, 1)
-    same('its minimum is firm', h.statement(0), statement(2000000, 0, 1, 100000000))
+    same('its minimum is firm', h.statement(0), statement(2000000, 0, 1, 100000000, 1))
     same('cash for half of it', h.lodge(0, 0, 'cash', 1000000), History.DONE)
     go(h, 19)
-    same('1 October, the next amount', h.statement(0), statement(2000000, 1000000, 20, 2000000000))
+    same('1 October, the next amount', h.statement(0), statement(2000000, 1000000, 20, 2000000000, 1))
     same('a settlement calls', settle(h, 0, 2000001), called(2000001, 1000001, 649))
     same('none of the cash is released', h.release(0, 0, 1), History.refused(16))
     go(h, 11)
-    same('the call is firm', h.statement(0), statement(2000001, 1000000, 31, 3100000000))
+    same('the call is firm', h.statement(0), statement(2000001, 1000000, 31, 3100000000, 2))
     same('role 1 again', h.admit(0, 1), History.refused(3))
     same('and of another', h.admit(2, 1), History.refused(23))
-    same('calls made', h.calls_made(), (8, 3, 0, 0, 0, 0))
+    same('calls made', h.calls_made(), (8, 3, 0, 0, 0, 0, 0))
     same('the role', h.people[0].role, 1)
 
 
@@ -362,7 +362,7 @@ def first_stretch():
 # September month 20 and October month 21.
 
 def deletion(amount, called):
-    return (11, amount, called, 0, 0, 0)
+    return (11, amount, called, 0, 0, 0, 0)
 
 
 def record(h, p, totals):
@@ -434,7 +434,7 @@ def deletion_compared():
         go(h, 578 - day)
         record(h, 0, [(3, total)])
         same(f'deletion, {what}', h.delete(0), expected)
-        same(f'deletion, {what}, calls made', h.calls_made(), (8, 1 + expected[2], 0, 0, 0, 0))
+        same(f'deletion, {what}, calls made', h.calls_made(), (8, 1 + expected[2], 0, 0, 0, 0, 0))
         same(f'deletion, {what}, open calls', h.people[0].open_calls(578), [1000000] * (day == 578) + [total] * expected[2])
 
 
@@ -455,17 +455,17 @@ def deletion_causes():
     for p, number in ((64, 1), (1, 2), (0, 25)):
         same(f'1 September, annual {p}', h.annual(p), History.refused(number))
     h.admit(1, 3)
-    same('the annual run of another', h.annual(1), (5, 0, 0, 0, 0, 0))
+    same('the annual run of another', h.annual(1), (5, 0, 0, 0, 0, 0, 0))
     go(h, 10)
     same('11 September, annual 0', h.annual(0), History.refused(14))
     go(h, 20)
-    same('1 October, no next amount', h.statement(0), statement(70, 0, 639 - 588, (639 - 588) * 100000000))
+    same('1 October, no next amount', h.statement(0), statement(70, 0, 639 - 588, (639 - 588) * 100000000, 1))
     same('1 October, delete 0', h.delete(0), History.refused(24))
     same('1 October, delete 1', h.delete(1), History.refused(24))
     go(h, 335)
     same('1 September 2022, annual 0', h.annual(0), History.refused(25))
     same('1 September 2022, delete 0', h.delete(0), History.refused(24))
-    same('calls made', h.calls_made(), (8, 1, 0, 0, 0, 0))
+    same('calls made', h.calls_made(), (8, 1, 0, 0, 0, 0, 0))
 
 
 def deletion_fifth():
@@ -487,15 +487,15 @@ def deletion_fifth():
     same('a fifth', h.delete(0), History.refused(13))
     go(h, 1)
     same('a fifth on 1 September', h.delete(0), History.refused(13))
-    same('its annual run', h.annual(0), (5, 41, 2, 0, 0, 0))
+    same('its annual run', h.annual(0), (5, 41, 2, 0, 0, 0, 0))
     go(h, 9)
     same('10 September, still a fifth', h.delete(0), History.refused(13))
-    same('its annual run again', h.annual(0), (5, 41, 2, 0, 0, 0))
+    same('its annual run again', h.annual(0), (5, 41, 2, 0, 0, 0, 0))
     go(h, 1)
-    same('11 September, they are firm', h.statement(0), statement(40, 0, 1, 100000000))
+    same('11 September, they are firm', h.statement(0), statement(40, 0, 1, 100000000, 4))
     same('then it is accepted', h.delete(0), deletion(41, 1))
     same('once', h.delete(0), History.refused(24))
-    same('calls made', h.calls_made(), (8, 5, 0, 0, 0, 0))
+    same('calls made', h.calls_made(), (8, 5, 0, 0, 0, 0, 0))
     # In the status 24 comes before 13, and outside August and September too.
     h = full(40)
     same('four open', h.delete(0), deletion(40, 0))
@@ -515,7 +515,7 @@ def deletion_october():
     for day, table in ((628, {638: 0, 639: 2, 640: 2, 649: 2, 650: 2}), (629, {638: 0, 639: 2, 640: 3, 649: 3, 650: 3}),
                        (638, {638: 0, 639: 2, 640: 2, 648: 2, 649: 3, 650: 3})):
         h = producer(609, [(3, 2 * m)])
-        same('the annual run', h.annual(0), (5, 2 * m, 1, 0, 0, 0))
+        same('the annual run', h.annual(0), (5, 2 * m, 1, 0, 0, 0, 0))
         record(h, 0, [(2, 3 * m)])
         go(h, day - 609)
         same(f'deletion on {day}', h.delete(0), deletion(3 * m, 1))
@@ -523,38 +523,38 @@ def deletion_october():
             go(h, at - h.today)
             same(f'deletion on {day}, the firm amount of {at}', h.people[0].firm(at), firm * m)
         mills = {628: 12 * 2 * m, 629: 1 * 2 * m + 11 * 3 * m, 638: 10 * 2 * m + 2 * 3 * m}[day]
-        same(f'deletion on {day}, charged', h.statement(0), statement(table[650] * m, 0, 12, mills))
+        same(f'deletion on {day}, charged', h.statement(0), statement(table[650] * m, 0, 12, mills, 1))
     # The next amount is higher: the call of 21 September raises nothing when it ends.
     h = producer(609, [(3, 1 * m), (4, 1 * m), (5, 1 * m), (6, 2 * m)])
-    same('the annual run', h.annual(0), (5, 2 * m, 4, 0, 0, 0))
+    same('the annual run', h.annual(0), (5, 2 * m, 4, 0, 0, 0, 0))
     go(h, 20)
     same('the deletion, below the next amount', h.delete(0), deletion(1 * m, 1))
     go(h, 10)
-    same('1 October, the next amount', h.statement(0), statement(2 * m, 0, 1, 2 * m))
+    same('1 October, the next amount', h.statement(0), statement(2 * m, 0, 1, 2 * m, 1))
     same('its call is open below it', h.people[0].open_calls(639), [1 * m])
     same('a total between the two', settle(h, 0, 2 * m), covered(2 * m))
     same('a total above both', settle(h, 0, 2 * m + 1), called(2 * m + 1, 2 * m + 1, 649))
     go(h, 1)
-    same('2 October, it has ended', h.statement(0), statement(2 * m, 0, 2, 4 * m))
+    same('2 October, it has ended', h.statement(0), statement(2 * m, 0, 2, 4 * m, 2))
     # The next amount is lower: the open call keeps a total from calling.
     h = producer(609, [(3, 100)])
-    same('the annual run', h.annual(0), (5, 100, 1, 0, 0, 0))
+    same('the annual run', h.annual(0), (5, 100, 1, 0, 0, 0, 0))
     record(h, 0, [(2, 300)])
     go(h, 29)
     same('30 September', h.delete(0), deletion(300, 1))
     h.lodge(0, 0, 'cash', 200)
     go(h, 1)
-    same('1 October', h.statement(0), statement(100, 200, 0, 0))
+    same('1 October', h.statement(0), statement(100, 200, 0, 0, 1))
     same('none of the cash is released', h.release(0, 0, 1), History.refused(16))
     same('a total above the firm amount alone', settle(h, 0, 299), covered(299))
     same('the same as the open call', settle(h, 0, 300), covered(300))
     same('one above it', settle(h, 0, 301), called(301, 101, 649))
     go(h, 9)
-    same('10 October, the last free day', h.statement(0), statement(100, 200, 0, 0))
+    same('10 October, the last free day', h.statement(0), statement(100, 200, 0, 0, 2))
     go(h, 1)
-    same('11 October, it is firm', h.statement(0), statement(300, 200, 1, 100000000))
+    same('11 October, it is firm', h.statement(0), statement(300, 200, 1, 100000000, 2))
     go(h, 1)
-    same('12 October, the other is', h.statement(0), statement(301, 200, 2, 200000000))
+    same('12 October, the other is', h.statement(0), statement(301, 200, 2, 200000000, 2))
 
 
 def deletion_example():
@@ -571,18 +571,18 @@ def deletion_example():
 
     same('before July is settled', participant().delete(0), deletion(77372900, 1))
     h = participant()
-    same('the annual run', h.annual(0), (5, 77372900, 12, 0, 0, 0))
+    same('the annual run', h.annual(0), (5, 77372900, 12, 0, 0, 0, 0))
     record(h, 0, [(2, 75446400)])
     go(h, 20)
     same('21 September', h.delete(0), deletion(75446400, 1))
-    same('calls made, the minimum and this', h.calls_made(), (8, 2, 0, 0, 0, 0))
+    same('calls made, the minimum and this', h.calls_made(), (8, 2, 0, 0, 0, 0, 0))
     same('an annual run', h.annual(0), History.refused(14))
     go(h, 9)
-    same('30 September', h.statement(0), statement(2000000, 2000000, 0, 0))
+    same('30 September', h.statement(0), statement(2000000, 2000000, 0, 0, 2))
     go(h, 1)
-    same('1 October, 753,729 euros are missing', h.statement(0), statement(77372900, 2000000, 1, 100000000))
+    same('1 October, 753,729 euros are missing', h.statement(0), statement(77372900, 2000000, 1, 100000000, 2))
     go(h, 1)
-    same('2 October', h.statement(0), statement(77372900, 2000000, 2, 200000000))
+    same('2 October', h.statement(0), statement(77372900, 2000000, 2, 200000000, 2))
 
 
 def deletion_life():
@@ -595,19 +595,19 @@ def deletion_life():
     same('the deletion', h.delete(0), deletion(500, 1))
     same('the cash is held', h.release(0, 0, 1), History.refused(16))
     go(h, 10)
-    same('11 August, the last free day', h.statement(0), statement(0, 99, 0, 0))
+    same('11 August, the last free day', h.statement(0), statement(0, 99, 0, 0, 1))
     same('what is missing', h.lodge(0, 1, 'cash', 401), History.DONE)
     go(h, 1)
-    same('12 August, it is firm', h.statement(0), statement(500, 500, 0, 0))
+    same('12 August, it is firm', h.statement(0), statement(500, 500, 0, 0, 1))
     same('a check of June', settle(h, 0, 600), called(600, 100, 599))
     go(h, 11)
-    same('23 August', h.statement(0), statement(600, 500, 1, 100000000))
+    same('23 August', h.statement(0), statement(600, 500, 1, 100000000, 2))
     go(h, 39)
-    same('1 October, the firm amount stays', h.statement(0), statement(600, 500, 40, 4000000000))
+    same('1 October, the firm amount stays', h.statement(0), statement(600, 500, 40, 4000000000, 2))
     same('a check of August, below 20%', settle(h, 0, 599), covered(599))
     same('not above the firm amount', settle(h, 0, 600), covered(600))
     same('above it', settle(h, 0, 601), called(601, 101, 649))
-    same('calls made', h.calls_made(), (8, 3, 0, 0, 0, 0))
+    same('calls made', h.calls_made(), (8, 3, 0, 0, 0, 0, 0))
     # In the first stretch of a history, by one with role 1: nothing of it depends on the stretch.
     h = History(609, first_stretch=True)
     h.admit(0, 1)
@@ -617,17 +617,126 @@ def deletion_life():
     same('behind it', (h.delete(0), h.annual(0)), (History.refused(24), History.refused(25)))
     same('its two calls', h.people[0].calls(), [(2000000, 619), (2000001, 619)])
     go(h, 11)
-    same('both are firm', h.statement(0), statement(2000001, 0, 1, 100000000))
+    same('both are firm', h.statement(0), statement(2000001, 0, 1, 100000000, 2))
+
+
+# ---- calls counted by participant (paper 02, ask 6)
+
+def counted(what, h, *due):
+    """The counts in the statements of participants 0, 1, .., and their sum, which answers the old question."""
+    same(f'counts, {what}', [h.statement(p)[6] for p in range(len(due))], list(due))
+    same(f'counts, {what}, their sum', h.calls_made(), (8, sum(due), 0, 0, 0, 0, 0))
+
+
+def counts():
+    """1 April 2021, month 15: each participant's count has its own calls alone, and each call once, as long as it is kept and afterwards."""
+    h = History(day_number(2021, 4, 1))
+    counted('a fresh book', h)
+    same('counts, of nobody', (h.statement(0), h.statement(64)), (History.refused(2), History.refused(1)))
+    for p, role in enumerate((0, 2, 3, 4, 5, 3)):
+        h.admit(p, role)
+    counted('the minimums of admissions', h, 1, 1, 0, 0, 0, 0)
+    same('counts, refused admissions', (h.admit(0, 2), h.admit(6, 6), h.admit(6, 1)), tuple(map(History.refused, (3, 4, 23))))
+    counted('refused admissions', h, 1, 1, 0, 0, 0, 0)
+    for e in (100, 200):
+        same('counts, a settlement', settle(h, 2, e), called(e, e, 466))
+    same('counts, a settlement', settle(h, 3, 200), called(200, 200, 466))
+    same('counts, a settlement', settle(h, 4, 0), covered(0))
+    same('counts, a settlement', settle(h, 5, 500, 3), recorded(500))
+    counted('settlements', h, 1, 1, 2, 1, 0, 0)
+    same('counts, a called total replaced', settle(h, 3, 7), covered(7))
+    counted('a called total replaced', h, 1, 1, 2, 1, 0, 0)
+    batch('counts, a batch that calls twice', TWO + '0405' + FIVE + '0505' + SEVEN, 2, h)
+    counted('a batch that calls twice', h, 1, 1, 2, 1, 1, 1)
+    batch('counts, a refused batch', TWO + '0405' + SEVEN + '3f05' + SEVEN, (2, 1), h)
+    counted('a refused batch, whose first part would have called', h, 1, 1, 2, 1, 1, 1)
+    go(h, 11)
+    # 12 April 2021: no call is open. Producers 2 and 3, called to 100 and 200 and to 200, differ in their counts alone.
+    same('counts, no call is open', [h.people[p].open_calls(h.today) for p in range(6)], [[]] * 6)
+    same('counts, called twice', h.statement(2), statement(200, 0, 1, 100000000, 2))
+    same('counts, called once', h.statement(3), statement(200, 0, 1, 100000000, 1))
+    counted('calls that are open no longer', h, 1, 1, 2, 1, 1, 1)
+
+
+def counts_of_fifth():
+    """A fifth open call is refused and not counted; when the four have ended it is made, and is the fifth that is counted. So is a batch's."""
+    h = batch_book()
+    for e in (1, 2, 3, 4):
+        same('counts, an open call', settle(h, 1, e), called(e, e, 466))
+    counted('four open calls', h, 0, 4, 1)
+    same('counts, a fifth', settle(h, 1, 5), History.refused(13))
+    batch('counts, a fifth behind a call of another', TWO + '0005' + SEVEN + '0105' + FIVE, (13, 1), h)
+    counted('a fifth', h, 0, 4, 1)
+    go(h, 11)
+    batch('counts, when the four have ended', TWO + '0005' + SEVEN + '0105' + FIVE, 2, h)
+    counted('when the four have ended', h, 1, 5, 1)
+
+
+def counts_of_deletions():
+    """1 September 2021: a deletion is counted if it calls. An annual run makes no call, nor does the 1 October on which its amount takes effect."""
+    h = History(609)
+    for p, role in enumerate((0, 3, 3, 3)):
+        h.admit(p, role)
+    record(h, 0, [(3, 1999999)])
+    record(h, 1, [(3, 70)])
+    record(h, 3, [(3, 70)])
+    same('counts, an annual run', h.annual(3), (5, 70, 1, 0, 0, 0, 0))
+    counted('before any deletion', h, 1, 0, 0, 0)
+    for p, expected in ((0, deletion(1999999, 0)), (1, deletion(70, 1)), (2, deletion(0, 0))):
+        same(f'counts, delete {p}', h.delete(p), expected)
+    counted('deletions', h, 1, 1, 0, 0)
+    same('counts, delete 1 again', h.delete(1), History.refused(24))
+    counted('a second deletion', h, 1, 1, 0, 0)
+    go(h, 30)
+    same('counts, 1 October, a next amount', h.statement(3), statement(70, 0, 1, 100000000, 0))
+    same("counts, 1 October, a deletion's call", h.statement(1), statement(70, 0, 20, 2000000000, 1))
+    counted('1 October', h, 1, 1, 0, 0)
+    # Refused with 13 a deletion makes no call; accepted once the four have ended it makes the fifth.
+    h = producer(608)
+    for e in (10, 20, 30, 40):
+        same('counts, an open call', settle(h, 0, e), called(e, e, 618))
+    record(h, 0, [(3, 41)])
+    same('counts, a deletion that would be the fifth', h.delete(0), History.refused(13))
+    counted('a deletion that would be the fifth', h, 4)
+    go(h, 11)
+    same('counts, the deletion when they have ended', h.delete(0), deletion(41, 1))
+    counted('the deletion when they have ended', h, 5)
+
+
+def counts_of_others():
+    """What the accountants compared: a participant's statement is the same whoever else is there, and whatever was called of them."""
+    def life(others):
+        h, seen = History(609, first_stretch=True), []
+        h.admit(1, 1)
+        if others:
+            for p in (0, 2, 63):
+                h.admit(p, 0)
+        h.end_stretch()
+        record(h, 1, [(3, 2000001)])
+        for days, act in ((0, lambda p: h.annual(p)), (0, lambda p: h.delete(p)), (40, lambda p: settle(h, p, 2000002)), (11, None), (300, None)):
+            go(h, days)
+            for p in (0, 1, 2, 63) if others and act else (1,) if act else ():
+                act(p)
+            seen.append(h.statement(1))
+        return h, seen
+
+    alone, among = life(False), life(True)
+    same('counts, among others', among[1], alone[1])
+    # Its minimum, its deletion, and on 11 October a settlement above what they have left firm.
+    same('counts, alone', [found[6] for found in alone[1]], [1, 2, 3, 3, 3])
+    same('counts, alone, the sum', alone[0].calls_made(), (8, 3, 0, 0, 0, 0, 0))
+    # Each of the three others: its minimum and the settlement; their deletions of 0 called nothing.
+    same('counts, among others, the sum', among[0].calls_made(), (8, 3 + 3 * 2, 0, 0, 0, 0, 0))
 
 
 def main():
     for part in (calendar, examples, checks, charges, two_calls, deposits, batch_too_short, batch_not_following, batch_parts,
                  batch_settlements, admissions, first_stretch, deletion_days, deletion_amounts, deletion_compared, deletion_causes, deletion_fifth,
-                 deletion_october, deletion_example, deletion_life):
+                 deletion_october, deletion_example, deletion_life, counts, counts_of_fifth, counts_of_deletions, counts_of_others):
         part()
     for line in differences:
         print(line)
-    print(f'paper 01, figures of the book, D, batches, role retired and deletion: {done} compared, {len(differences)} different')
+    print(f'paper 01, figures of the book, D, batches, role retired, deletion and counts: {done} compared, {len(differences)} different')
     return 1 if differences else 0
 
 

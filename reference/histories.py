@@ -14,8 +14,9 @@ answer, each refusal and each corner was met. A file is decimal numbers: `START 
 
 The first FIRST calls are the history's first stretch, made under the old admission rule, and the others are made under the new one (paper 02, ask
 3); FIRST may be 0, or above COUNT. Every history ends with a statement of each participant admitted by then and the question for the count. The
-answers are those to the text as written: `history START`, then six numbers for each call; to a batch `9 N 0 0 0 0`, or `10 NUMBER INDEX 0 0 0`; to
-a deletion `11 AMOUNT CALLED 0 0 0`, CALLED being 1 or 0. Corners are counted by what a call met, not by what it was aimed at.
+answers are those to the text as written: `history START`, then seven numbers for each call; to a statement `7 FIRM COVER SHORTFALL DAYS MILLS
+CALLS`, CALLS being how many calls were made to the participant (paper 02, ask 6); to a batch `9 N 0 0 0 0 0`, or `10 NUMBER INDEX 0 0 0 0`; to a
+deletion `11 AMOUNT CALLED 0 0 0 0`, CALLED being 1 or 0. Corners are counted by what a call met, not by what it was aimed at.
 """
 import argparse
 import collections
@@ -462,6 +463,44 @@ role 1 behind the first stretch: a next amount of before takes effect
 role 1 behind the first stretch: a next amount takes effect
 role 1 behind the first stretch: a deletion, below the minimum
 role 1 behind the first stretch: a deletion, above the minimum
+count: 0, a role without a minimum
+count: 0, and a month was covered
+count: 1, that of the minimum
+count: 1, a role without a minimum
+count: 2 to 4
+count: 5 and more
+count: 20 and more
+count: as many as are open
+count: some are open, some no longer
+count: none is open any more
+count: more than four since, four open
+count: behind a settlement that called
+count: behind a batch that called
+count: behind a covered settlement
+count: behind a settlement that was recorded only
+count: behind a called total replaced by a lower one
+count: behind a refused fifth call (13)
+count: behind a refused batch that would have called
+count: behind a deletion that called
+count: behind a deletion that didn't call
+count: behind a deletion that would have been a fifth call (13)
+count: behind an annual run
+count: behind a 1 October on which a next amount took effect
+count: behind a call's end
+count: behind its admission
+count: behind a refused second admission (3)
+count: a statement of one not admitted (2)
+count: with a deletion's call, its call open no longer
+count: of one with a called month in the first stretch
+count: of one with role 1, behind the first stretch
+count: two statements of a day differ in it alone
+count: two statements of a day differ in it alone, a firm amount above 0
+count: two statements of a day differ in it alone, days charged
+count: the same statement of two participants
+count: the sum is 0, and somebody is admitted
+count: the sum is that of one participant alone, another has 0
+count: the sum of several, each above 0
+count: the sum is not that of the open calls
 people: above 63 (1)
 people: not admitted (2)
 people: participant 63
@@ -646,6 +685,10 @@ class Recorder:
         self.early_runs = set()                  # participants whose last annual run was made in the first stretch
         self.tried = {}                          # participants whose deletion was refused with 13, and the day of the last time
         self.admitted_early = set()              # participants that were admitted in the first stretch
+        self.called_early = set()                # participants of which a month or a deletion called in the first stretch
+        self.behind = {}                         # what has happened to a participant since its last statement
+        self.stated = {}                         # what was stated on this day, without the count: participants to counts
+        self.stated_day = start                  # that day
         self.kinds, self.refusals, self.pairs, self.corners = (collections.Counter() for _ in range(4))
         self.met_start()
 
@@ -702,8 +745,8 @@ class Recorder:
         self.met('people: all 64 admitted', len(self.book.people) == 64)
         self.calls = MOST_CALLS - 1
         for p in sorted(self.book.people):
-            self.call(7, p)
-        self.call(10)
+            self.met_statement(p, self.call(7, p))
+        self.met_sum(self.call(10))
 
     def met_stretch(self):
         """What the number of the first stretch's calls met, when all calls are made."""
@@ -730,6 +773,7 @@ class Recorder:
         ok = self.call(0, p, role)
         if role == RETIRED:
             self.met_retired(p, ok)
+        self.happened(p, {(1, 0): 'its admission', (0, 3): 'a refused second admission (3)'}.get(ok[:2]))
         if ok[0] == 0:
             self.met('admit: admitted twice (3)', ok[1] == 3)
             self.met('admit: role 6 and above (4)', ok[1] == 4)
@@ -875,7 +919,12 @@ class Recorder:
             self.met('check: under deletion, fifth open call refused (13)', ok[1] == 13 and who.deletion())
             if ok[1] == 13:
                 self.fifths.append((p, m, e))
+                self.happened(p, 'a refused fifth call (13)')
             return ok
+        self.happened(p, {2: 'a settlement that called', 3: 'a covered settlement', 4: 'a settlement that was recorded only'}[ok[0]])
+        self.happened(p, 'a called total replaced by a lower one' if old is not None and old in calls and e < old else None)
+        if ok[0] == 2 and self.book.first_stretch:
+            self.called_early.add(p)
         self.met('settle: M = P - 14', m == month_now - 14)
         self.met('settle: M = P - 2', m == month_now - 2)
         self.met('settle: a total replaced', old is not None)
@@ -987,9 +1036,13 @@ class Recorder:
         open_calls = [len(who.open_calls(t)) if who else 0 for _, _, who in entered]
         replaced = [who is not None and who.total(m) is not None for _, _, who in entered]
         ok = self.call(8, len(data), *data)
-        assert ok == ((10, *held[0], 0, 0, 0) if held else (9, n, 0, 0, 0, 0)), (data, ok, held)
+        assert ok == ((10, *held[0], 0, 0, 0, 0) if held else (9, n, 0, 0, 0, 0, 0)), (data, ok, held)
         if ok[0] == 9:
             self.met_batch(m, entered, calls, open_calls, replaced)
+            for p in [p for made, (p, _, _) in zip(calls, entered) if made]:
+                self.happened(p, 'a batch that called')
+                if self.book.first_stretch:
+                    self.called_early.add(p)
             self.met('batch: accepted, the same file was refused before', self.files.get(data) is False)
             self.met('batch: accepted, the same file again', self.files.get(data) is True)
         elif ok[1] == 20:
@@ -1112,6 +1165,8 @@ class Recorder:
         self.met('batch: several settlements would be refused, the first counts', len({i for _, i in held}) > 1)
         self.met('batch: refused, an earlier part would have called', any(calls[:at]))
         self.met('batch: refused, an earlier part would have replaced a total', any(replaced[:at]))
+        for p in [p for made, (p, _, _) in zip(calls[:at], parts) if made]:
+            self.happened(p, 'a refused batch that would have called')
         self.undone += [(p, m, sum(figures)) for p, figures, _ in parts[:at]]
         self.spared = [p for p, _, _ in parts[:at]]
 
@@ -1129,6 +1184,7 @@ class Recorder:
                 self.met('annual: under deletion, a next amount is set (25)', before is not None)
                 self.met('annual: under deletion in a later year (25)', date(who.deletion()[0]).year < d.year)
             return ok
+        self.happened(p, 'an annual run')
         self.met('annual: accepted, another is under deletion', any(other.deletion() for other in self.book.people.values()))
         self.met('annual: accepted, its deletion was refused with 13', p in self.tried and date(self.tried[p]).year == d.year)
         amount, months, here = ok[1], ok[2], month(t)
@@ -1187,8 +1243,12 @@ class Recorder:
             self.met('delete: fifth open call refused (13), in September', d.month == 9)
             self.met('delete: fifth open call refused (13), the cover is above it', cover > amount)
             self.tried[p] = t
+            self.happened(p, 'a deletion that would have been a fifth call (13)')
         else:
             assert ok[1:3] == (amount, int(rises))
+            self.happened(p, 'a deletion that called' if rises else "a deletion that didn't call")
+            if rises and self.book.first_stretch:
+                self.called_early.add(p)
             self.met_deletion(p, who, amount, rises, firm, calls, cover, coming)
             self.met_latest(p, who, amount)
         return ok
@@ -1300,6 +1360,8 @@ class Recorder:
         self.met("opening: a batch's call ends", any(t <= last < now for last in self.batch_calls))
         for p, who in people.items():
             self.met_openings(who, t, *known[p], octobers)
+            self.happened(p, 'a 1 October on which a next amount took effect' if octobers and known[p][1] is not None else None)
+            self.happened(p, "a call's end" if any(t <= last < now for _, last in who.calls()) else None)
         return ok
 
     def met_openings(self, who, t, firm, coming, held, octobers):
@@ -1384,10 +1446,60 @@ class Recorder:
         self.met("batch: refused, then a statement of an earlier part's participant", p in self.spared)
         ok = self.call(7, p)
         self.met('admit: role 1 refused (23), then a statement (2)', p in self.retired and ok[:2] == (0, 2))
+        self.met_statement(p, ok)
         return ok
 
+    def happened(self, p, what):
+        """Notes what has happened to a participant since its last statement, if it is to be noted."""
+        if what:
+            self.behind.setdefault(p, set()).add(what)
+
+    def met_statement(self, p, ok):
+        """What a statement met by the count in it."""
+        if ok[0] == 0:
+            self.met('count: a statement of one not admitted (2)', ok[1] == 2)
+            return
+        t, who, made = self.t, self.book.people[p], ok[6]
+        still, least, gone = len(who.open_calls(t)), MINIMUM[who.role], self.deletion_call(who)
+        self.met('count: 0, a role without a minimum', made == 0)
+        self.met('count: 0, and a month was covered', made == 0 and 'a covered settlement' in self.behind.get(p, ()))
+        self.met('count: 1, that of the minimum', made == 1 and least > 0)
+        self.met('count: 1, a role without a minimum', made == 1 and least == 0)
+        self.met('count: 2 to 4' if made < 5 else 'count: 5 and more', made > 1)
+        self.met('count: 20 and more', made > 19)
+        self.met('count: as many as are open', made == still > 0)
+        self.met('count: some are open, some no longer', 0 < still < made)
+        self.met('count: none is open any more', still == 0 < made)
+        self.met('count: more than four since, four open', still == 4 < made)
+        for what in self.behind.pop(p, ()):
+            self.met(f'count: behind {what}')
+        self.met("count: with a deletion's call, its call open no longer", gone and gone[1] < t)
+        self.met('count: of one with a called month in the first stretch', p in self.called_early and not self.book.first_stretch)
+        self.met('count: of one with role 1, behind the first stretch', self.kept_role(who))
+        if self.stated_day != t:
+            self.stated, self.stated_day = {}, t
+        others = self.stated.setdefault(ok[1:6], {})
+        differs = any(q != p and count != made for q, count in others.items())
+        self.met('count: two statements of a day differ in it alone', differs)
+        self.met('count: two statements of a day differ in it alone, a firm amount above 0', differs and ok[1] > 0)
+        self.met('count: two statements of a day differ in it alone, days charged', differs and ok[4] > 0)
+        self.met('count: the same statement of two participants', any(q != p and count == made for q, count in others.items()))
+        others[p] = made
+
+    def met_sum(self, ok):
+        """What the question for one count met."""
+        people = self.book.people.values()
+        made = [len(who.calls()) for who in people]
+        assert ok[1] == sum(made)
+        self.met('count: the sum is 0, and somebody is admitted', ok[1] == 0 and made != [])
+        self.met('count: the sum is that of one participant alone, another has 0', 0 < ok[1] == max(made) and len(made) > 1)
+        self.met('count: the sum of several, each above 0', len(made) > 1 and min(made) > 0)
+        self.met('count: the sum is not that of the open calls', ok[1] != sum(len(who.open_calls(self.t)) for who in people))
+
     def count(self):
-        return self.call(10)
+        ok = self.call(10)
+        self.met_sum(ok)
+        return ok
 
 
 class Maker(Recorder):

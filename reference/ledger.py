@@ -268,14 +268,14 @@ class Ledger:
             return self.report()
         found, *numbers = getattr(book, 'calls_made' if name == 'calls' else name)(*args)
         word, count = (('refused', 1), ('done', 0), ('called', 3), ('covered', 1), ('recorded', 1), ('annual', 2), ('opened', 1),
-                       ('statement', 5), ('calls', 1), ('batch', 1), ('refused', 2), ('deletion', 2))[found]
+                       ('statement', 6), ('calls', 1), ('batch', 1), ('refused', 2), ('deletion', 2))[found]
         return ' '.join([word] + [str(number) for number in numbers[:count]])
 
     def report(self):
         book = self.book
         lines = [f'report {book.today} {reading.date(book.today)} {len(book.people)}', row(HEADING)]
         for p in sorted(book.people):
-            _, firm, cover, shortfall, days, mills = book.statement(p)
+            _, firm, cover, shortfall, days, mills, _ = book.statement(p)
             lines.append(row((p, ROLES[book.people[p].role], decimals(firm, 2), decimals(cover, 2), decimals(shortfall, 2), days,
                               decimals(mills, 5))))
         return '\n'.join(lines)
@@ -489,16 +489,16 @@ STARRED = [('# example 1', '')] + [
     (f'settle 0 20{20 + (m + 6) // 12}-{(m + 6) % 12 + 1:02} {euros}00 0 0 0 0', f'recorded {euros}00') for m, euros in enumerate(EXAMPLE_1)] + [
     ('annual 0', 'annual 77372900 12'), ('lodge 0 0 cash 77372900', 'done'), ('advance 2021-10-01 100', 'opened 30'),
     ('# D = 77,372,900', ''),
-    ('statement 0', 'statement 77372900 77372900 0 0 0'),
+    ('statement 0', 'statement 77372900 77372900 0 0 0 1'),
     ('settle 0 2021-08 75446400 0 0 0 0', 'covered 75446400'), ('settle 0 2021-08 93679500 0 0 0 0', 'called 93679500 16306600 649'),
     ('# example 3', ''),
-    ('advance 2021-10-13 100', 'opened 12'), ('statement 0', 'statement 93679500 77372900 16306600 2 200000000'),
+    ('advance 2021-10-13 100', 'opened 12'), ('statement 0', 'statement 93679500 77372900 16306600 2 200000000 2'),
     ('lodge 0 1 cash 10000000', 'done'), ('advance 2021-10-16 100', 'opened 3'),
-    ('statement 0', 'statement 93679500 87372900 6306600 5 500000000'),
-    ('lodge 0 2 cash 6306600', 'done'), ('advance 2021-10-17 100', 'opened 1'), ('statement 0', 'statement 93679500 93679500 0 5 500000000'),
+    ('statement 0', 'statement 93679500 87372900 6306600 5 500000000 2'),
+    ('lodge 0 2 cash 6306600', 'done'), ('advance 2021-10-17 100', 'opened 1'), ('statement 0', 'statement 93679500 93679500 0 5 500000000 2'),
     ('# D = 1,000,000', ''),
     ('fresh 2021-01-01', 'done'), ('admit 0 trader', 'done'), ('lodge 0 0 cash 1000000', 'done'), ('advance 2021-01-12 11', 'opened 11'),
-    ('statement 0', 'statement 1000000 1000000 0 0 0'),
+    ('statement 0', 'statement 1000000 1000000 0 0 0 1'),
     ('settle 0 2020-11 1199999 0 0 0 0', 'covered 1199999'), ('settle 0 2020-11 1200000 0 0 0 0', 'called 1200000 200000 387'),
     ('# D = 0', ''),
     ('fresh 2021-01-01', 'done'), ('admit 0 producer', 'done'),
@@ -508,13 +508,13 @@ for shortfall, charge in ((0, 0), (1, 100000000), (100000000, 100000000), (10000
     STARRED += [
         ('fresh 366', 'done'), ('admit 63 5', 'done'),
         (f'settle 63 10 {shortfall} 0 0 0 0', f'called {shortfall} {shortfall} 376' if shortfall else 'covered 0'),
-        ('advance 376 100', 'opened 10'), ('statement 63', 'statement 0 0 0 0 0'), ('advance 377 100', 'opened 1'),
-        ('statement 63', f'statement {shortfall} 0 {shortfall} {int(shortfall > 0)} {charge}')]
+        ('advance 376 100', 'opened 10'), ('statement 63', f'statement 0 0 0 0 0 {int(shortfall > 0)}'), ('advance 377 100', 'opened 1'),
+        ('statement 63', f'statement {shortfall} 0 {shortfall} {int(shortfall > 0)} {charge} {int(shortfall > 0)}')]
 STARRED += [
     ('# S = 150,000,000, then 50,000,000', ''),
     ('fresh 2021-01-01', 'done'), ('admit 63 res-aggregator', 'done'), ('settle 63 2020-11 150000000 0 0 0 0', 'called 150000000 150000000 376'),
     ('advance 2021-01-12 100', 'opened 11'), ('lodge 63 7 cash 100000000', 'done'), ('advance 2021-01-13 100', 'opened 1'),
-    ('statement 63', 'statement 150000000 100000000 50000000 2 250000000'),
+    ('statement 63', 'statement 150000000 100000000 50000000 2 250000000 1'),
     ('# ratios of 43 and 4,008', ''),
     ('special 3 126 4 0 3 0 0 0 3 0 0 0 1 1000000000000 1 0 1 0 1 0', f'special {43 * 10 ** 8}'),
     ('special 3 0 0 0 3 3253 4048 4723 3 0 0 0 1 0 1 1000000000000 1 0 1 0', f'special {4008 * 10 ** 8}'),

@@ -20,6 +20,8 @@ Programs that would treat a deletion (paper 02, ask 4) wrongly, and the cases th
 - the status or the call is lost with the next start: `kept deletions`, `journal with deletions`, `deletion killed`;
 - a deletion that was refused with 13 leaves the status: `deletion that is refused at first`;
 - it is taken for a question: `deletion and read`, `order of a deletion`.
+
+A program that would count calls (paper 02, ask 6) for all together, or lose a count with the next start, is caught by `counts by participant`.
 """
 import contextlib
 import fcntl
@@ -1691,7 +1693,7 @@ def old_journal_with_the_retired_role(place):
         keeps(place, b'lodge 0 1 cash 5\nadmit 9 1\nadmit 9 0\nreport\n', *words, journal=place.got())
         same('how often the line is there', place.got().count(RETIRED), 1)
     out, _ = place.run(place.path, data=b'statement 0\nstatement 1\nadmit 8 1\n')
-    same('the answers', out, b'statement 2000001 10 1999991 263 26300000000\nstatement 2000000 2000000 0 0 0\nrefused 23\n')
+    same('the answers', out, b'statement 2000001 10 1999991 263 26300000000 2\nstatement 2000000 2000000 0 0 0 1\nrefused 23\n')
 
 
 @case
@@ -1880,9 +1882,9 @@ def deletions_by_hand(place):
     same('the answers', answers, [
         'refused 13', 'deletion 700 1', 'refused 24', 'refused 14', 'opened 1', 'refused 13', 'annual 2500000 1', 'annual 401 2', 'refused 25',
         'refused 2', 'refused 1', 'error 12 too many words', 'opened 10', 'deletion 401 1', 'recorded 2600000', 'opened 10', 'deletion 2600000 1',
-        'refused 14', 'calls 8', 'opened 11', 'refused 24', 'statement 2600000 2000000 600000 2 200000000', 'statement 401 0 401 22 2200000000',
-        'statement 700 0 700 22 2200000000', 'called 2600001 600001 650', 'called 701 701 650', 'opened 334', 'refused 25', 'refused 24', 'calls 10',
-        ''])
+        'refused 14', 'calls 8', 'opened 11', 'refused 24', 'statement 2600000 2000000 600000 2 200000000 2',
+        'statement 401 0 401 22 2200000000 5', 'statement 700 0 700 22 2200000000 1', 'called 2600001 600001 650', 'called 701 701 650',
+        'opened 334', 'refused 25', 'refused 24', 'calls 10', ''])
 
 
 @case
@@ -2022,6 +2024,30 @@ def deletion_behind_a_first_stretch(place):
         same('how often the line is there', place.got().count(RETIRED), 1)
         keeps(place, b'delete 9\ndelete 64\ndelete\n', *words, journal=journal)
         same('the journal after refusals', place.got(), journal)
+
+
+# ---- calls counted by participant (paper 02, ask 6)
+
+@case
+def counts_by_participant(place):
+    """Each statement has its participant's own count, worked out by hand: two minimums of a first stretch, and the four calls of another participant,
+    of which a fifth is refused. So it is after the calls, at the next start, and where the journal is read; a refused file, whose first part would
+    call, changes none."""
+    asked = b'statement 0\nstatement 1\nstatement 2\ncalls\n'
+    due_counts = b'''statement 2000000 0 2000000 21 2100000000 1
+statement 2000000 2000000 0 0 0 1
+statement 0 0 0 0 0 4
+calls 6
+'''
+    settlements = joined(b'settle 2 2020-12 %d 0 0 0 0' % n for n in (5, 6, 7, 8, 9))
+    refused = batch_line(month_file(11, (1, (9000000, 0, 0, 0, 0)), (2, (9, 0, 0, 0, 0))))
+    called = b'called 5 5 407\ncalled 6 6 407\ncalled 7 7 407\ncalled 8 8 407\nrefused 13\nrefused 13 1\n'
+    for words in ((), ('--batch',)):
+        place.put(OLD_BOOK)
+        same('the answers', place.run(place.path, *words, data=settlements + refused + asked), (called + due_counts, b''))
+        same('the answers of the next start', place.run(place.path, *words, data=asked), (due_counts, b''))
+        same('the answers of a reader', place.run('--read', place.path, data=asked), (due_counts, b''))
+        keeps(place, asked + b'advance 408 100\n' + asked + b'report\n', *words, journal=place.got())
 
 
 # ---- all of them

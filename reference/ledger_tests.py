@@ -39,9 +39,9 @@ admit 0 supplier                        #= done
 settle 0 0 1 2 3 4 5                    #= refused 12 | month 0: no month is two months back
 calls                                   #= calls 1
 advance 10 100                          #= opened 10
-statement 0                             #= statement 0 0 0 0 0 | the last free day
+statement 0                             #= statement 0 0 0 0 0 1 | the last free day
 advance 2020-01-12 100                  #= opened 1
-statement 0                             #= statement 2000000 0 2000000 1 100000000
+statement 0                             #= statement 2000000 0 2000000 1 100000000 1
 report
 
 # ---- Each call, accepted.
@@ -58,9 +58,9 @@ lodge 1 7 letter 2500000 2022-03-01 2022-03-31  #= done
 lodge 2 0 letter 1000000 0 29219        #= done
 lodge 2 1 cash 1                        #= done
 lodge 2 2 cash 1000000000000            #= done
-statement 0                             #= statement 0 2000000 0 0 0
-statement 1                             #= statement 0 2500000 0 0 0
-statement 2                             #= statement 0 1000001000001 0 0 0
+statement 0                             #= statement 0 2000000 0 0 0 1
+statement 1                             #= statement 0 2500000 0 0 0 1
+statement 2                             #= statement 0 1000001000001 0 0 0 1
 release 2 2 1000000000000               #= done
 release 2 0 1000000                     #= refused 16 | a whole letter; the minimum is called
 release 2 1 1                           #= done
@@ -73,20 +73,20 @@ settle 3 2022-01 5 0 0 0 0              #= called 5 5 800
 settle 63 2022-01 0 0 0 0 0             #= covered 0
 calls                                   #= calls 5
 advance 2022-03-11 100                  #= opened 10
-statement 0                             #= statement 0 2000000 0 0 0 | day 800, the last free day
-statement 3                             #= statement 0 0 0 0 0
+statement 0                             #= statement 0 2000000 0 0 0 2 | day 800, the last free day
+statement 3                             #= statement 0 0 0 0 0 1
 advance 2022-03-31 1                    #= opened 1 | the budget
-statement 0                             #= statement 2400000 2000000 400000 1 100000000
-statement 1                             #= statement 2000000 2500000 0 0 0
-statement 2                             #= statement 1000000 1000000 0 0 0
-statement 3                             #= statement 5 0 5 1 100000000
+statement 0                             #= statement 2400000 2000000 400000 1 100000000 2
+statement 1                             #= statement 2000000 2500000 0 0 0 1
+statement 2                             #= statement 1000000 1000000 0 0 0 1
+statement 3                             #= statement 5 0 5 1 100000000 1
 lodge 0 1 cash 400000                   #= done
 advance 2022-03-31 18446744073709551615 #= opened 19
-statement 1                             #= statement 2000000 2500000 0 0 0 | the letter's last day
+statement 1                             #= statement 2000000 2500000 0 0 0 1 | the letter's last day
 advance 2022-04-01 1                    #= opened 1
-statement 1                             #= statement 2000000 0 2000000 1 100000000 | it has lapsed
-statement 0                             #= statement 2400000 2400000 0 1 100000000
-statement 3                             #= statement 5 0 5 21 2100000000
+statement 1                             #= statement 2000000 0 2000000 1 100000000 1 | it has lapsed
+statement 0                             #= statement 2400000 2400000 0 1 100000000 2
+statement 3                             #= statement 5 0 5 21 2100000000 1
 report
 advance 2022-09-01 1000                 #= opened 153
 annual 0                                #= annual 2000000 2 | 15 and -15, raised to the minimum
@@ -96,7 +96,7 @@ settle 0 2022-07 99999999 0 0 0 0       #= recorded 99999999 | September
 settle 0 2022-06 3000000 0 0 0 0        #= recorded 3000000
 annual 0                                #= annual 3000000 3
 advance 2022-10-01 1000                 #= opened 30
-statement 0                             #= statement 3000000 2400000 600000 2 200000000
+statement 0                             #= statement 3000000 2400000 600000 2 200000000 2
 calls                                   #= calls 5
 
 # ---- Every cause of refusal.
@@ -232,7 +232,7 @@ advance 4294967296 1                    #= refused 17 | not day 0
 advance 789 5                           #= refused 17 | before today
 advance 2022-02-28 0                    #= refused 17
 advance 790 5                           #= opened 0
-statement 0                             #= statement 0 2000000 0 0 0 | a refused fresh leaves the book
+statement 0                             #= statement 0 2000000 0 0 0 1 | a refused fresh leaves the book
 # Refusal 18: fewer than three usable rates in a list.
 special 2 0 0 3 0 0 0 3 0 0 0 0 0 0 0               #= refused 18
 special 3 0 0 0 2 0 0 2 0 0 0 0 0 0                 #= refused 18
@@ -401,15 +401,15 @@ statement calls                         #= error not a number
 \r#\x00\x01\x7f\xff control bytes in a comment
 \t\tcalls\t\t                           #= calls 5
 \rcalls\r                               #= calls 5
- statement \t\r 0 \r                    #= statement 0 2000000 0 0 0
-statement\t0\t#= statement 0 2000000 0 0 0
+ statement \t\r 0 \r                    #= statement 0 2000000 0 0 0 1
+statement\t0\t#= statement 0 2000000 0 0 0 1
 calls#= calls 5
 calls# and more # and more
 stat#ement 0
 statement #0
 statement 0#0
 admit 2 trader#s
-statement 2                             #= statement 0 0 0 0 0 | admitted as a trader
+statement 2                             #= statement 0 0 0 0 0 1 | admitted as a trader
 statement 0\x0b                         #= error a control byte
 statement\x0c0                          #= error a control byte
 \x00                                    #= error a control byte
@@ -445,10 +445,10 @@ settle 0 2022-01 1 2 3 4 -/             #= error not a number
 fresh 2022-03-01                        #= done
 admit 00 0                              #= done
 admit 0000000000000000000000000000000000000000000000000000000000000000000000000000000000000000000001 000000000000000000003  #= done
-statement 000000000000000000001         #= statement 0 0 0 0 0
+statement 000000000000000000001         #= statement 0 0 0 0 0 0
 lodge 0 00 cash 00000000000000000000000001000000000000  #= done
 lodge 0 01 letter 0001 00000000000000000000790 00000000000000000029219  #= done
-statement 0                             #= statement 0 1000000000001 0 0 0
+statement 0                             #= statement 0 1000000000001 0 0 0 1
 release 0 0 000000000000000000000999998000000  #= done
 settle 0 0000000000000000000000000024 -00000000000000000000000000001 00 -0 -00 0000000000000000000001  #= covered 0
 settle 0 24 999999999999999999999999999999 0 0 0 0  #= refused 11
@@ -564,7 +564,7 @@ admit 1 0                               #= done
 fresh 29220                             #= refused 17
 fresh 2100-01-01                        #= error not a day
 fresh 0 0                               #= error too many words
-statement 1                             #= statement 0 0 0 0 0
+statement 1                             #= statement 0 0 0 0 0 1
 fresh 29219                             #= done
 statement 1                             #= refused 2
 calls                                   #= calls 0
@@ -600,9 +600,9 @@ advance 2021-03-12 11                   #= opened 11
 report
 advance 2022-03-12 1000                 #= opened 365
 report
-statement 63                            #= statement 16000000000000 0 16000000000000 366 5856000000000000
-statement 10                            #= statement 0 8000000000000 0 0 0
-statement 5                             #= statement 1 0 1 366 36600000000
+statement 63                            #= statement 16000000000000 0 16000000000000 366 5856000000000000 1
+statement 10                            #= statement 0 8000000000000 0 0 0 0
+statement 5                             #= statement 1 0 1 366 36600000000 1
 
 # ---- The line that ends a journal's first stretch: here it has no answer and changes nothing.
 role-retired                            #= no answer
@@ -610,7 +610,7 @@ role-retired
 \t role-retired \r                      #= no answer
 role-retired#= no answer
 role-retired # and a comment
-statement 5                             #= statement 1 0 1 366 36600000000
+statement 5                             #= statement 1 0 1 366 36600000000 1
 admit 7 self-supplied                   #= refused 23 | as before it
 admit 7 supplier                        #= done
 role-retired x                          #= error too many words
@@ -666,9 +666,9 @@ settle 1 2022-06 500 0 0 0 0            #= covered 500 | not above it
 settle 1 2022-06 501 0 0 0 0            #= called 501 401 953 | months are checked as before
 settle 63 2022-04 1000000 0 0 0 0       #= recorded 1000000
 delete 63                               #= deletion 1000000 0 | not above its open minimum
-statement 63                            #= statement 0 0 0 0 0
+statement 63                            #= statement 0 0 0 0 0 1 | the deletion called nothing
 advance 2022-08-31 100                  #= opened 30 | day 973
-statement 1                             #= statement 501 100 401 20 2000000000 | 500 and 501 from day 954 on
+statement 1                             #= statement 501 100 401 20 2000000000 2 | 500 and 501 from day 954 on
 annual 1                                #= refused 14 | before 25
 settle 2 2022-06 100 0 0 0 0            #= called 100 100 983
 settle 2 2022-06 200 0 0 0 0            #= called 200 200 983
@@ -677,7 +677,7 @@ settle 2 2022-06 400 0 0 0 0            #= called 400 400 983
 settle 2 2022-05 401 0 0 0 0            #= recorded 401
 delete 2                                #= refused 13 | the call would be a fifth open one
 delete 2                                #= refused 13 | and it is not in the status
-statement 2                             #= statement 0 0 0 0 0
+statement 2                             #= statement 0 0 0 0 0 4
 calls                                   #= calls 8
 advance 2022-09-01 1                    #= opened 1 | day 974, month 32
 annual 2                                #= annual 401 2 | May and June
@@ -693,16 +693,16 @@ delete 2                                #= refused 24
 annual 2                                #= refused 25 | its next amount stays
 settle 0 2022-07 3000000 0 0 0 0        #= recorded 3000000 | September
 advance 2022-09-21 100                  #= opened 20 | day 994
-statement 2                             #= statement 400 0 400 11 1100000000 | from day 984 on
+statement 2                             #= statement 400 0 400 11 1100000000 4 | from day 984 on
 delete 0                                #= deletion 3000000 1 | July alone is recorded; above its firm minimum
 annual 0                                #= refused 14 | before 25
 calls                                   #= calls 9
 advance 2022-09-30 100                  #= opened 9
-statement 0                             #= statement 2000000 2000000 0 0 0
+statement 0                             #= statement 2000000 2000000 0 0 0 2 | its minimum's call and the deletion's
 advance 2022-10-01 100                  #= opened 1 | day 1004, the call's last free day
-statement 0                             #= statement 2000000 2000000 0 0 0 | the next amount
-statement 2                             #= statement 401 0 401 21 2100000000 | its next amount
-statement 1                             #= statement 501 100 401 51 5100000000 | it has none
+statement 0                             #= statement 2000000 2000000 0 0 0 2 | the next amount
+statement 2                             #= statement 401 0 401 21 2100000000 4 | its next amount
+statement 1                             #= statement 501 100 401 51 5100000000 2 | it has none
 settle 0 2022-08 2999999 0 0 0 0        #= covered 2999999 | not above the open call
 settle 0 2022-08 3000001 0 0 0 0        #= called 3000001 1000001 1014
 release 0 0 1                           #= refused 16
@@ -710,10 +710,10 @@ delete 0                                #= refused 24
 admit 4 producer                        #= done
 delete 4                                #= refused 24 | October
 advance 2022-10-02 1                    #= opened 1
-statement 0                             #= statement 3000000 2000000 1000000 1 100000000 | the call outlived 1 October
+statement 0                             #= statement 3000000 2000000 1000000 1 100000000 3 | the call outlived 1 October
 lodge 0 1 cash 1000000                  #= done
 advance 2022-10-12 100                  #= opened 10
-statement 0                             #= statement 3000001 3000000 1 2 200000000
+statement 0                             #= statement 3000001 3000000 1 2 200000000 3
 calls                                   #= calls 10
 report
 # A next amount of 100 or of 900, and deletions on 20, 21 and 30 September.
@@ -739,15 +739,15 @@ delete 1                                #= deletion 300 1
 advance 2022-09-30 100                  #= opened 9
 delete 2                                #= deletion 50 1 | whatever the next amount is
 advance 2022-10-01 100                  #= opened 1
-statement 0                             #= statement 100 0 100 1 100000000
-statement 1                             #= statement 100 0 100 1 100000000
-statement 2                             #= statement 900 0 900 1 100000000
+statement 0                             #= statement 100 0 100 1 100000000 1
+statement 1                             #= statement 100 0 100 1 100000000 1
+statement 2                             #= statement 900 0 900 1 100000000 1
 settle 2 2022-08 899 0 0 0 0            #= covered 899 | above the open call, not above the firm amount
 advance 2022-10-02 100                  #= opened 1
-statement 0                             #= statement 100 0 100 2 200000000 | its call ended on 30 September
-statement 1                             #= statement 300 0 300 2 200000000 | its call ended on 1 October
+statement 0                             #= statement 100 0 100 2 200000000 1 | its call ended on 30 September
+statement 1                             #= statement 300 0 300 2 200000000 1 | its call ended on 1 October
 advance 2022-10-11 100                  #= opened 9
-statement 2                             #= statement 900 0 900 11 1100000000 | its call has ended and raised nothing
+statement 2                             #= statement 900 0 900 11 1100000000 1 | its call has ended and raised nothing
 calls                                   #= calls 3
 # The line of a deletion.
 \tdelete\t\r0 \r                       #= refused 24
@@ -853,10 +853,10 @@ batch {1800 0200  14000000 2a000000 3e000000 2a000000  0105 00f2052a01000000 <4>
 batch {1800 0200  14000000 2a000000 3e000000 2a000000  0105 00f2052a01000000 <4> 0205 0800000000000000 <4>}  #= batch 2 | the first is called
 calls                                   #= calls 8
 advance 2022-03-12 100                  #= opened 11
-statement 0                             #= statement 2400000 2000000 400000 1 100000000
-statement 1                             #= statement 5000000000 0 5000000000 1 5000000000
-statement 2                             #= statement 8 0 8 1 100000000
-statement 63                            #= statement 0 0 0 0 0
+statement 0                             #= statement 2400000 2000000 400000 1 100000000 2
+statement 1                             #= statement 5000000000 0 5000000000 1 5000000000 2
+statement 2                             #= statement 8 0 8 1 100000000 4 | the first call by a file
+statement 63                            #= statement 0 0 0 0 0 0
 # The line of a batch: one word of hexadecimal digits, or none.
 batch 0                                 #= error not two hexadecimal digits for each byte
 batch 180                               #= error not two hexadecimal digits for each byte
@@ -887,6 +887,36 @@ calls                                   #= calls 8 | the book is as before
 batch#18
 batch 18#00
 
+# ---- Calls counted by participant: each statement has its own count, and `calls` their sum.
+fresh 2021-04-01                        #= done | day 456: February is checked
+calls                                   #= calls 0
+admit 0 supplier                        #= done
+admit 1 producer                        #= done
+admit 2 producer                        #= done
+admit 0 trader                          #= refused 3 | no second minimum is called
+statement 0                             #= statement 0 0 0 0 0 1 | the minimum
+statement 1                             #= statement 0 0 0 0 0 0
+calls                                   #= calls 1
+settle 1 2021-02 100 0 0 0 0            #= called 100 100 466
+settle 1 2021-02 200 0 0 0 0            #= called 200 200 466
+settle 1 2021-02 7 0 0 0 0              #= covered 7 | the total is replaced, the calls stay
+settle 2 2021-02 200 0 0 0 0            #= called 200 200 466
+settle 2 2021-01 900 0 0 0 0            #= recorded 900
+calls                                   #= calls 4
+advance 2021-04-12 100                  #= opened 11 | no call is open
+statement 0                             #= statement 2000000 0 2000000 1 100000000 1
+statement 1                             #= statement 200 0 200 1 100000000 2
+statement 2                             #= statement 200 0 200 1 100000000 1 | the same but for the count
+settle 2 2021-02 201 0 0 0 0            #= called 201 201 477
+settle 2 2021-02 202 0 0 0 0            #= called 202 202 477
+settle 2 2021-02 203 0 0 0 0            #= called 203 203 477
+settle 2 2021-02 204 0 0 0 0            #= called 204 204 477
+settle 2 2021-02 205 0 0 0 0            #= refused 13
+batch {0d00 0200  14000000 2a000000 3e000000 2a000000  0105 c900000000000000 <4> 0205 cd00000000000000 <4>}  #= refused 13 1 | 201 and 205
+statement 1                             #= statement 200 0 200 1 100000000 2
+statement 2                             #= statement 200 0 200 1 100000000 5 | a fifth open call is not made, the fifth of its life was
+calls                                   #= calls 8
+
 # ---- Cut, doubled and joined lines.
 fresh 2021-03-01                        #= done
 admit 3 producer                        #= done
@@ -916,7 +946,7 @@ statement 3 statement 3                 #= error too many words
 report report                           #= error too many words
 reports                                 #= error no such call
 calls calls                             #= error too many words
-statement 3                             #= statement 0 9 0 0 0
+statement 3                             #= statement 0 9 0 0 0 0
 '''
 
 KEPT_JOURNAL = br'''\xef\xbb\xbf# The journal that is found: a byte order mark, comments, blank lines, dates and names, and a last line that a crash cut.
@@ -950,13 +980,13 @@ lodge\t2 0 cash 77'''
 KEPT_STDIN = br'''\xef\xbb\xbf# What was kept is there: seven participants, 1 February 2021.
 report
 calls                                            #= calls 7 | four minimums, the settlement, the one of the batch and the deletion's
-statement 10                                     #= statement 5 0 5 114 11400000000 | its deletion's call, from 11 October 2020 on
+statement 10                                     #= statement 5 0 5 114 11400000000 1 | its deletion's call, from 11 October 2020 on
 delete 10                                        #= refused 24
 annual 10                                        #= refused 14
-statement 0                                      #= statement 2000000 2500000 0 0 0
-statement 2                                      #= statement 0 0 0 0 0 | the cut line was dropped
-statement 7                                      #= statement 2000000 0 2000000 21 2100000000 | from 12 January on
-statement 8                                      #= statement 2000000 2000000 0 0 0
+statement 0                                      #= statement 2000000 2500000 0 0 0 2 | the minimum and the settlement
+statement 2                                      #= statement 0 0 0 0 0 0 | the cut line was dropped
+statement 7                                      #= statement 2000000 0 2000000 21 2100000000 1 | from 12 January on
+statement 8                                      #= statement 2000000 2000000 0 0 0 1
 # The first stretch is over, though the journal has no line that says so.
 admit 9 self-supplied                            #= refused 23
 admit 9 1                                        #= refused 23
@@ -1006,14 +1036,14 @@ advance 2021-02-11 0                             #= opened 0
 advance 2021-02-10 5                             #= refused 17
 calls\x00                                        #= error a control byte
 cal                                              #= error no such call
-statement 3                                      #= statement 0 0 0 0 0
+statement 3                                      #= statement 0 0 0 0 0 1
 advance 2021-02-12 1                             #= opened 1
-statement 3                                      #= statement 2000000 0 2000000 1 100000000
-statement 4                                      #= statement 3 0 3 1 100000000
-statement 6                                      #= statement 6 0 6 1 100000000
+statement 3                                      #= statement 2000000 0 2000000 1 100000000 1
+statement 4                                      #= statement 3 0 3 1 100000000 1
+statement 6                                      #= statement 6 0 6 1 100000000 2
 statement 5                                      #= refused 2
 # Those who have role 1 keep it, with its minimum and its annual runs. 12 February 2021, day 408.
-statement 7                                      #= statement 2000000 0 2000000 32 3200000000
+statement 7                                      #= statement 2000000 0 2000000 32 3200000000 1
 settle 7 2020-12 2000000 0 0 0 0                 #= covered 2000000 | not above the firm minimum
 settle 7 2020-12 2000001 0 0 0 0                 #= called 2000001 2000001 418
 settle 8 2020-12 2399999 0 0 0 0                 #= covered 2399999 | below 20%
@@ -1041,10 +1071,10 @@ delete 08                                        #= deletion 5 0 | its firm mini
 annual 8                                         #= refused 25 | its next amount stays
 calls                                            #= calls 12
 advance 2021-10-01 1000                          #= opened 30
-statement 6                                      #= statement 1000 0 1000 232 23200000000 | 6 from 12 February on, 1,000 from 12 September on
+statement 6                                      #= statement 1000 0 1000 232 23200000000 3 | 6 from 12 February on, 1,000 from 12 September on
 delete 7                                         #= refused 24 | October
-statement 7                                      #= statement 2000001 0 2000001 263 26300000000
-statement 8                                      #= statement 2000000 2000000 0 0 0
+statement 7                                      #= statement 2000001 0 2000001 263 26300000000 2
+statement 8                                      #= statement 2000000 2000000 0 0 0 1
 report
 \xef\xbb\xbfcalls                                #= error no such call | a mark stands only at the start
 calls                                            #= calls 12
@@ -1240,8 +1270,8 @@ def largest_batch():
     return lines + [line,                                           # refused 2 63
                     b'calls #= calls 0', b'admit 63 producer #= done',
                     line,                                           # batch 64
-                    b'calls #= calls 63', b'advance 801 11 #= opened 11', b'statement 0 #= statement 0 0 0 0 0',
-                    b'statement 63 #= statement 1008 0 1008 1 100000000']
+                    b'calls #= calls 63', b'advance 801 11 #= opened 11', b'statement 0 #= statement 0 0 0 0 0 0',
+                    b'statement 63 #= statement 1008 0 1008 1 100000000 1']
 
 
 def long_lines():
@@ -1260,7 +1290,7 @@ def long_lines():
             b'batch  ' + b'0' * 65528,                              # the same, at the largest length
             b'batch ' + b'0' * 65530,                               # too long
             b'lodge 0 0 cash ' + b'0' * 4985 + b'100 #= done',
-            b'statement 0 #= statement 0 100 0 0 0']
+            b'statement 0 #= statement 0 100 0 0 0 0']
 
 
 def lines_of(text):

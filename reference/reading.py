@@ -1,11 +1,12 @@
 """Paper 01's reading of the history, in Python's standard library: the reference that the book's answers are compared with.
 
 Written from the section 'The reading of the history' and the table of causes alone, for a batch from paper 02's ask 1, for D from its ask 2, for
-the two admission rules from its ask 3 and for a deletion from its ask 4. A participant's figures are read from its accepted calls, each with its
-arguments and the day it was made on, and from the days opened. Nothing is summed up in between: cover, D, firm amount, open calls, month totals, the
-next amount and whether it is under deletion are worked out afresh from the calls whenever they are asked for. What is kept is the history itself and
-what the reading once gave and no later call can change: beside a settlement whether it called, beside an annual run its amount, beside a deletion its
-amount and whether it called, beside an opened day its shortfall. An accepted batch is in the history as its settlements.
+the two admission rules from its ask 3, for a deletion from its ask 4 and for the count of a participant's calls from its ask 6. A participant's
+figures are read from its accepted calls, each with its arguments and the day it was made on, and from the days opened. Nothing is summed up in
+between: cover, D, firm amount, open calls, the count of calls made, month totals, the next amount and whether it is under deletion are worked out
+afresh from the calls whenever they are asked for. What is kept is the history itself and what the reading once gave and no later call can change:
+beside a settlement whether it called, beside an annual run its amount, beside a deletion its amount and whether it called, beside an opened day its
+shortfall. An accepted batch is in the history as its settlements.
 """
 import datetime
 
@@ -205,6 +206,11 @@ class Participant:
                 made.append((args[0], day + FREE_DAYS))
         return made
 
+    def calls_made(self):
+        """How many calls were made (paper 02, ask 6): of the participant's own, open or no longer, the admission's and the deletion's included. What
+        was refused, also with 13, made none."""
+        return len(self.calls())
+
     def firm(self, day):
         return firm_on(day, self.periods(), self.calls())
 
@@ -242,7 +248,7 @@ class Participant:
 
 
 class History:
-    """A history from a fresh book on a day. Each method answers as the papers decide: six numbers, the kind of answer first.
+    """A history from a fresh book on a day. Each method answers as the papers decide: seven numbers, the kind of answer first.
 
     It may have a first stretch of calls made under the old admission rule, which admits every role; the calls behind it, of a history without one
     all calls, are made under the new one, which admits no role 1 (paper 02, ask 3). Which rule it is depends on a call's place in the list, not on
@@ -259,14 +265,14 @@ class History:
 
     @staticmethod
     def refused(n):
-        return (0, n, 0, 0, 0, 0)
+        return (0, n, 0, 0, 0, 0, 0)
 
     @staticmethod
     def refused_at(n, index):
         """A refused batch: the number, and the index of the pair."""
-        return (10, n, index, 0, 0, 0)
+        return (10, n, index, 0, 0, 0, 0)
 
-    DONE = (1, 0, 0, 0, 0, 0)
+    DONE = (1, 0, 0, 0, 0, 0, 0)
 
     def unknown(self, p):
         if p > 63:
@@ -341,8 +347,8 @@ class History:
         e, d = sum(figures), who.deposited(t)
         who.acts.append((t, 'settle', (m, list(figures), calls)))
         if calls:
-            return (2, e, e - d, t + FREE_DAYS, 0, 0)
-        return (3 if who.check_due(t, m) else 4, e, 0, 0, 0, 0)
+            return (2, e, e - d, t + FREE_DAYS, 0, 0, 0)
+        return (3 if who.check_due(t, m) else 4, e, 0, 0, 0, 0, 0)
 
     def batch(self, data):
         """A month's file, as bytes. What is wrong with the file comes before any settlement: 20, then 21 of any pair, then 22 of any pair."""
@@ -369,7 +375,7 @@ class History:
                 for q, _ in parts[:index]:
                     self.people[q].acts.pop()
                 return self.refused_at(answer[1], index)
-        return (9, len(parts), 0, 0, 0, 0)
+        return (9, len(parts), 0, 0, 0, 0, 0)
 
     def annual(self, p):
         """An annual run, whose causes are 1, 2, 14 and, for one under deletion, 25."""
@@ -383,7 +389,7 @@ class History:
             return self.refused(25)
         amount, months = who.annual_amount(self.today)
         who.acts.append((self.today, 'annual', (amount,)))
-        return (5, amount, months, 0, 0, 0)
+        return (5, amount, months, 0, 0, 0, 0)
 
     def delete(self, p):
         """A participant is put under deletion (paper 02, ask 4); the causes are 1, 2, 24 and 13. The answer gives the amount and whether it called.
@@ -399,7 +405,7 @@ class History:
         if calls and len(who.open_calls(t)) >= 4:
             return self.refused(13)
         who.acts.append((t, 'delete', (amount, calls)))
-        return (11, amount, int(calls), 0, 0, 0)
+        return (11, amount, int(calls), 0, 0, 0, 0)
 
     def advance(self, day, budget):
         if day > LAST_DAY or day < self.today:
@@ -408,7 +414,7 @@ class History:
         for who in self.people.values():
             who.open_days(range(self.today + 1, self.today + n + 1))
         self.today += n
-        return (6, n, 0, 0, 0, 0)
+        return (6, n, 0, 0, 0, 0, 0)
 
     def statement(self, p):
         no = self.unknown(p)
@@ -416,10 +422,11 @@ class History:
             return no
         who, t = self.people[p], self.today
         firm, cover = who.firm(t), who.cover(t)
-        return (7, firm, cover, max(firm - cover, 0), who.days_charged(), who.accrued())
+        return (7, firm, cover, max(firm - cover, 0), who.days_charged(), who.accrued(), who.calls_made())
 
     def calls_made(self):
-        return (8, sum(len(who.calls()) for who in self.people.values()), 0, 0, 0, 0)
+        """The old question for one count: the sum of the participants' counts."""
+        return (8, sum(who.calls_made() for who in self.people.values()), 0, 0, 0, 0, 0)
 
 
 def fresh(day, first_stretch=False):

@@ -213,7 +213,7 @@ def of_calls(left, others, deletion):
 TAKEN = 'abbrev pub taken_by : Rule → Book → Call → Book\n' + of_calls(
     'taken_by rule b', 'b',
     'cond (Rattle.std.specs.Prelude.eqb (Rattle.book.specs.Call.refusal_of (answer rule b (on p delete))) 13) '
-    '(with_file b p (Rattle.file.specs.Fields.with_deletion (file_at b p) (Rattle.file.specs.Fields.open_calls (file_at b p))) 0) b')
+    '(with_file b p (Rattle.file.specs.Fields.with_deletion (file_at b p) (Rattle.file.specs.Fields.open_calls (file_at b p)) 0)) b')
 READ_TAKEN = 'abbrev pub taken_by : Rule → ℕ → List Event → Call → List Event\n' + of_calls(
     'taken_by rule s events', 'events',
     'cond (eqb (Rattle.book.specs.Call.refusal_of (decision rule s events (on p delete))) 13) (did (today_of s events) p delete ∷ events) events')
@@ -765,10 +765,9 @@ SHARED = [
        'cond (deletion_called d own (calls_in own)) (call_of (deletion_in d own) (d + 10) ∷ []) [] ++ calls_in own')],
      'Deletions.open-call'),
     ("a deletion's call that is not counted",
-     [(ACCOUNT, 'calls_added f t delete = cond (deletion_calls f t) 1 0', 'calls_added f t delete = 0'),
-      (READ_CALLS, 'unfoldable pub firm_in : ', f'{OF_DELETION}unfoldable pub firm_in : '),
-      (DECISIONS, 'length (calls_in (mine n events))',
-       '(length (calls_in (mine n events)) - Rattle.book.specs.Reading.Calls.of_deletion (mine n events))')],
+     [(DELETION, '(calls_deleted f t) (cond (deletion_calls f t) 1 0)', '(calls_deleted f t) 0'),
+      (READ_CALLS, 'abbrev pub made_in : ', f'{OF_DELETION}abbrev pub made_in : '),
+      (READ_CALLS, 'made_in own = length (calls_in own)', 'made_in own = Rattle.std.specs.Prelude.◌-◌ (length (calls_in own)) (of_deletion own)')],
      'Deletions.counts'),
     # .. what it answers, and its causes
     ('a deletion that answers 0 where it makes no call',
@@ -836,13 +835,13 @@ SHARED = [
     ('annual: 24 for 25', [(ANNUAL, 'number = 25', 'number = 24'), (DECISIONS, 'cause 25', 'cause 24')], 'UnderDeletion.no-annual-run'),
     ('annual: 26 for 25', [(ANNUAL, 'number = 25', 'number = 26'), (DECISIONS, 'cause 25', 'cause 26')], 'UnderDeletion.no-annual-run'),
     ('a next amount unset by a deletion',
-     [(DELETION, '(with_deletion f (calls_deleted f t))',
-       '(Rattle.file.specs.Fields.with_next (with_deletion f (calls_deleted f t)) Rattle.file.specs.Fields.unset)'),
+     [(DELETION, '(with_deletion f (calls_deleted f t) (cond (deletion_calls f t) 1 0))',
+       '(Rattle.file.specs.Fields.with_next (with_deletion f (calls_deleted f t) (cond (deletion_calls f t) 1 0)) Rattle.file.specs.Fields.unset)'),
       (MONTHS, 'next_in (act d delete ∷ own) = next_in own', 'next_in (act d delete ∷ own) = unset')],
      'UnderDeletion.next-kept-short'),
     ('a next amount replaced by that of a deletion',
-     [(DELETION, '(with_deletion f (calls_deleted f t))',
-       '(Rattle.file.specs.Fields.with_next (with_deletion f (calls_deleted f t)) (Rattle.file.specs.Fields.set_to (deletion_amount_of f t)))'),
+     [(DELETION, '(with_deletion f (calls_deleted f t) (cond (deletion_calls f t) 1 0))',
+       '(Rattle.file.specs.Fields.with_next (with_deletion f (calls_deleted f t) (cond (deletion_calls f t) 1 0)) (Rattle.file.specs.Fields.set_to (deletion_amount_of f t)))'),
       (MONTHS, 'next_in (act d delete ∷ own) = next_in own', 'next_in (act d delete ∷ own) = set_to (deletion_in d own)')],
      'UnderDeletion.next-kept-short'),
     ('no check of a settlement under deletion',

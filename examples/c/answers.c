@@ -182,8 +182,8 @@ static void statement(void)
     GuaranteeStatement s = guarantee_statement(book, GUARANTEE_WORDS, natural());
     outcome(s.refusal);
     if (s.refusal == GUARANTEE_ACCEPTED)
-        sprintf(answer, "statement %" PRIu64 " %" PRIu64 " %" PRIu64 " %" PRIu64 " %" PRIu64, s.firm, s.cover, s.shortfall,
-                s.days_charged, s.accrued_mills);
+        sprintf(answer, "statement %" PRIu64 " %" PRIu64 " %" PRIu64 " %" PRIu64 " %" PRIu64 " %" PRIu64, s.firm, s.cover, s.shortfall,
+                s.days_charged, s.accrued_mills, s.calls_made);
 }
 
 static void special(void)

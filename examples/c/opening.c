@@ -1,8 +1,9 @@
 /* The whole calendar opened for 64 participants with eight letters each: opening
  *
  * Admits every participant on day 0, the roles in turn, lodges eight letters for each and opens days 1 to 29,219 by one advance. Printed are the
- * statements, a line each: participant, firm amount, cover, shortfall, days charged, accrued charge. The microseconds of processor time that the
- * advance took go to standard error. The status is 1 if a call is refused. */
+ * statements, a line each: participant, firm amount, cover, shortfall, days charged, accrued charge; without the count of calls, so that it is
+ * made with an older library too (tools/opening). The microseconds of processor time that the advance took go to standard error. The status is 1
+ * if a call is refused. */
 #define _XOPEN_SOURCE 700
 #include "guarantee.h"
 #include <inttypes.h>

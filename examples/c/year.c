@@ -108,8 +108,8 @@ static void statement(uint64_t participant, const char *expected)
 {
     GuaranteeStatement s = guarantee_statement(book, GUARANTEE_WORDS, participant);
     if (accepted(s.refusal, expected))
-        answer(expected, "statement %" PRIu64 " %" PRIu64 " %" PRIu64 " %" PRIu64 " %" PRIu64, s.firm, s.cover, s.shortfall,
-               s.days_charged, s.accrued_mills);
+        answer(expected, "statement %" PRIu64 " %" PRIu64 " %" PRIu64 " %" PRIu64 " %" PRIu64 " %" PRIu64, s.firm, s.cover, s.shortfall,
+               s.days_charged, s.accrued_mills, s.calls_made);
 }
 
 static void calls(const char *expected)
@@ -132,9 +132,9 @@ static void winter(void)
     advance(day(2021, 1, 4), 31, "opened 3"); /* at most 31 days are opened */
     cash(0, 0, 2000000, "done");
     letter(1, 0, 1000000, day(2021, 1, 4), day(2021, 5, 31), "done");
-    statement(0, "statement 0 2000000 0 0 0"); /* nothing is firm yet */
+    statement(0, "statement 0 2000000 0 0 0 1"); /* nothing is firm yet; one call was made, that of the minimum */
     advance(day(2021, 1, 12), 31, "opened 8");
-    statement(0, "statement 2000000 2000000 0 0 0"); /* the last free day is over: the call is firm */
+    statement(0, "statement 2000000 2000000 0 0 0 1"); /* the last free day is over: the call is firm */
 
     /* January: November is settled, two months back, and checked against what is deposited. The five figures: accounts Λ-A, Λ-B, Λ-Γ, Λ-Δ and Λ-ΣΤ. */
     advance(day(2021, 1, 20), 31, "opened 8");
@@ -152,13 +152,13 @@ static void winter(void)
     advance(day(2021, 2, 20), 31, "opened 5");
     cash(1, 1, 250000, "done"); /* the trader pays in time, the producer doesn't */
     advance(day(2021, 2, 25), 31, "opened 5");
-    statement(2, "statement 0 0 0 0 0"); /* the last free day */
+    statement(2, "statement 0 0 0 0 0 1"); /* the last free day of the call of 15 February */
     advance(day(2021, 2, 26), 31, "opened 1");
-    statement(2, "statement 120000 0 120000 1 100000000"); /* 1 per mille is 1.20 euros, the least 1,000 */
+    statement(2, "statement 120000 0 120000 1 100000000 1"); /* 1 per mille is 1.20 euros, the least 1,000 */
     advance(day(2021, 2, 28), 31, "opened 2");
     cash(2, 0, 120000, "done");
     advance(day(2021, 3, 1), 31, "opened 1");
-    statement(2, "statement 120000 120000 0 3 300000000"); /* 26 to 28 February; the day after is free */
+    statement(2, "statement 120000 120000 0 3 300000000 1"); /* 26 to 28 February; the day after is free */
 }
 
 /* March to June 2021. */
@@ -171,9 +171,9 @@ static void spring(void)
     settle(2, month(2021, 1), 30000, -15000, 5000, 15000, 5000, "covered 40000");
     settle(2, month(2020, 12), 60000, 0, 5000, 12000, 3000, "recorded 80000"); /* December corrected: the total is replaced, the call stays */
     letter(0, 1, 1000000, day(2021, 3, 20), day(2021, 12, 31), "done");
-    statement(0, "statement 2000000 2000000 0 0 0"); /* the letter begins on 20 March */
+    statement(0, "statement 2000000 2000000 0 0 0 2"); /* the letter begins on 20 March; two calls: the minimum's and today's */
     advance(day(2021, 3, 26), 31, "opened 11");
-    statement(0, "statement 3000000 3000000 0 0 0");
+    statement(0, "statement 3000000 3000000 0 0 0 2");
 
     /* April and May: February and March. */
     advance(day(2021, 4, 15), 31, "opened 20");
@@ -187,12 +187,12 @@ static void spring(void)
 
     /* The trader's letter lapses, and the new one begins two days late. */
     advance(day(2021, 5, 31), 31, "opened 14");
-    statement(1, "statement 1250000 1250000 0 0 0"); /* the letter's last day */
+    statement(1, "statement 1250000 1250000 0 0 0 2"); /* the letter's last day */
     advance(day(2021, 6, 1), 31, "opened 1");
-    statement(1, "statement 1250000 250000 1000000 1 100000000");
+    statement(1, "statement 1250000 250000 1000000 1 100000000 2");
     letter(1, 0, 1000000, day(2021, 6, 3), day(2022, 5, 31), "done"); /* the position of the lapsed letter is empty */
     advance(day(2021, 6, 3), 31, "opened 2");
-    statement(1, "statement 1250000 1250000 0 2 200000000"); /* 1 and 2 June */
+    statement(1, "statement 1250000 1250000 0 2 200000000 2"); /* 1 and 2 June */
 }
 
 /* June to September 2021. */
@@ -229,9 +229,9 @@ static void autumn(void)
 {
     /* 1 October: the annual amounts take effect, lower ones too. */
     advance(day(2021, 10, 1), 31, "opened 25");
-    statement(0, "statement 3600000 3600000 0 0 0");
-    statement(1, "statement 1280000 1280000 0 2 200000000");
-    statement(2, "statement 90000 120000 0 3 300000000");
+    statement(0, "statement 3600000 3600000 0 0 0 3"); /* the minimum, and the calls of March and June */
+    statement(1, "statement 1280000 1280000 0 2 200000000 2");
+    statement(2, "statement 90000 120000 0 3 300000000 1");
     release(2, 0, 30001, "refused 16"); /* one cent too much */
     release(2, 0, 30000, "done");
 
@@ -242,8 +242,8 @@ static void autumn(void)
     cash(0, 3, 800000, "done");
     letter(0, 4, 1000000, day(2022, 1, 1), day(2022, 12, 31), "done"); /* follows the letter that ends on 31 December */
     advance(day(2022, 1, 1), 60, "opened 38");
-    statement(0, "statement 4400000 4400000 0 0 0");
-    calls("calls 7");
+    statement(0, "statement 4400000 4400000 0 0 0 4");
+    calls("calls 7"); /* four, two and one */
 }
 
 int main(int count, char **arguments)

@@ -5,7 +5,8 @@ ctypes cuts a number that is too large for its type, so each argument is held to
 import ctypes
 import struct as structs
 
-WORDS = 6147
+WORDS = 6210
+EARLIER_LAYOUT = 101                                 # what `check` answers to a book that an earlier version saved
 KINDS = {1: 'called', 2: 'covered', 3: 'recorded'}
 U8, U64, U32, I64, SIZE = ctypes.c_uint8, ctypes.c_uint64, ctypes.c_uint32, ctypes.c_int64, ctypes.c_size_t
 
@@ -20,7 +21,7 @@ BATCH = struct('Batch', 'parts', 'pair')
 ANNUAL = struct('Annual', 'amount', 'months')
 DELETION = struct('Deletion', 'amount', 'called')
 ADVANCED = struct('Advanced', 'opened')
-STATEMENT = struct('Statement', 'firm', 'cover', 'shortfall', 'days_charged', 'accrued_mills')
+STATEMENT = struct('Statement', 'firm', 'cover', 'shortfall', 'days_charged', 'accrued_mills', 'calls_made')
 COUNT = struct('Count', 'count')
 DAY = struct('Day', 'day')
 SPECIAL = struct('Special', 'cents')
@@ -71,11 +72,19 @@ class Book:
         return structs.pack(f'<{self.length}Q', *self.words)
 
     def load(self, saved):
-        """Takes a saved book, and says whether it is one; words that are none must not be used."""
-        if len(saved) != 8 * self.length:
+        """Takes a saved book, and says whether it is one; if not, this book is as before. One that an earlier version saved raises ValueError."""
+        function = self.library.guarantee_check
+        function.restype = U64
+        count, rest = divmod(len(saved), 8)
+        read = (U64 * max(count, 1))(*structs.unpack(f'<{count}Q', saved[:8 * count]))
+        found = None if rest else function(read, SIZE(count))
+        if found == EARLIER_LAYOUT:
+            raise ValueError('the book was saved by an earlier version, in layout 1 of 6,147 words, and this one cannot use it: its calls are to be '
+                             'made anew on a fresh book')
+        if found != 0 or count != self.length:
             return False
-        self.words[:] = structs.unpack(f'<{self.length}Q', saved)
-        return self.check() == 0
+        self.words[:] = read
+        return True
 
     def special(self, medium, low, marks, *semesters):
         function = self.library.guarantee_special

@@ -78,13 +78,14 @@ pub struct Deletion {
     pub called: bool,
 }
 
-/// The answer to a question for the statement, in cents and, the accrued charge, in mills.
+/// The answer to a question for the statement, in cents and, the accrued charge, in mills; `made` is the count of calls made to the participant.
 pub struct Statement {
     pub firm: u64,
     pub cover: u64,
     pub shortfall: u64,
     pub charged: u64,
     pub accrued: u64,
+    pub made: u64,
 }
 
 /// An open call: an amount and the last day to lodge it without a charge.
@@ -102,7 +103,7 @@ struct MonthTotal {
 }
 
 /// One participant's file; it is `leaving` where it is under deletion. The open calls are the first `count`, oldest first; a month's total stands at
-/// the month's number modulo 16.
+/// the month's number modulo 16; `made` counts the calls made, open or no longer (paper 02, Ask 6).
 #[derive(Clone, Copy)]
 pub struct File {
     pub admitted: bool,
@@ -115,14 +116,14 @@ pub struct File {
     next: Option<u64>,
     charged: u64,
     accrued: u64,
+    made: u64,
     totals: [Option<MonthTotal>; TOTALS],
 }
 
-/// The book: 64 files, today, and the count of calls made.
+/// The book: 64 files, and today.
 pub struct Book {
     pub files: [File; PARTICIPANTS],
     pub today: u32,
-    made: u64,
 }
 
 impl Position {
@@ -189,6 +190,7 @@ impl File {
         next: None,
         charged: 0,
         accrued: 0,
+        made: 0,
         totals: [None; TOTALS],
     };
 
@@ -202,11 +204,12 @@ impl File {
         &self.calls[..self.count as usize]
     }
 
-    /// One more open call, made today, of which there are fewer than four; its last free day is the answer.
+    /// One more open call, made today, of which there are fewer than four, is counted; its last free day is the answer.
     fn call(&mut self, amount: u64, today: u32) -> u32 {
         let last = today + FREE_DAYS;
         self.calls[self.count as usize] = OpenCall { amount, last };
         self.count += 1;
+        self.made += 1;
         last
     }
 
@@ -432,7 +435,6 @@ impl Book {
         Book {
             files: [File::NONE; PARTICIPANTS],
             today: 0,
-            made: 0,
         }
     }
 
@@ -461,7 +463,6 @@ impl Book {
         }
         self.files.fill(File::NONE);
         self.today = day;
-        self.made = 0;
         Ok(())
     }
 
@@ -483,7 +484,6 @@ impl Book {
         let minimum = file.minimum();
         if 0 < minimum {
             file.call(minimum, self.today);
-            self.made += 1;
         }
         Ok(())
     }
@@ -513,11 +513,7 @@ impl Book {
         figures: &[i64],
     ) -> Result<Settled, Refusal> {
         let today = self.today;
-        let settled = self.file_mut(participant)?.settle(month, figures, today)?;
-        if let Settled::Called { .. } = settled {
-            self.made += 1;
-        }
-        Ok(settled)
+        self.file_mut(participant)?.settle(month, figures, today)
     }
 
     /// Makes the annual run (paper 01, 'Annual run').
@@ -529,11 +525,7 @@ impl Book {
     /// Places a participant under deletion (paper 02, 'Leaving participants').
     pub fn delete(&mut self, participant: u64) -> Result<Deletion, Refusal> {
         let today = self.today;
-        let deletion = self.file_mut(participant)?.delete(today)?;
-        if deletion.called {
-            self.made += 1;
-        }
-        Ok(deletion)
+        self.file_mut(participant)?.delete(today)
     }
 
     /// Opens the days after today until a day, at most so many, and answers how many were opened (paper 01, 'Advance').
@@ -567,11 +559,12 @@ impl Book {
             shortfall: file.firm.saturating_sub(cover),
             charged: file.charged,
             accrued: file.accrued,
+            made: file.made,
         })
     }
 
-    /// The count of calls made, admissions' and deletions' calls included.
+    /// The sum of the participants' counts of calls made.
     pub fn calls_made(&self) -> u64 {
-        self.made
+        self.files.iter().map(|file| file.made).sum()
     }
 }

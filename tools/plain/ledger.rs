@@ -207,6 +207,7 @@ impl Ledger {
             out.number(" ", statement.shortfall);
             out.number(" ", statement.charged);
             out.number(" ", statement.accrued);
+            out.number(" ", statement.made);
         })
     }
 

@@ -109,14 +109,14 @@ session lines =
 
 -- Whether an answer of the book tells what was asked for: a statement, or the count of calls made.
 abbrev tells : Said.Answer → Bool
-tells (Said.stated f c s d a) = true
+tells (Said.stated f c s d a m) = true
 tells (Said.counted n) = true
 tells x = false
 
 -- A call that is not taken is refused, or its answer tells what was asked for.
 untaken : (x : Said.Answer) → takes (shown x) ≡ false → tells x ≡ false → accepted x ≡ false
 untaken (Said.refused n) h k = refl
-untaken (Said.stated f c s d a) h k = k
+untaken (Said.stated f c s d a m) h k = k
 untaken (Said.counted n) h k = k
 untaken (Said.refused_pair n i) h k = refl
 untaken x h k = h

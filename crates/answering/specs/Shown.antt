@@ -8,8 +8,8 @@ use Rattle.printing.specs.declared.Answer.{Answer}
 
 -- The answer of the journal for each answer of the book:
 -- "done | refused N | called E ASKED LAST_FREE_DAY | covered E | recorded E | annual AMOUNT MONTHS | opened DAYS
--- | statement FIRM COVER SHORTFALL DAYS_CHARGED MILLS | calls N"; of a batch `batch N` and `refused NUMBER INDEX`; and of a deletion
--- `deletion AMOUNT CALLED`.
+-- | statement FIRM COVER SHORTFALL DAYS_CHARGED MILLS | calls N", since paper 02, Ask 6 with CALLS behind MILLS; of a batch `batch N` and
+-- `refused NUMBER INDEX`; and of a deletion `deletion AMOUNT CALLED`.
 abbrev pub shown : Said.Answer → Answer
 shown (Said.refused n) = Answer.Refused n
 shown Said.done = Answer.Done
@@ -18,7 +18,7 @@ shown (Said.covered e) = Answer.Covered e
 shown (Said.recorded e) = Answer.Recorded e
 shown (Said.annual a n) = Answer.Annual a n
 shown (Said.days_opened n) = Answer.Opened n
-shown (Said.stated f c s d a) = Answer.Statement f c s d a
+shown (Said.stated f c s d a m) = Answer.Statement f c s d a m
 shown (Said.counted n) = Answer.Calls n
 shown (Said.batched n) = Answer.Batch n
 shown (Said.refused_pair n i) = Answer.RefusedPair n i

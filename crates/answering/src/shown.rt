@@ -80,6 +80,7 @@ impl Shown for Statement {
             self.shortfall,
             self.charged,
             self.accrued,
+            self.made,
         )
     }
 }

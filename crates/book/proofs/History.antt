@@ -7,5 +7,7 @@ pub mod LawfulCalls
 pub mod Lift
 pub mod Higher
 pub mod Openings
+pub mod OneCount
 pub mod Life
+pub mod Private
 pub mod Retired

@@ -1,14 +1,15 @@
 -- The book's account of paper 01, 'The calls', and of paper 02: what each call answers, and the book that it leaves, from the book that it finds.
 -- Assumes nothing.
-use Rattle.std.specs.Prelude.{ℕ, zero, suc, ◌+◌, ◌-◌, min, Bool, false, cond, not, ◌&&◌, ◌||◌, List, [], ◌∷◌, map, ltb, eqb, length, get_or, set, replicate}
+use Rattle.std.specs.Prelude.{ℕ, zero, suc, ◌-◌, min, Bool, false, cond, not, ◌&&◌, ◌||◌, List, [], ◌∷◌, map, ltb, eqb, get_or, set, replicate}
+use Rattle.std.specs.List.{sum_by}
 use Rattle.file.specs.declared.File.{File}
 use Rattle.file.specs.Answer.{Answer, refused, done, days_opened, counted, decide, accepted, statement_says}
-use Rattle.file.specs.Admit.{no_file, admitted_file, calls_of_admission}
+use Rattle.file.specs.Admit.{no_file, admitted_file}
 use Rattle.file.specs.Lodge.{lodge_answer, lodged_file}
 use Rattle.file.specs.Release.{release_answer, released_file}
-use Rattle.file.specs.Settle.{settle_answer, settled_file, settlement_calls}
+use Rattle.file.specs.Settle.{settle_answer, settled_file}
 use Rattle.file.specs.Annual.{annual_answer, annual_file}
-use Rattle.file.specs.Deletion.{deletion_calls, deletion_answer, deleted_file}
+use Rattle.file.specs.Deletion.{deletion_answer, deleted_file}
 use Rattle.file.specs.Opening.{opened_file}
 use Rattle.file.specs.Statement.{file_statement}
 use Rattle.layout.specs.Book.{Book}
@@ -19,7 +20,7 @@ use Rattle.book.specs.Rule.{Rule, old_rule, new_rule, MadeCall}
 
 -- "Fresh book on a day: no participants."
 unfoldable pub fresh_book : ℕ → Book
-fresh_book d = record { files = replicate 64 no_file; today = record { 0 = d }; made = 0 }
+fresh_book d = record { files = replicate 64 no_file; today = record { 0 = d } }
 
 -- What asking for a fresh book answers. Its only cause is 17.
 unfoldable pub fresh_answer : ℕ → Answer
@@ -33,9 +34,13 @@ fresh_book_beside d = cond (accepted (fresh_answer d)) (fresh_book d) (fresh_boo
 unfoldable pub file_at : Book → ℕ → File
 file_at b p = get_or b.files p no_file
 
--- The book with another file for participant p, and n more calls made.
-unfoldable pub with_file : Book → ℕ → File → ℕ → Book
-with_file b p f n = record { files = set b.files p f; today = b.today; made = b.made + n }
+-- The book with another file for participant p.
+unfoldable pub with_file : Book → ℕ → File → Book
+with_file b p f = record { files = set b.files p f; today = b.today }
+
+-- Paper 02, Ask 6: "The old question is answered with the sum of the counts", those of the files.
+unfoldable pub sum_of_counts : Book → ℕ
+sum_of_counts b = sum_by (λ (f : File). f.made) b.files
 
 -- Cause 1, "participant above 63", before the others of a call that names a participant.
 unfoldable pub if_numbered : ℕ → Answer → Answer
@@ -64,15 +69,6 @@ file_after f t (settle m figures) = settled_file f t m figures
 file_after f t annual_run = annual_file f t
 file_after f t delete = deleted_file f t
 
--- How many calls for more an accepted call makes: an admission's minimum, a settlement's, and a deletion's, which "is counted among the calls made".
-unfoldable pub calls_added : File → ℕ → Act → ℕ
-calls_added f t (admit role) = length (calls_of_admission t role)
-calls_added f t (lodge k h) = 0
-calls_added f t (release k a) = 0
-calls_added f t (settle m figures) = cond (settlement_calls f t m figures) 1 0
-calls_added f t annual_run = 0
-calls_added f t delete = cond (deletion_calls f t) 1 0
-
 -- Paper 02, Ask 3: "The regulator no longer registers Self-Supplied Customers." Whether a call admits one, role 1.
 abbrev pub admits_retired : Act → Bool
 admits_retired (admit role) = eqb role 1
@@ -92,7 +88,7 @@ abbrev pub answer_on : Rule → Book → ℕ → Act → Answer
 answer_on rule b p a = if_numbered p (unless_retired rule a (file_answer (file_at b p) b.today.0 a))
 
 abbrev pub applied_on : Book → ℕ → Act → Book
-applied_on b p a = with_file b p (file_after (file_at b p) b.today.0 a) (calls_added (file_at b p) b.today.0 a)
+applied_on b p a = with_file b p (file_after (file_at b p) b.today.0 a)
 
 -- Paper 02, Ask 1: "Parts are settled in pair order." The book after the settlements of the first k parts of a batch, each accepted ..
 unfoldable pub after_parts : Book → List ℕ → ℕ → Book
@@ -113,7 +109,6 @@ open_day b =
     record {
       files = map (opened_if_admitted (suc b.today.0)) b.files;
       today = record { 0 = suc b.today.0 };
-      made = b.made;
     }
 
 -- The book after n days were opened in turn.
@@ -134,7 +129,7 @@ answer rule b (advance day budget) =
     (days_opened (days_to_open b day budget))
 answer rule b (statement p) =
     if_numbered p (if_admitted (file_at b p) (statement_says (file_statement (file_at b p) b.today.0)))
-answer rule b calls_made = counted b.made
+answer rule b calls_made = counted (sum_of_counts b)
 answer rule b (batch file) = batch_says (form_of file) (part_answer b file)
 
 -- The book that an accepted call leaves.

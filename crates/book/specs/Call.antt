@@ -1,6 +1,6 @@
 -- The calls of papers 01 and 02, with their arguments, and the answers that the code's results stand for.
 -- Assumes nothing.
-use Rattle.std.specs.Prelude.{ℕ, List, ltb, ℤ, Bool, true, false, not, cond, Result, Ok, Err}
+use Rattle.std.specs.Prelude.{ℕ, List, ltb, ℤ, not, cond, Result, Ok, Err}
 use Rattle.file.specs.declared.Position.{Position}
 use Rattle.file.specs.Answer.{Answer, refused, done, called, covered, recorded, annual, days_opened, stated, counted, batched, refused_pair, deletion}
 use Rattle.file.specs.Answer.{accepted, says, statement_says}
@@ -47,21 +47,6 @@ advanced_says = says days_opened
 abbrev pub stated_says : Result Statement Refusal → Answer
 stated_says = says statement_says
 
--- Whether an answer is a settlement's call.
-abbrev pub is_called : Answer → Bool
-is_called (refused n) = false
-is_called done = false
-is_called (called e asked last) = true
-is_called (covered e) = false
-is_called (recorded e) = false
-is_called (annual a n) = false
-is_called (days_opened n) = false
-is_called (stated f c s d a) = false
-is_called (counted n) = false
-is_called (batched n) = false
-is_called (refused_pair n i) = false
-is_called (deletion a calls) = false
-
 -- The answer that a batch's stands for.
 abbrev pub loaded_says : Result ℕ Misfit → Answer
 loaded_says (Ok n) = batched n
@@ -80,7 +65,7 @@ refusal_of (covered e) = 0
 refusal_of (recorded e) = 0
 refusal_of (annual a n) = 0
 refusal_of (days_opened n) = 0
-refusal_of (stated f c s d a) = 0
+refusal_of (stated f c s d a m) = 0
 refusal_of (counted n) = 0
 refusal_of (batched n) = 0
 refusal_of (refused_pair n i) = n

@@ -13,9 +13,8 @@ use Rattle.book.specs.Call.{admit, lodge, release, settle, annual_run, delete}
 use Rattle.book.specs.Reading.Events.{Event, Own, day_opened, act, mine, today_of, admitted_in, leaving_in, role_in}
 use Rattle.book.specs.Reading.Holdings.{position_in}
 use Rattle.book.specs.Reading.Months.{next_in}
-use Rattle.book.specs.Reading.Calls.{firm_in, open_in}
+use Rattle.book.specs.Reading.Calls.{firm_in, open_in, made_in}
 use Rattle.book.specs.Reading.Charges.{charged_in, accrued_in}
-use Rattle.book.specs.Reading.Decisions.{calls_below}
 
 -- What the ring of month totals keeps at place k: the last settlement of a month with that place.
 unfoldable pub ring_in : List Own → ℕ → MonthTotal
@@ -43,6 +42,7 @@ file_in t own =
       totals = table 16 (ring_in own);
       charged = charged_in own;
       accrued = accrued_in own;
+      made = made_in own;
     }
 
 -- The book by the readings.
@@ -51,5 +51,4 @@ book_in s events =
     record {
       files = table 64 (λ p. file_in (today_of s events) (mine p events));
       today = record { 0 = today_of s events };
-      made = calls_below 64 events;
     }

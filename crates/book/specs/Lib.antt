@@ -1,9 +1,11 @@
 pub mod Call
 pub mod Rule
 pub mod Account
+pub mod OneCount
 pub mod Reading
 pub mod Kept
 pub mod Life
+pub mod Private
 pub mod Reached
 pub mod InWords
 pub mod Opened

@@ -4,15 +4,16 @@
 use Rattle.std.specs.Prelude.{ℕ, suc, ◌+◌, ◌-◌, ◌≤◌, ◌<◌, ◌≡◌, true, false, cond, List, [], ◌∷◌, ltb}
 use Rattle.manual.specs.Charge.{day_charge}
 use Rattle.file.specs.declared.File.{File}
-use Rattle.file.specs.Answer.{Answer}
+use Rattle.file.specs.Answer.{Answer, counted}
 use Rattle.file.specs.Fields.{cover_of, shortfall_of}
 use Rattle.layout.specs.Book.{Book}
 use Rattle.book.specs.Call.{Call, on, advance, statement, calls_made, batch}
 use Rattle.book.specs.Rule.{Rule, new_rule, MadeCall, under}
-use Rattle.book.specs.Account.{file_at, answer, step, run}
+use Rattle.book.specs.Account.{file_at, sum_of_counts, answer, step, run}
+use Rattle.book.specs.OneCount.{count_before}
 use Rattle.book.specs.Reading.Events.{Own, day_opened, act, mine, today_of, admitted_in, leaving_in, role_in}
 use Rattle.book.specs.Reading.Holdings.{cover_in}
-use Rattle.book.specs.Reading.Calls.{firm_in}
+use Rattle.book.specs.Reading.Calls.{firm_in, made_in}
 use Rattle.book.specs.Reading.Charges.{charged_in, accrued_in}
 use Rattle.book.specs.Reading.Decisions.{calls_below, decision, events_of}
 use Rattle.book.specs.Kept.{book_in}
@@ -36,6 +37,7 @@ pub record ReadsAs (t : ℕ) (f : File) (own : List Own) : Type 0 where
   pub cover : cover_of f t ≡ cover_in t own
   pub charged : f.charged ≡ charged_in own
   pub accrued : f.accrued ≡ accrued_in own
+  pub made : f.made ≡ made_in own
 
 -- Day d, opened after `own`, added one to the days charged and its day charge to the accrued charge exactly when the cover at that opening
 -- was below the firm amount on that day, and changed neither otherwise.
@@ -108,8 +110,10 @@ pub record Life (s : ℕ) (calls : List MadeCall) : Type 0 where
   pub openings : EachOpening s calls
   -- "a call that opened no day raised no shortfall"
   pub none_higher : EachCall s calls
-  -- the count of calls made, and today
-  pub made : (run s calls).made ≡ calls_below 64 (events_of s calls)
+  -- paper 02, Ask 6: the sum of the counts is the number of calls made to all, and "the old question" answers what it did when a book had one count
+  pub made : sum_of_counts (run s calls) ≡ calls_below 64 (events_of s calls)
+  pub as_before : (rule : Rule) → answer rule (run s calls) calls_made ≡ counted (count_before s calls)
+  -- today
   pub today : (run s calls).today.0 ≡ today_of s (events_of s calls)
 
 -- The book after a list of calls, the first of them first.

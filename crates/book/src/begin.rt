@@ -15,7 +15,7 @@ pub fn fresh(words: &mut [u64], day: Day) -> Outcome
     ensures { BegunWords day.0 (outcome_says result) words.new }
 {
     words.fill(0);
-    words[0] = 1;
+    words[0] = 2;
     if LAST_DAY < day.0 {
         return Err(Refusal::DayOutOfRange);
     }

@@ -9,7 +9,7 @@ use std::marker::Model;
 // Words that are well formed: a call or a question is lent them, and asks no more.
 #[derive(Drop)]
 pub struct BookWords {
-    pub words: [u64; 6147],
+    pub words: [u64; 6210],
 }
 
 impl Model for BookWords {
@@ -28,7 +28,7 @@ impl BookWords {
     pub fn fresh(day: Day) -> BookWords
         ensures { BegunWords day.0 (fresh_answer day.0) result }
     {
-        let mut words = [0; 6147];
+        let mut words = [0; 6210];
         let _ = begin::fresh(&mut words, day);
         BookWords { words }
     }

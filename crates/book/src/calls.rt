@@ -31,7 +31,7 @@ fn admission_answer(words: &[u64], participant: u64, role: u64) -> Outcome
     Ok(())
 }
 
-// Writes what an admission with a role leaves: the new file, and the call that its minimum makes in the count of calls made.
+// Writes what an admission with a role leaves: the new file, in which the call that its minimum makes is counted.
 #[tactic(auto, using(crate::proofs::Functions::OnWords::admitted))]
 fn put_admitted(words: &mut [u64], participant: u64, role: u64)
     requires { WellFormed words.old × (participant ≤ 63)
@@ -39,9 +39,7 @@ fn put_admitted(words: &mut [u64], participant: u64, role: u64)
     ensures { PutsAdmission words.old participant role words.new }
 {
     let file = File::admitted(role, today_of(words));
-    let made = words[2] + file.count as u64;
     put_file(words, place(participant), file);
-    words[2] = made;
 }
 
 // Admits a participant with a role. Role 1 is retired (paper 02, Ask 3): behind the other causes it is refused with 23.

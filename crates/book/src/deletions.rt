@@ -10,7 +10,6 @@ ghost use Rattle.book.specs.InWords.{GivenWords};
 use crate::view::{FileView, place};
 use file::{Deletion, File};
 use layout::files::put_file;
-use layout::parts::flag_word;
 use refusal::Refusal;
 
 impl FileView<'_> {
@@ -25,7 +24,7 @@ impl FileView<'_> {
     }
 }
 
-// Places a participant under deletion: writes its file, and counts the call if one was made.
+// Places a participant under deletion: writes its file, in which the call is counted if one was made.
 #[tactic(auto, using(crate::proofs::Functions::OnDeletions::deletes))]
 pub fn delete(words: &mut [u64], participant: u64) -> Result<Deletion, Refusal>
     requires { WellFormed words.old }
@@ -33,8 +32,6 @@ pub fn delete(words: &mut [u64], participant: u64) -> Result<Deletion, Refusal>
 {
     let (answer, file) = FileView::admitted(words, participant)?.deletion();
     let deletion = answer?;
-    let made = words[2] + flag_word(deletion.called);
     put_file(words, place(participant), file);
-    words[2] = made;
     Ok(deletion)
 }

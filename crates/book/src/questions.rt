@@ -1,13 +1,13 @@
 // The questions: what is asked of a book and leaves it as it was (paper 01, 'Statement').
-ghost use Rattle.std.specs.Prelude.{◌≡◌};
+ghost use Rattle.std.specs.Prelude.{◌≡◌, ◌<◌, length};
 ghost use Rattle.file.specs.Answer.{counted};
-ghost use Rattle.layout.specs.Words.{book_of_words};
+ghost use Rattle.layout.specs.Words.{book_length, book_of_words};
 ghost use Rattle.layout.specs.WellFormed.{WellFormed};
 ghost use Rattle.book.specs.Call.{statement, calls_made, stated_says};
 ghost use Rattle.book.specs.Account.{file_at};
 ghost use Rattle.book.specs.Reached.{Given};
 
-use crate::view::{FileView, today_of};
+use crate::view::{FileView, place, today_of};
 use calendar::Day;
 use file::Statement;
 use refusal::Refusal;
@@ -21,13 +21,19 @@ pub fn today(words: &[u64]) -> Day
     today_of(words)
 }
 
-// The count of calls made.
+// How many calls were made in all: the sum of the participants' counts (paper 02, Ask 6).
 #[tactic(auto, using(crate::proofs::Functions::OnWords::questions))]
 pub fn calls_made(words: &[u64]) -> u64
     requires { WellFormed words.now }
     ensures { Given (book_of_words words.now) calls_made (counted result) (book_of_words words.now) }
 {
-    words[2]
+    (0..64)
+        .map(
+            |participant|
+                requires { (length words.now ≡ book_length) × (participant < 64) }
+            { words[place(participant) + 9] },
+        )
+        .sum()
 }
 
 // Whether a participant is admitted.
@@ -63,5 +69,6 @@ pub fn statement(words: &[u64], participant: u64) -> Result<Statement, Refusal>
         shortfall: firm.saturating_sub(cover),
         charged: file.charged(),
         accrued: file.accrued(),
+        made: file.made(),
     })
 }

@@ -85,8 +85,8 @@ impl FileView<'_> {
 // Writes a month's total.
 // Kept: words and a place, here and below, as layout's `put_row` takes them: the C interface lends a book as one slice.
 fn put_month(words: &mut [u64], at: usize, month: Month, total: i64)
-    requires { at + 97 ≤ length words.old }
-    ensures { (words.new ≡ written words.old (at + (49 + 3 * (month.0 % 16))) (total_words (total_of month.0 total)))
+    requires { at + 98 ≤ length words.old }
+    ensures { (words.new ≡ written words.old (at + (50 + 3 * (month.0 % 16))) (total_words (total_of month.0 total)))
         × TotalBack (total_of month.0 total) }
 {
     let recorded = MonthTotal {
@@ -99,16 +99,16 @@ fn put_month(words: &mut [u64], at: usize, month: Month, total: i64)
 
 // Writes a call behind the first n, which are open. What a settlement that called leaves is said for any words, so for four open calls too.
 fn put_open_call(words: &mut [u64], at: usize, n: u64, call: OpenCall)
-    requires { (at + 97 ≤ length words.old) × (n ≤ 4) }
+    requires { (at + 98 ≤ length words.old) × (n ≤ 4) }
     ensures { (words.new
-        ≡ set (written words.old (at + (41 + 2 * n)) (open_call_words call)) (at + 4) (n + 1))
+        ≡ set (written words.old (at + (42 + 2 * n)) (open_call_words call)) (at + 4) (n + 1))
         × CallBack call }
 {
-    call.put(words, at + (41 + 2 * n as usize));
+    call.put(words, at + (42 + 2 * n as usize));
     words[at + 4] = n + 1;
 }
 
-// Writes what a settlement that called leaves: the month's total, the call, and one more in the count of calls made.
+// Writes what a settlement that called leaves: the month's total, the call, and one more in the file's count of calls made.
 // Kept: words and a number, here, in `put_settled`, `put_position` and `put_admitted`: a view lends the words shared, and these write them.
 fn put_called(words: &mut [u64], participant: u64, month: Month, call: OpenCall)
     requires { WellFormed words.old × (participant ≤ 63) }
@@ -117,10 +117,10 @@ fn put_called(words: &mut [u64], participant: u64, month: Month, call: OpenCall)
 {
     let at = place(participant);
     let n = words[at + 4];
-    let made = words[2] + 1;
+    let made = words[at + 9] + 1;
     put_month(words, at, month, call.amount.cast_signed());
     put_open_call(words, at, n, call);
-    words[2] = made;
+    words[at + 9] = made;
 }
 
 // Writes what a settlement leaves.

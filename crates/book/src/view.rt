@@ -35,7 +35,7 @@ pub fn place(participant: u64) -> usize
     requires { participant ≤ 63 }
     ensures { result ≡ place participant }
 {
-    2 + 96 * participant as usize
+    1 + 97 * participant as usize
 }
 
 // Today, by the words of a book.
@@ -80,14 +80,14 @@ impl<'a> FileView<'a> {
 
     // The place behind which its words stand.
     pub fn place(self) -> usize
-        ensures { (result ≡ place self.entry.participant) × (result + 97 ≤ length self.entry.words.now) }
+        ensures { (result ≡ place self.entry.participant) × (result + 98 ≤ length self.entry.words.now) }
     {
         place(self.participant)
     }
 
-    // One of its 96 words.
+    // One of its 97 words.
     fn word(self, k: usize) -> u64
-        requires { k ≤ 96 }
+        requires { k ≤ 97 }
         ensures { result ≡ get_or self.entry.words.now (place self.entry.participant + k) 0 }
     {
         self.words[self.place() + k]
@@ -164,6 +164,14 @@ impl<'a> FileView<'a> {
         ensures { result ≡ (file_seen self.entry).accrued }
     {
         self.word(8)
+    }
+
+    // How many calls were made.
+    #[tactic(auto, unfolding(layout::specs::Files::file_of_words))]
+    pub fn made(self) -> u64
+        ensures { result ≡ (file_seen self.entry).made }
+    {
+        self.word(9)
     }
 
     // What is held at a position.

@@ -28,29 +28,30 @@ pub record Numbers : Type 0 where
   pub third : ℕ
   pub fourth : ℕ
   pub fifth : ℕ
+  pub sixth : ℕ
 
 -- Those of an accepted call that isn't a settlement.
-abbrev pub values : ℕ → ℕ → ℕ → ℕ → ℕ → Numbers
-values a b c d e = record { refusal = 0; kind = 0; total = pos 0; first = a; second = b; third = c; fourth = d; fifth = e }
+abbrev pub values : ℕ → ℕ → ℕ → ℕ → ℕ → ℕ → Numbers
+values a b c d e f = record { refusal = 0; kind = 0; total = pos 0; first = a; second = b; third = c; fourth = d; fifth = e; sixth = f }
 
 -- Those of an accepted settlement: its kind, E, what is asked, the last free day.
 abbrev pub settlement : ℕ → ℤ → ℕ → ℕ → Numbers
-settlement k e asked last = record { refusal = 0; kind = k; total = e; first = asked; second = last; third = 0; fourth = 0; fifth = 0 }
+settlement k e asked last = record { refusal = 0; kind = k; total = e; first = asked; second = last; third = 0; fourth = 0; fifth = 0; sixth = 0 }
 
 -- The numbers of each answer. A settlement's kind is 1 called, 2 covered, 3 recorded; a value that an answer doesn't have is 0.
 abbrev pub answer_numbers : Answer → Numbers
-answer_numbers (refused n) = record { refusal = n; kind = 0; total = pos 0; first = 0; second = 0; third = 0; fourth = 0; fifth = 0 }
-answer_numbers done = values 0 0 0 0 0
+answer_numbers (refused n) = record { refusal = n; kind = 0; total = pos 0; first = 0; second = 0; third = 0; fourth = 0; fifth = 0; sixth = 0 }
+answer_numbers done = values 0 0 0 0 0 0
 answer_numbers (called e asked last) = settlement 1 (pos e) asked last
 answer_numbers (covered e) = settlement 2 e 0 0
 answer_numbers (recorded e) = settlement 3 e 0 0
-answer_numbers (annual a n) = values a n 0 0 0
-answer_numbers (days_opened n) = values n 0 0 0 0
-answer_numbers (stated f c s d a) = values f c s d a
-answer_numbers (counted n) = values n 0 0 0 0
-answer_numbers (batched n) = values n 0 0 0 0
-answer_numbers (refused_pair n i) = record { refusal = n; kind = 0; total = pos 0; first = 0; second = i; third = 0; fourth = 0; fifth = 0 }
-answer_numbers (deletion a calls) = values a (flag_word calls) 0 0 0
+answer_numbers (annual a n) = values a n 0 0 0 0
+answer_numbers (days_opened n) = values n 0 0 0 0 0
+answer_numbers (stated f c s d a m) = values f c s d a m
+answer_numbers (counted n) = values n 0 0 0 0 0
+answer_numbers (batched n) = values n 0 0 0 0 0
+answer_numbers (refused_pair n i) = record { refusal = n; kind = 0; total = pos 0; first = 0; second = i; third = 0; fourth = 0; fifth = 0; sixth = 0 }
+answer_numbers (deletion a calls) = values a (flag_word calls) 0 0 0 0
 
 -- What is returned for an answer that has no values.
 abbrev pub refusal_number : Answer → ℕ
@@ -88,9 +89,10 @@ statement_numbers x =
       shortfall = n.third;
       days_charged = n.fourth;
       accrued_mills = n.fifth;
+      calls_made = n.sixth;
     }
 
--- For the count of calls made.
+-- For the count of calls made in all.
 abbrev pub count_numbers : Answer → GuaranteeCount
 count_numbers x = let n = answer_numbers x in record { refusal = n.refusal; count = n.first }
 

@@ -5,6 +5,7 @@ use Rattle.file.specs.Answer.{Answer, refused, counted}
 use Rattle.layout.specs.Words.{book_length, book_of_words}
 use Rattle.layout.specs.WellFormed.{WellFormed}
 use Rattle.formed.specs.Decides.{Decides}
+use Rattle.formed.specs.Checks.{EarlierLayout}
 use Rattle.clib.specs.declared.fault.Fault.{Fault}
 use Rattle.clib.specs.declared.fault.Fault.TheVariants as Faults
 
@@ -37,8 +38,10 @@ pub record TodayOf (l : List ℕ) (x : Answer) (m : List ℕ) : Type 0 where
   pub day : x ≡ counted (book_of_words l).today.0
   pub unchanged : m ≡ l
 
--- The check of words: 0 for words that are well formed, 100 for others.
+-- The check of words: 0 for words that are well formed, 101 for those that a book of the layout before was saved in, 100 for others.
 pub record Checked (l : List ℕ) (r : ℕ) : Type 0 where
   pub test : Bool
   pub decides : Decides test (WellFormed l)
-  pub shown : r ≡ cond test 0 100
+  pub earlier : Bool
+  pub tells : Decides earlier (EarlierLayout l)
+  pub shown : r ≡ cond test 0 (cond earlier 101 100)

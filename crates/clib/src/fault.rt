@@ -7,6 +7,9 @@ use refusal::Refusal;
 // The refusal of words that are no book.
 pub const NOT_A_BOOK: u64 = 100;
 
+// What the check says of a book that an earlier version saved.
+pub const EARLIER_LAYOUT: u64 = 101;
+
 // The words are not as many as a book's, or the book refuses the call.
 // Kept: an error of its own, though of Option's shape: None would not say that the length is why, and a Result in a Result has two layers.
 #[derive(Clone, Copy)]

@@ -14,7 +14,7 @@ pub fn in_book<T, E, F: FnOnce(&mut [u64]) -> Result<T, E>>(
     requires { length words.old ≡ book_length → FnOnceTakesAtMut F.FnOnce call words.old }
     ensures { Lent words.old (λ answer left. FnOnceReturnsAtMut F.FnOnce call words.old answer left) result words.new }
 {
-    if words.len() != 6147 {
+    if words.len() != 6210 {
         return Err(Fault::OtherLength);
     }
     call(words).map_err(Fault::Refused)
@@ -29,7 +29,7 @@ pub fn of_book<T, E, F: FnOnce(&[u64]) -> Result<T, E>>(
     requires { length words.now ≡ book_length → FnOnceTakesAt F.FnOnce question words.now }
     ensures { Lent words.now (λ answer left. (left ≡ words.now) × FnOnceReturnsAt F.FnOnce question words.now answer) result words.now }
 {
-    if words.len() != 6147 {
+    if words.len() != 6210 {
         return Err(Fault::OtherLength);
     }
     question(words).map_err(Fault::Refused)

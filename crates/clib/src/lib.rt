@@ -60,7 +60,7 @@ pub struct GuaranteeAdvanced {
     pub opened: u64,
 }
 
-// A statement: firm amount, cover and shortfall in cents, days charged, and the accrued charge in mills.
+// A statement: firm amount, cover and shortfall in cents, days charged, the accrued charge in mills, and how many calls were made.
 #[repr(C)]
 #[derive(Clone, Copy, Default)]
 pub struct GuaranteeStatement {
@@ -70,9 +70,10 @@ pub struct GuaranteeStatement {
     pub shortfall: u64,
     pub days_charged: u64,
     pub accrued_mills: u64,
+    pub calls_made: u64,
 }
 
-// The count of calls made.
+// How many calls were made in all.
 #[repr(C)]
 #[derive(Clone, Copy, Default)]
 pub struct GuaranteeCount {

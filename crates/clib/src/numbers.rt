@@ -150,6 +150,7 @@ impl From<Result<Statement, Fault<Refusal>>> for GuaranteeStatement {
                 shortfall: statement.shortfall,
                 days_charged: statement.charged,
                 accrued_mills: statement.accrued,
+                calls_made: statement.made,
             },
             Err(fault) => GuaranteeStatement {
                 refusal: fault.number(),

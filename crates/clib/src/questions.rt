@@ -7,10 +7,10 @@ ghost use Rattle.book.specs.InWords.{GivenWords};
 ghost use Rattle.clib.specs.Numbers.{statement_numbers, count_numbers, day_numbers, special_numbers};
 ghost use Rattle.clib.specs.Returned.{FormedIfBook, Returned, TodayOf, Checked};
 
-use crate::fault::NOT_A_BOOK;
+use crate::fault::{EARLIER_LAYOUT, NOT_A_BOOK};
 use crate::lent::of_book;
 use crate::{GuaranteeCount, GuaranteeDay, GuaranteeSpecial, GuaranteeStatement};
-use formed::is_well_formed;
+use formed::{is_of_earlier_layout, is_well_formed};
 use special::{Lists, special_guarantee};
 
 // The statement of a participant.
@@ -23,7 +23,7 @@ pub extern "C" fn guarantee_statement(words: &[u64], participant: u64) -> Guaran
     of_book(words, |book| book::statement(book, participant)).into()
 }
 
-// The count of calls made.
+// How many calls were made in all: the sum of the statements' counts (paper 02, Ask 6).
 #[unsafe(no_mangle)]
 pub extern "C" fn guarantee_calls_made(words: &[u64]) -> GuaranteeCount
     requires { FormedIfBook words.now }
@@ -41,12 +41,18 @@ pub extern "C" fn guarantee_today(words: &[u64]) -> GuaranteeDay
     of_book(words, |book| Ok(book::today(book))).into()
 }
 
-// Whether words of any number and content are a book: 0 if they are, 100 if not.
+// Whether words of any number and content are a book: 0 if they are, 101 if they are those of a book that an earlier version saved, 100 if neither.
 #[unsafe(no_mangle)]
 pub extern "C" fn guarantee_check(words: &[u64]) -> u64
     ensures { Checked words.now result }
 {
-    if is_well_formed(words) { 0 } else { NOT_A_BOOK }
+    if is_well_formed(words) {
+        0
+    } else if is_of_earlier_layout(words) {
+        EARLIER_LAYOUT
+    } else {
+        NOT_A_BOOK
+    }
 }
 
 // The special guarantee: the rates of the medium and of the low voltage, a mark for each of the low voltage's, and by semester the

@@ -36,8 +36,8 @@ reason-short : (e : Reason) → length (reason_text e) ≤ 41
 reason-short Reason.ControlByte = omega arith
 reason-short e = omega arith
 
--- Every answer with its newline has at most 128 bytes.
-pub said_short : (a : Answer) → SmallNumbers a → length (said a) ≤ 128
+-- Every answer with its newline has at most 136 bytes.
+pub said_short : (a : Answer) → SmallNumbers a → length (said a) ≤ 136
 unfolding said answer_line answer_words joined spaced
 said_short Answer.Nothing h = omega arith
 said_short Answer.Done h = omega arith
@@ -48,10 +48,10 @@ said_short (Answer.Covered e) h = simp length-append (omega (arith, integer-shor
 said_short (Answer.Recorded e) h = simp length-append (omega (arith, integer-short e h))
 said_short (Answer.Annual a m) h = simp length-append (omega (arith, number_short a h.0, number_short m h.1))
 said_short (Answer.Opened d) h = simp length-append (omega (arith, number_short d h))
-said_short (Answer.Statement f c s d m) h =
+said_short (Answer.Statement f c s d m n) h =
     simp length-append
     (omega
-    (arith, number_short f h.0, number_short c h.1, number_short s h.2, number_short d h.3, number_short m h.4))
+    (arith, number_short f h.0, number_short c h.1, number_short s h.2, number_short d h.3, number_short m h.4, number_short n h.5))
 said_short (Answer.Calls n) h = simp length-append (omega (arith, number_short n h))
 said_short (Answer.Special c) h = simp length-append (omega (arith, number_short c h))
 said_short (Answer.Batch n) h = simp length-append (omega (arith, number_short n h))

@@ -56,9 +56,9 @@ role-short r =
 
 -- ---- a line of the table
 
-line-short : (p r f c s d a : ℕ) → Small p → Small f → Small c → Small s → Small d → Small a → length (line_of p r (stated f c s d a)) ≤ 160
+line-short : (p r f c s d a m : ℕ) → Small p → Small f → Small c → Small s → Small d → Small a → length (line_of p r (stated f c s d a m)) ≤ 160
 unfolding line_of table_line in_columns joined spaced
-line-short p r f c s d a hp hf hc hs hd ha =
+line-short p r f c s d a m hp hf hc hs hd ha =
     simp length-append
     (omega (
       arith,
@@ -98,7 +98,7 @@ row-short b p r eight h =
     (λ g.
     rw g
     (line-short p (file_at b p).role (file_at b p).firm (cover_of (file_at b p) b.today.0) ((file_at b p).firm - cover_of (file_at b p) b.today.0)
-    (file_at b p).charged (file_at b p).accrued h (omega (arith, s.firm)) (omega arith) (omega (arith, s.firm)) (omega (arith, s.charged, s.day))
+    (file_at b p).charged (file_at b p).accrued (file_at b p).made h (omega (arith, s.firm)) (omega arith) (omega (arith, s.firm)) (omega (arith, s.charged, s.day))
     (omega (arith, s.accrued, s.charged, s.day))))))
 
 rows_short : (n : ℕ) (b : Book) → SoundBook b → ((p : ℕ) → length (file_at b p).slots ≡ 8) → n ≤ 64 → length (rows n b) ≤ n * 160

@@ -29,7 +29,7 @@ SmallNumbers (Answer.Covered e) = Small (mag e)
 SmallNumbers (Answer.Recorded e) = Small (mag e)
 SmallNumbers (Answer.Annual a m) = Small a × Small m
 SmallNumbers (Answer.Opened d) = Small d
-SmallNumbers (Answer.Statement f c s d m) = Small f × Small c × Small s × Small d × Small m
+SmallNumbers (Answer.Statement f c s d m n) = Small f × Small c × Small s × Small d × Small m × Small n
 SmallNumbers (Answer.Calls n) = Small n
 SmallNumbers (Answer.Special c) = Small c
 SmallNumbers (Answer.Batch n) = Small n
@@ -58,7 +58,7 @@ tabled r b = cond (wants_table r) (report_text b) []
 -- What is said and what is shown, written, and the most bytes of each.
 pub record Said (a : Answer) (e f : Sheet) : Type 0 where
   pub put : f ≡ followed e (said a)
-  pub most : length (said a) ≤ 128
+  pub most : length (said a) ≤ 136
 
 pub record Tabled (request : Request) (b : Book) (e f : Sheet) : Type 0 where
   pub put : f ≡ followed e (tabled request b)

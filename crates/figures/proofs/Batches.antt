@@ -19,8 +19,8 @@ use Rattle.file.specs.Position.{counts_through, cover_through, cover_on, emptied
 use Rattle.file.specs.Settle.{outside_months, check_due, deposited, settlement_calls, settled_answer, settle_answer, calls_settled, settled_file}
 use Rattle.file.specs.Statement.{file_statement}
 use Rattle.file.specs.Totals.{total_here, total_at, with_total, totals_from}
-use Rattle.book.specs.Account.{fresh_book, file_at, with_file, if_numbered, if_admitted, file_answer, file_after, calls_added, opened_if_admitted, open_day}
-use Rattle.book.specs.Account.{open_days, answer, applied, step, run}
+use Rattle.book.specs.Account.{fresh_book, file_at, with_file, sum_of_counts, if_numbered, if_admitted, file_answer, file_after, opened_if_admitted}
+use Rattle.book.specs.Account.{open_day, open_days, answer, applied, step, run}
 use Rattle.book.specs.Reading.Calls.{base_in, firm_from, open_on, called_in, calls_in, firm_in, open_in}
 use Rattle.book.specs.Reading.Charges.{before, opening_shortfall, days_since, count_short, sum_charges, charged_in, accrued_in}
 use Rattle.book.specs.Reading.Decisions.{settlement_answer, own_causes, own_answer, own_statement, calls_below, decision, with_call, events_of}
@@ -43,8 +43,8 @@ unfolding decide larger sum_of leap length_in length_of first_day holding month_
     minimum_of calls_of_admission admitted_file annual_totals annual_amount_of annual_answer annual_file largest in_places keep open_calls cover_of
     shortfall_of slots_opened calls_opened firm_raised takes_effect firm_opened next_opened shortfall_opened opened_file counts_through cover_through
     cover_on emptied_on outside_amounts outside_months check_due deposited settlement_calls settled_answer settle_answer calls_settled settled_file
-    file_statement total_here total_at with_total totals_from fresh_book file_at with_file if_numbered if_admitted file_answer file_after calls_added
-    opened_if_admitted open_day open_days answer applied step run base_in firm_from open_on called_in calls_in firm_in open_in before
+    file_statement total_here total_at with_total totals_from fresh_book file_at with_file sum_of_counts if_numbered if_admitted file_answer
+    file_after opened_if_admitted open_day open_days answer applied step run base_in firm_from open_on called_in calls_in firm_in open_in before
     opening_shortfall days_since count_short sum_charges charged_in accrued_in settlement_answer own_causes own_answer own_statement calls_below
     decision with_call events_of mine today_of with_days admitted_in leaving_in role_in last_lodged released_since left_at position_in lodged_where
     released_where cover_in deposited_in total_in years_totals annual_in next_in least number_at signed_of month_in count_in offset_at length_at

@@ -14,6 +14,7 @@ use Rattle.figures.proofs.UnderDeletion.{under-deletion}
 use Rattle.figures.proofs.DeletionLaws.{deletion-laws}
 use Rattle.figures.proofs.Retirement.{retirement}
 use Rattle.figures.proofs.RetirementLaws.{retirement-laws}
+use Rattle.figures.proofs.Counts.{counts}
 
 pub boundaries : Boundaries
 boundaries =
@@ -31,4 +32,5 @@ boundaries =
       deletion_laws = deletion-laws;
       retirement = retirement;
       retirement_laws = retirement-laws;
+      counts = counts;
     }

@@ -12,6 +12,7 @@ pub mod Deletions
 pub mod UnderDeletion
 pub mod Retirement
 pub mod RetirementLaws
+pub mod Counts
 pub mod Autumn
 pub mod RisingCalls
 pub mod OpenCalls

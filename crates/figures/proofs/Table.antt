@@ -27,7 +27,7 @@ use Rattle.file.specs.Release.{release_floor, slots_left, release_answer, releas
 use Rattle.file.specs.Settle.{outside_months, check_due, deposited, settlement_calls, settled_answer, settle_answer, calls_settled, settled_file}
 use Rattle.file.specs.Statement.{file_statement}
 use Rattle.file.specs.Totals.{total_here, total_at, with_total, totals_from}
-use Rattle.book.specs.Account.{fresh_book, file_at, with_file, if_numbered, if_admitted, file_answer, file_after, calls_added, opened_if_admitted, open_day}
+use Rattle.book.specs.Account.{fresh_book, file_at, with_file, if_numbered, if_admitted, file_answer, file_after, opened_if_admitted, open_day}
 use Rattle.book.specs.Account.{open_days, answer, applied, step, run}
 use Rattle.book.specs.Reading.Calls.{base_in, firm_from, open_on, called_in, calls_in, firm_in, open_in}
 use Rattle.book.specs.Reading.Charges.{before, opening_shortfall, days_since, count_short, sum_charges, charged_in, accrued_in}
@@ -46,8 +46,8 @@ unfolding decide every larger sum_of insert falling three_largest mean_of_three 
     shortfall_of lodge_answer lodged_file slots_opened calls_opened firm_raised takes_effect firm_opened next_opened shortfall_opened opened_file
     counts_through cover_through cover_on emptied_on outside_amounts release_floor slots_left release_answer released_file outside_months check_due
     deposited settlement_calls settled_answer settle_answer calls_settled settled_file file_statement total_here total_at with_total totals_from
-    fresh_book file_at with_file if_numbered if_admitted file_answer file_after calls_added opened_if_admitted open_day open_days answer applied step
-    run base_in firm_from open_on called_in calls_in firm_in open_in before opening_shortfall days_since count_short sum_charges charged_in accrued_in
+    fresh_book file_at with_file if_numbered if_admitted file_answer file_after opened_if_admitted open_day open_days answer applied step run base_in
+    firm_from open_on called_in calls_in firm_in open_in before opening_shortfall days_since count_short sum_charges charged_in accrued_in
     settlement_answer own_causes own_answer own_statement calls_below decision with_call events_of mine today_of with_days admitted_in leaving_in
     role_in last_lodged released_since left_at position_in lodged_where released_where cover_in deposited_in total_in years_totals annual_in next_in
     newest_first accrued_by accrued_of shortfalls

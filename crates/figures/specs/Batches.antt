@@ -103,10 +103,10 @@ pub record Batches : Type 0 where
   pub deposited-made : decides 60 (admits 3 ∷ letter 0 100 60 71 ∷ batch one_of100 ∷ []) calls_made ≡ counted 0
   pub not-deposited-made : decides 60 (admits 3 ∷ letter 0 100 60 70 ∷ batch one_of100 ∷ []) calls_made ≡ counted 1
   -- the call's last free day is day 70
-  pub last-free-day : decides 60 (admits 3 ∷ batch one_of100 ∷ to_day 70 ∷ []) (statement 0) ≡ stated 0 0 0 0 0
-  pub firm : decides 60 (admits 3 ∷ batch one_of100 ∷ to_day 71 ∷ []) (statement 0) ≡ stated 100 0 100 1 100000000
-  pub second-firm : decides 60 (producers ++ loads_two 100 200 ∷ to_day 71 ∷ []) (statement 1) ≡ stated 200 0 200 1 100000000
-  pub refused-firm : decides 60 (admits 3 ∷ loads_two 100 200 ∷ to_day 71 ∷ []) (statement 0) ≡ stated 0 0 0 0 0
+  pub last-free-day : decides 60 (admits 3 ∷ batch one_of100 ∷ to_day 70 ∷ []) (statement 0) ≡ stated 0 0 0 0 0 1
+  pub firm : decides 60 (admits 3 ∷ batch one_of100 ∷ to_day 71 ∷ []) (statement 0) ≡ stated 100 0 100 1 100000000 1
+  pub second-firm : decides 60 (producers ++ loads_two 100 200 ∷ to_day 71 ∷ []) (statement 1) ≡ stated 200 0 200 1 100000000 1
+  pub refused-firm : decides 60 (admits 3 ∷ loads_two 100 200 ∷ to_day 71 ∷ []) (statement 0) ≡ stated 0 0 0 0 0 0
   -- the total is recorded for the file's month: day 244 is 1 September 2020, and June is month 5
   pub recorded : decides 244 (admits 3 ∷ loads 5 (part 0 of243 ∷ []) ∷ []) runs_annual ≡ annual 243 1
   -- ---- "A batch counts in the history as its settlements, all or none": made today
@@ -140,7 +140,7 @@ pub record Batches : Type 0 where
   pub book-two-made : answers 60 (producers ++ loads_two 100 200 ∷ []) calls_made ≡ counted 2
   pub book-one-made : answers 60 (producers ++ loads_two 0 200 ∷ []) calls_made ≡ counted 1
   pub book-refused-made : answers 60 (admits 3 ∷ loads_two 100 200 ∷ []) calls_made ≡ counted 0
-  pub book-firm : answers 60 (admits 3 ∷ batch one_of100 ∷ to_day 71 ∷ []) (statement 0) ≡ stated 100 0 100 1 100000000
+  pub book-firm : answers 60 (admits 3 ∷ batch one_of100 ∷ to_day 71 ∷ []) (statement 0) ≡ stated 100 0 100 1 100000000 1
   pub book-recorded : answers 244 (admits 3 ∷ loads 5 (part 0 of243 ∷ []) ∷ []) runs_annual ≡ annual 243 1
   -- ".. and the book is then as before"
   pub book-as-before : run 60 (history [] (loads_two 100 200 ∷ admits 3 ∷ [])) ≡ run 60 (history [] (admits 3 ∷ []))

@@ -1,7 +1,7 @@
 -- Facts worked out by hand on each side of every bound and condition of the definitions that the book's account and the reading of the history
 -- share, and of the special guarantee, which has one account. A mistake in one of these would be the same in both accounts, so that the claim
 -- about all histories could not show it. Each fact has the sentence of paper 01 or 02 that it is worked out from; proofs/Boundaries.antt closes them.
--- `RetirementLaws` and `DeletionLaws` have, beside the facts about Asks 3 and 4, what holds of every history.
+-- `RetirementLaws` and `DeletionLaws` have, beside the facts about Asks 3 and 4, what holds of every history; `Counts` has both of Ask 6.
 -- Assumes nothing.
 use Rattle.figures.specs.Dates.{Dates}
 use Rattle.figures.specs.Positions.{Positions}
@@ -16,6 +16,7 @@ use Rattle.figures.specs.UnderDeletion.{UnderDeletion}
 use Rattle.figures.specs.DeletionLaws.{DeletionLaws}
 use Rattle.figures.specs.Retirement.{Retirement}
 use Rattle.figures.specs.RetirementLaws.{RetirementLaws}
+use Rattle.figures.specs.Counts.{Counts}
 
 pub record Boundaries : Type 0 where
   pub dates : Dates
@@ -31,3 +32,4 @@ pub record Boundaries : Type 0 where
   pub deletion_laws : DeletionLaws
   pub retirement : Retirement
   pub retirement_laws : RetirementLaws
+  pub counts : Counts

@@ -208,33 +208,33 @@ pub record Decisions : Type 0 where
   pub statement-participant : decides 0 [] (statement 64) ≡ refused 1
   pub statement-not-admitted : decides 0 [] (statement 63) ≡ refused 2
   -- "A minimum above 0 becomes an open call with last free day t + 10": day 10 is free, day 11 is charged
-  pub last-free-day : decides 0 (admits 0 ∷ to_day 10 ∷ []) (statement 0) ≡ stated 0 0 0 0 0
-  pub first-charged-day : decides 0 firm_supplier (statement 0) ≡ stated 2000000 0 2000000 1 100000000
+  pub last-free-day : decides 0 (admits 0 ∷ to_day 10 ∷ []) (statement 0) ≡ stated 0 0 0 0 0 1
+  pub first-charged-day : decides 0 firm_supplier (statement 0) ≡ stated 2000000 0 2000000 1 100000000 1
   -- "firm amount less cover, never below 0"
-  pub no-shortfall : decides 0 (admits 0 ∷ cash 0 2000001 ∷ to_day 11 ∷ []) (statement 0) ≡ stated 2000000 2000001 0 0 0
-  pub one-cent-short : decides 0 (admits 0 ∷ cash 0 1999999 ∷ to_day 11 ∷ []) (statement 0) ≡ stated 2000000 1999999 1 1 100000000
+  pub no-shortfall : decides 0 (admits 0 ∷ cash 0 2000001 ∷ to_day 11 ∷ []) (statement 0) ≡ stated 2000000 2000001 0 0 0 1
+  pub one-cent-short : decides 0 (admits 0 ∷ cash 0 1999999 ∷ to_day 11 ∷ []) (statement 0) ≡ stated 2000000 1999999 1 1 100000000 1
   -- what is lodged today counts from now on, and at the next opening
-  pub paid-today : decides 0 (firm_supplier ++ cash 0 2000000 ∷ []) (statement 0) ≡ stated 2000000 2000000 0 1 100000000
-  pub day-after-payment : decides 0 (firm_supplier ++ cash 0 2000000 ∷ to_day 12 ∷ []) (statement 0) ≡ stated 2000000 2000000 0 1 100000000
+  pub paid-today : decides 0 (firm_supplier ++ cash 0 2000000 ∷ []) (statement 0) ≡ stated 2000000 2000000 0 1 100000000 1
+  pub day-after-payment : decides 0 (firm_supplier ++ cash 0 2000000 ∷ to_day 12 ∷ []) (statement 0) ≡ stated 2000000 2000000 0 1 100000000 1
   -- a letter covers its last day, and not the day after
-  pub letter-covers : decides 0 (admits 0 ∷ letter 0 2000000 0 11 ∷ to_day 11 ∷ []) (statement 0) ≡ stated 2000000 2000000 0 0 0
+  pub letter-covers : decides 0 (admits 0 ∷ letter 0 2000000 0 11 ∷ to_day 11 ∷ []) (statement 0) ≡ stated 2000000 2000000 0 0 0 1
   pub letter-no-longer :
-      decides 0 (admits 0 ∷ letter 0 2000000 0 11 ∷ to_day 12 ∷ []) (statement 0) ≡ stated 2000000 0 2000000 1 100000000
+      decides 0 (admits 0 ∷ letter 0 2000000 0 11 ∷ to_day 12 ∷ []) (statement 0) ≡ stated 2000000 0 2000000 1 100000000 1
   -- 'Readings that 002 tempts one into': "Letting a new call put off an older one": the minimum of day 60 is firm on day 71, though a call
   -- was made on day 65
   pub not-put-off : decides 60 (admits 0 ∷ to_day 65 ∷ settles 0 3000000 ∷ to_day 71 ∷ []) (statement 0)
-      ≡ stated 2000000 0 2000000 1 100000000
+      ≡ stated 2000000 0 2000000 1 100000000 2
   -- ".. and the firm amount raised to it if lower": on day 76 to the other
   pub raised : decides 60 (admits 0 ∷ to_day 65 ∷ settles 0 3000000 ∷ to_day 76 ∷ []) (statement 0)
-      ≡ stated 3000000 0 3000000 6 600000000
+      ≡ stated 3000000 0 3000000 6 600000000 2
   -- "if d is 1 October and the next amount is set, the firm amount becomes it, even if lower": on 30 September 500 is firm, on 1 October 100
-  pub before-october : decides 213 (lower_october ++ to_day 273 ∷ []) (statement 0) ≡ stated 500 0 500 50 5000000000
-  pub on-october : decides 213 (lower_october ++ to_day 274 ∷ []) (statement 0) ≡ stated 100 0 100 51 5100000000
+  pub before-october : decides 213 (lower_october ++ to_day 273 ∷ []) (statement 0) ≡ stated 500 0 500 50 5000000000 1
+  pub on-october : decides 213 (lower_october ++ to_day 274 ∷ []) (statement 0) ≡ stated 100 0 100 51 5100000000 1
   -- ".. and it is unset": a call of 960 in October 2020 is firm on day 285, and still on 1 October 2021, when there is no next amount
   pub taken-once :
       decides 244 (next_of500 ++ cash 0 800 ∷ to_day 274 ∷ settles 7 960 ∷ cash 1 160 ∷ to_day 639 ∷ []) (statement 0)
-      ≡ stated 960 960 0 0 0
-  -- ---- "one count of calls made, admissions' calls included"
+      ≡ stated 960 960 0 0 0 1
+  -- ---- "one count of calls made, admissions' calls included", which since paper 02, Ask 6 is the sum of the counts: `Counts`
   pub none_made : decides 0 (admits 3 ∷ []) calls_made ≡ counted 0
   pub admission-made : decides 0 (admits 0 ∷ []) calls_made ≡ counted 1
   pub settlement-made : decides 60 (admits 0 ∷ settles 0 3000000 ∷ []) calls_made ≡ counted 2

@@ -51,12 +51,12 @@ pub record Deposits : Type 0 where
   pub not_made : decides 60 (admits 3 ∷ letter 0 100 60 71 ∷ settles 0 100 ∷ []) calls_made ≡ counted 0
   pub fifth-call : decides 60 (four_totals 70) (settles 0 500) ≡ refused 13
   pub no-fifth-call : decides 60 (four_totals 71) (settles 0 500) ≡ covered (pos 500)
-  pub firm : decides 60 (admits 3 ∷ letter 0 100 60 70 ∷ settles 0 100 ∷ to_day 71 ∷ []) (statement 0) ≡ stated 100 0 100 1 100000000
-  pub not-firm : decides 60 (admits 3 ∷ letter 0 100 60 71 ∷ settles 0 100 ∷ to_day 71 ∷ []) (statement 0) ≡ stated 0 100 0 0 0
+  pub firm : decides 60 (admits 3 ∷ letter 0 100 60 70 ∷ settles 0 100 ∷ to_day 71 ∷ []) (statement 0) ≡ stated 100 0 100 1 100000000 1
+  pub not-firm : decides 60 (admits 3 ∷ letter 0 100 60 71 ∷ settles 0 100 ∷ to_day 71 ∷ []) (statement 0) ≡ stated 0 100 0 0 0 0
   -- ---- "The release rule and the day charge keep today's cover", and so does a statement: a letter until today counts
   pub release-rule : decides 60 (admits 0 ∷ letter 0 2000000 60 60 ∷ cash 1 1 ∷ []) (releases 1 1) ≡ done
-  pub cover-today : decides 60 (admits 3 ∷ letter 0 100 60 60 ∷ []) (statement 0) ≡ stated 0 100 0 0 0
-  pub not-charged : decides 60 (admits 0 ∷ letter 0 2000000 60 71 ∷ to_day 71 ∷ []) (statement 0) ≡ stated 2000000 2000000 0 0 0
+  pub cover-today : decides 60 (admits 3 ∷ letter 0 100 60 60 ∷ []) (statement 0) ≡ stated 0 100 0 0 0 0
+  pub not-charged : decides 60 (admits 0 ∷ letter 0 2000000 60 71 ∷ to_day 71 ∷ []) (statement 0) ≡ stated 2000000 2000000 0 0 0 1
   -- ---- "the starred check figures hold for cash": "In the checks the firm amount is D and no call is open."
   pub starred-covered : decides 60 (paid 77372900) (settles 0 75446400) ≡ covered (pos 75446400)
   pub starred-called : decides 60 (paid 77372900) (settles 0 93679500) ≡ called 93679500 16306600 81

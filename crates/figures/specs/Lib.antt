@@ -15,4 +15,5 @@ pub mod UnderDeletion
 pub mod DeletionLaws
 pub mod Retirement
 pub mod RetirementLaws
+pub mod Counts
 pub mod Boundaries

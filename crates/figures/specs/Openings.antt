@@ -1,6 +1,6 @@
 -- Which openings change more of a file than its charges, and the charges after the others, at their bounds (paper 01, 'Advance'; paper 02, Ask 5).
 -- Assumes nothing.
-use Rattle.std.specs.Prelude.{ℕ, ◌≡◌, true, false, List, [], ◌∷◌, map, length}
+use Rattle.std.specs.Prelude.{ℕ, suc, ◌≡◌, true, false, List, [], ◌∷◌, map, length}
 use Rattle.file.specs.declared.Position.{Position}
 use Rattle.file.specs.declared.Position.TheVariants.{Empty, Cash}
 use Rattle.file.specs.declared.OpenCall.{OpenCall}
@@ -12,7 +12,8 @@ use Rattle.file.specs.Fields.{unset, set_to}
 use Rattle.file.specs.Charges.{changes_on, charges_after}
 use Rattle.figures.specs.Positions.{letter_with}
 
--- An admitted Producer's file with this firm amount, these positions, these open calls and this next amount, charged for two days.
+-- An admitted Producer's file with this firm amount, these positions, these open calls and this next amount, charged for two days; besides the open
+-- calls one was made, that of the firm amount.
 abbrev pub with_parts : ℕ → List Position → List OpenCall → NextAmount → File
 with_parts firm positions calls next =
     record {
@@ -27,6 +28,7 @@ with_parts firm positions calls next =
       totals = [];
       charged = 2;
       accrued = 250000000;
+      made = suc (length calls);
     }
 
 -- .. with these positions alone, and with these open calls alone.

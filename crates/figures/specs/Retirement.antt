@@ -106,7 +106,7 @@ pub record Retirement : Type 0 where
   pub refused-happened : happened 0 (admits 1 ∷ []) ≡ []
   -- .. and free to be admitted with another role: a Trader's minimum, €10,000, is firm on day 11
   pub refused-then : decides 0 (admits 1 ∷ []) (admits 2) ≡ done
-  pub refused-then-firm : decides 0 (admits 1 ∷ admits 2 ∷ to_day 11 ∷ []) (statement 0) ≡ stated 1000000 0 1000000 1 100000000
+  pub refused-then-firm : decides 0 (admits 1 ∷ admits 2 ∷ to_day 11 ∷ []) (statement 0) ≡ stated 1000000 0 1000000 1 100000000 1
   -- ---- "Files that have the role keep it, their minimum": €20,000, an open call of day 213 with last free day t + 10, day 223
   pub made : decides_first 213 (admits 1 ∷ []) calls_made ≡ counted 1
   pub made-since : decides_behind 213 began_in_part [] calls_made ≡ counted 1
@@ -122,16 +122,16 @@ pub record Retirement : Type 0 where
   -- .. the firm amount, on day 224
   pub release-firm-left : decides_behind 213 (admits 1 ∷ cash 0 2000001 ∷ []) (to_day 224 ∷ []) (releases 0 1) ≡ done
   pub release-firm-short : decides_behind 213 (admits 1 ∷ cash 0 2000001 ∷ []) (to_day 224 ∷ []) (releases 0 2) ≡ refused 16
-  -- ---- "its figures are read as ever": the worked life, by its five figures. €5,000 are lodged; day 223 is free, and on day 224 2,000,000 is firm,
+  -- ---- "its figures are read as ever": the worked life, by its six figures. €5,000 are lodged; day 223 is free, and on day 224 2,000,000 is firm,
   -- with a shortfall of 2,000,000 − 500,000 = 1,500,000, whose day charge is the least one, 100,000,000 mills
-  pub began : decides_behind 213 began_in_part [] (statement 0) ≡ stated 0 500000 0 0 0
-  pub last-free-day : decides_behind 213 began_in_part (to_day 223 ∷ []) (statement 0) ≡ stated 0 500000 0 0 0
-  pub first-charged-day : decides_behind 213 began_in_part (to_day 224 ∷ []) (statement 0) ≡ stated 2000000 500000 1500000 1 100000000
+  pub began : decides_behind 213 began_in_part [] (statement 0) ≡ stated 0 500000 0 0 0 1
+  pub last-free-day : decides_behind 213 began_in_part (to_day 223 ∷ []) (statement 0) ≡ stated 0 500000 0 0 0 1
+  pub first-charged-day : decides_behind 213 began_in_part (to_day 224 ∷ []) (statement 0) ≡ stated 2000000 500000 1500000 1 100000000 1
   -- .. the days 224, 225 and 226: 3 × 100,000,000
-  pub third-charged-day : decides_behind 213 began_in_part (to_day 226 ∷ []) (statement 0) ≡ stated 2000000 500000 1500000 3 300000000
+  pub third-charged-day : decides_behind 213 began_in_part (to_day 226 ∷ []) (statement 0) ≡ stated 2000000 500000 1500000 3 300000000 1
   -- .. had the rest been lodged then, day 227 would cost nothing
   pub had-it-paid : decides_behind 213 began_in_part (to_day 226 ∷ cash 1 1500000 ∷ to_day 227 ∷ []) (statement 0)
-      ≡ stated 2000000 2000000 0 3 300000000
+      ≡ stated 2000000 2000000 0 3 300000000 1
   -- On day 226, in August, June is P − 2. "A call is made when E > D, 5 × E ≥ 6 × D, E exceeds the firm amount and E exceeds every open call": D is
   -- 500,000, 2,000,000 is firm and no call is open; asked 122,000,000 − 500,000, last free day 236
   pub settle-at-firm : decides_behind 213 began_in_part (to_day 226 ∷ []) (settles 5 2000000) ≡ covered (pos 2000000)
@@ -140,13 +140,13 @@ pub record Retirement : Type 0 where
   pub settle-made : decides_behind 213 began_in_part called_since calls_made ≡ counted 2
   -- .. the days 224 to 236 are thirteen, of 100,000,000 each; on day 237 the shortfall is 122,000,000 − 500,000 = 121,500,000, and so is the day
   -- charge in mills: 1,300,000,000 + 121,500,000
-  pub before-firm : decides_behind 213 began_in_part (called_since ++ to_day 236 ∷ []) (statement 0) ≡ stated 2000000 500000 1500000 13 1300000000
+  pub before-firm : decides_behind 213 began_in_part (called_since ++ to_day 236 ∷ []) (statement 0) ≡ stated 2000000 500000 1500000 13 1300000000 2
   pub called-firm : decides_behind 213 began_in_part (called_since ++ to_day 237 ∷ []) (statement 0)
-      ≡ stated 122000000 500000 121500000 14 1421500000
+      ≡ stated 122000000 500000 121500000 14 1421500000 2
   -- .. €1,200,000 lodged on day 237 leave 122,000,000 − 120,500,000 = 1,500,000 short; day 238 adds 100,000,000
-  pub paid-today : decides_behind 213 began_in_part paid_since (statement 0) ≡ stated 122000000 120500000 1500000 14 1421500000
+  pub paid-today : decides_behind 213 began_in_part paid_since (statement 0) ≡ stated 122000000 120500000 1500000 14 1421500000 2
   pub day-after : decides_behind 213 began_in_part (paid_since ++ to_day 238 ∷ []) (statement 0)
-      ≡ stated 122000000 120500000 1500000 15 1521500000
+      ≡ stated 122000000 120500000 1500000 15 1521500000 2
   -- A check on day 237: D is 120,500,000, and 5 × 144,600,000 = 723,000,000 = 6 × D; asked 24,100,000, last free day 247
   pub settle-covered : decides_behind 213 began_in_part paid_since (settles 5 144599999) ≡ covered (pos 144599999)
   pub settle-at-20 : decides_behind 213 began_in_part paid_since (settles 5 144600000) ≡ called 144600000 24100000 247
@@ -162,8 +162,8 @@ pub record Retirement : Type 0 where
   -- .. the days 224 to 273 are fifty, day 237 of 121,500,000 and 49 of 100,000,000: 5,021,500,000. On day 274, 1 October, "the firm amount becomes
   -- it, even if lower"
   pub before-october : decides_behind 213 began_in_part (ran_since ++ to_day 273 ∷ []) (statement 0)
-      ≡ stated 122000000 120500000 1500000 50 5021500000
-  pub on-october : decides_behind 213 began_in_part (ran_since ++ to_day 274 ∷ []) (statement 0) ≡ stated 2000000 120500000 0 50 5021500000
+      ≡ stated 122000000 120500000 1500000 50 5021500000 2
+  pub on-october : decides_behind 213 began_in_part (ran_since ++ to_day 274 ∷ []) (statement 0) ≡ stated 2000000 120500000 0 50 5021500000 2
   -- .. and 118,500,000 of the 120,500,000 may be released
   pub october-left : decides_behind 213 began_in_part (ran_since ++ to_day 274 ∷ []) (releases 1 118500000) ≡ done
   pub october-short : decides_behind 213 began_in_part (ran_since ++ to_day 274 ∷ []) (releases 1 118500001) ≡ refused 16
@@ -184,12 +184,12 @@ pub record Retirement : Type 0 where
   pub next-left : decides_behind 244 ran_first [] (releases 0 1) ≡ done
   pub next-short : decides_behind 244 ran_first [] (releases 0 2) ≡ refused 16
   -- .. the minimum is firm from day 255 on, and on 1 October the next amount
-  pub next-september : decides_behind 244 ran_first (to_day 273 ∷ []) (statement 0) ≡ stated 2000000 3000001 0 0 0
-  pub next-october : decides_behind 244 ran_first (to_day 274 ∷ []) (statement 0) ≡ stated 3000000 3000001 0 0 0
+  pub next-september : decides_behind 244 ran_first (to_day 273 ∷ []) (statement 0) ≡ stated 2000000 3000001 0 0 0 1
+  pub next-october : decides_behind 244 ran_first (to_day 274 ∷ []) (statement 0) ≡ stated 3000000 3000001 0 0 0 1
   -- .. unless one since replaces it
   pub next-replaced : decides_behind 244 ran_first (settles 5 2500000 ∷ []) runs_annual ≡ annual 2500000 1
   pub next-replaced-october : decides_behind 244 ran_first (settles 5 2500000 ∷ runs_annual ∷ to_day 274 ∷ []) (statement 0)
-      ≡ stated 2500000 3000001 0 0 0
+      ≡ stated 2500000 3000001 0 0 0 1
   -- ---- Roles 0 and 1 are otherwise alike: "0 Supplier and 1 Self-Supplied Customer €20,000"
   pub same-minimum : minimum_of 1 ≡ minimum_of 0
   pub minimum-1 : minimum_of 1 ≡ 2000000

@@ -76,6 +76,7 @@ with_firm f firm =
       totals = f.totals;
       charged = f.charged;
       accrued = f.accrued;
+      made = f.made;
     }
 
 abbrev pub with_call : File → OpenCall → File
@@ -92,6 +93,7 @@ with_call f c =
       totals = f.totals;
       charged = f.charged;
       accrued = f.accrued;
+      made = f.made;
     }
 
 -- one more call is passed: it ends and raises the firm amount, or it takes the next place
@@ -157,6 +159,7 @@ pub calls_none : (d : ℕ) (f : File)
       totals = f.totals;
       charged = f.charged;
       accrued = f.accrued;
+      made = f.made;
     }
     ≡ calls_passed d f []
 unfolding calls_passed keep largest in_places
@@ -237,6 +240,7 @@ module _ (f : File) (d : ℕ) (slots : List Slot) (slots-is : slots ≡ map (slo
           totals = h.totals;
           charged = after.charged;
           accrued = after.accrued;
+          made = h.made;
         }
         ≡ opened_file f d
     unfolding opened_file calls_opened firm_opened firm_raised next_opened takes_effect open_calls slots_opened next_taken calls_ended calls_passed

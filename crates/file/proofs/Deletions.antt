@@ -54,6 +54,7 @@ leave f =
       totals = f.totals;
       charged = f.charged;
       accrued = f.accrued;
+      made = f.made;
     }
 
 abbrev pub with_call : File → OpenCall → File
@@ -70,6 +71,7 @@ with_call f c =
       totals = f.totals;
       charged = f.charged;
       accrued = f.accrued;
+      made = f.made + 1;
     }
 
 module _ (f : File) (t : ℕ) where
@@ -103,17 +105,23 @@ module _ (f : File) (t : ℕ) where
       accepts : deletion_answer f t ≡ deletion amount calls
       accepts = behind ∙ cond-false _ (refused 13) _ (ap (λ (b : Bool). b && leb 4 (length (open_calls f))) is ∙ room)
 
-      left : (g : File) (l : List OpenCall) → calls_deleted f t ≡ l → with_deletion f l ≡ leave g
+      left : (g : File) (l : List OpenCall) → calls_deleted f t ≡ l → with_deletion f l (cond c 1 0) ≡ leave g
           → (deletion amount calls ≡ deletion_answer f t) × (leave g ≡ deleted_file f t)
       unfolding deleted_file
-      left g l e h = (sym accepts, sym h ∙ ap (with_deletion f) (sym e) ∙ sym (cond-true _ _ f (ap accepted accepts)))
+      left g l e h = (
+        sym accepts,
+        sym h
+            ∙ (λ i. with_deletion f (sym e i) (cond (sym (whether ∙ is) i) 1 0))
+            ∙ sym (cond-true _ _ f (ap accepted accepts)),
+      )
 
     -- placed, and not called: the open calls are as they were
     pub deletion-uncalled : calls ≡ false → (g : File) → g ≡ f → (deletion amount calls ≡ deletion_answer f t) × (leave g ≡ deleted_file f t)
     unfolding calls_deleted
     deletion-uncalled h g e =
         left false h refl g (open_calls f) (cond-false (deletion_calls f t) _ (open_calls f) (whether ∙ h))
-        ((λ i. record {
+        (let none : f.made + 0 ≡ f.made = omega arith in
+        (λ i. record {
           admitted = f.admitted;
           leaving = true;
           role = f.role;
@@ -125,6 +133,7 @@ module _ (f : File) (t : ℕ) where
           totals = f.totals;
           charged = f.charged;
           accrued = f.accrued;
+          made = none i;
         })
         ∙ ap leave (sym e))
 
@@ -160,5 +169,6 @@ module _ (f : File) (t : ℕ) where
           totals = f.totals;
           charged = f.charged;
           accrued = f.accrued;
+          made = f.made + 1;
         })
         ∙ ap leave (sym e))

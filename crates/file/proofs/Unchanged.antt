@@ -95,4 +95,5 @@ module _ (f : File) (t d : ℕ) (s : Sound t f) (h : changes_on d f ≡ false) w
         totals = f.totals;
         charged = (charges_after f d).charged;
         accrued = (charges_after f d).accrued;
+        made = f.made;
       })

@@ -29,9 +29,10 @@ no_file =
       totals = replicate 16 no_total;
       charged = 0;
       accrued = 0;
+      made = 0;
     }
 
--- The file of a participant admitted on day t.
+-- The file of a participant admitted on day t. Paper 02, Ask 6, of its count of calls made: "its admission's .. included".
 unfoldable pub admitted_file : ℕ → ℕ → File
 admitted_file t role =
     record {
@@ -46,4 +47,5 @@ admitted_file t role =
       totals = replicate 16 no_total;
       charged = 0;
       accrued = 0;
+      made = length (calls_of_admission t role);
     }

@@ -29,9 +29,9 @@ pub data Answer : Type 0 where
   annual : ℕ → ℕ → Answer
   -- an advance "answers how many days it opened"
   days_opened : ℕ → Answer
-  -- "firm amount, cover, shortfall, days charged, accrued charge"
-  stated : ℕ → ℕ → ℕ → ℕ → ℕ → Answer
-  -- "one count of calls made .. a question of its own shows it"
+  -- "firm amount, cover, shortfall, days charged, accrued charge", and since paper 02, Ask 6 the count of calls made, "shown in its statement"
+  stated : ℕ → ℕ → ℕ → ℕ → ℕ → ℕ → Answer
+  -- "one count of calls made .. a question of its own shows it". Paper 02, Ask 6: it "is answered with the sum of the counts"
   counted : ℕ → Answer
   -- paper 02, Ask 1: "an accepted batch answers n"
   batched : ℕ → Answer
@@ -49,7 +49,7 @@ accepted (covered e) = true
 accepted (recorded e) = true
 accepted (annual a n) = true
 accepted (days_opened n) = true
-accepted (stated f c s d a) = true
+accepted (stated f c s d a m) = true
 accepted (counted n) = true
 accepted (batched n) = true
 accepted (refused_pair n i) = false
@@ -83,4 +83,4 @@ deletion_says = says (λ d. deletion d.amount d.called)
 
 -- The answer that a statement stands for.
 abbrev pub statement_says : Statement → Answer
-statement_says s = stated s.firm s.cover s.shortfall s.charged s.accrued
+statement_says s = stated s.firm s.cover s.shortfall s.charged s.accrued s.made

@@ -44,6 +44,6 @@ unfoldable pub calls_deleted : File → ℕ → List OpenCall
 calls_deleted f t =
     cond (deletion_calls f t) (open_calls f ++ (call_of (deletion_amount_of f t) (t + 10) ∷ [])) (open_calls f)
 
--- The file after it, in that status; "a next amount already set stays".
+-- The file after it, in that status; "a next amount already set stays". The call "is counted among the calls made".
 unfoldable pub deleted_file : File → ℕ → File
-deleted_file f t = cond (accepted (deletion_answer f t)) (with_deletion f (calls_deleted f t)) f
+deleted_file f t = cond (accepted (deletion_answer f t)) (with_deletion f (calls_deleted f t) (cond (deletion_calls f t) 1 0)) f

@@ -22,6 +22,7 @@ with_calls f firm calls =
       totals = f.totals;
       charged = f.charged;
       accrued = f.accrued;
+      made = f.made;
     }
 
 -- What the opening of day d leaves of a file of whose open calls these were passed: "each open call with last free day d − 1 is removed and the
@@ -48,4 +49,5 @@ next_taken d f =
       totals = f.totals;
       charged = f.charged;
       accrued = f.accrued;
+      made = f.made;
     }

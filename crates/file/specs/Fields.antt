@@ -1,6 +1,6 @@
 -- What is read off a file, and a file with some of its fields changed.
 -- Assumes nothing.
-use Rattle.std.specs.Prelude.{ℕ, ◌-◌, true, false, List, length, take}
+use Rattle.std.specs.Prelude.{ℕ, ◌+◌, ◌-◌, true, false, List, length, take}
 use Rattle.file.specs.declared.File.{File}
 use Rattle.file.specs.declared.Charges.{Charges}
 use Rattle.file.specs.declared.Slot.{Slot}
@@ -48,11 +48,12 @@ with_slots f slots =
       totals = f.totals;
       charged = f.charged;
       accrued = f.accrued;
+      made = f.made;
     }
 
--- The file with other month totals and other open calls.
-abbrev pub with_totals : File → List MonthTotal → List OpenCall → File
-with_totals f totals calls =
+-- The file with other month totals, other open calls and n more calls made.
+abbrev pub with_totals : File → List MonthTotal → List OpenCall → ℕ → File
+with_totals f totals calls n =
     record {
       admitted = f.admitted;
       leaving = f.leaving;
@@ -65,11 +66,12 @@ with_totals f totals calls =
       totals = totals;
       charged = f.charged;
       accrued = f.accrued;
+      made = f.made + n;
     }
 
--- The file placed under deletion, with other open calls.
-abbrev pub with_deletion : File → List OpenCall → File
-with_deletion f calls =
+-- The file placed under deletion, with other open calls and n more calls made.
+abbrev pub with_deletion : File → List OpenCall → ℕ → File
+with_deletion f calls n =
     record {
       admitted = f.admitted;
       leaving = true;
@@ -82,6 +84,7 @@ with_deletion f calls =
       totals = f.totals;
       charged = f.charged;
       accrued = f.accrued;
+      made = f.made + n;
     }
 
 -- The file with another next amount.
@@ -99,6 +102,7 @@ with_next f next =
       totals = f.totals;
       charged = f.charged;
       accrued = f.accrued;
+      made = f.made;
     }
 
 -- The file with other charges.
@@ -116,4 +120,5 @@ with_charges f c =
       totals = f.totals;
       charged = c.charged;
       accrued = c.accrued;
+      made = f.made;
     }

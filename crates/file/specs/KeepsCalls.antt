@@ -110,8 +110,10 @@ module _ (f : File) (t d : ℕ) (s : Sound t f) where
 
 -- the file after the next day was opened
 pub opened-sound : (f : File) (t : ℕ) → Sound t f → suc t ≤ 29219 → Sound (suc t) (opened_file f (suc t))
-unfolding opened_file open_calls
+unfolding opened_file open_calls calls_opened
 opened-sound f t s h =
+    let fewer : length (keep (stays_at (suc t)) (take f.count f.calls)) ≤ f.count =
+    omega (arith, keep-length (stays_at (suc t)) (take f.count f.calls), length-take f.count f.calls) in
     record {
       day = h;
       slots = slots-sound f (suc t) s.slots;
@@ -123,6 +125,8 @@ opened-sound f t s h =
       totals = s.totals;
       charged = split (eqb (shortfall_opened f (suc t)) 0) (λ e. rw e (omega (arith, s.charged))) (λ e. rw e (omega (arith, s.charged)));
       accrued = accrued-bound f t (suc t) s;
+      counted = omega (arith, fewer, s.counted);
+      made = omega (arith, s.made, s.count);
     }
 
 -- ---- a settlement
@@ -161,11 +165,25 @@ module _ (f : File) (t m : ℕ) (figures : List ℤ) (s : Sound t f) (a : accept
       (record { amount = total-bound; last = omega (arith, s.day) }, tt)))
       (λ e. rw e (open-sound f s.calls))
 
+-- one more call is made where one more is open
+settled-made : (f : File) (t m : ℕ) (figures : List ℤ) → Sound t f
+    → (length (calls_settled f t m figures) ≤ f.made + cond (settlement_calls f t m figures) 1 0)
+    × (f.made + cond (settlement_calls f t m figures) 1 0 ≤ 4 * t + length (calls_settled f t m figures))
+unfolding calls_settled
+settled-made f t m figures s =
+    let c = call_of (nat_abs (sum_of figures)) (t + 10) in
+    split (settlement_calls f t m figures)
+    (λ e. rw e (
+      omega (arith, length-append (open_calls f) (c ∷ []), open-count f t s, s.counted),
+      omega (arith, length-append (open_calls f) (c ∷ []), open-count f t s, s.made),
+    ))
+    (λ e. rw e (omega (arith, open-count f t s, s.counted), omega (arith, open-count f t s, s.made)))
+
 -- the file after a settlement
 pub settled-sound : (f : File) (t m : ℕ) (figures : List ℤ) → Sound t f → Sound t (settled_file f t m figures)
 unfolding settled_file open_calls
 settled-sound f t m figures s =
-    either-sound t (accepted (settle_answer f t m figures)) (with_totals f (with_total f.totals m (sum_of figures)) (calls_settled f t m figures)) f
+    either-sound t (accepted (settle_answer f t m figures)) (with_totals f (with_total f.totals m (sum_of figures)) (calls_settled f t m figures) (cond (settlement_calls f t m figures) 1 0)) f
     (λ a. record {
       day = s.day;
       slots = s.slots;
@@ -177,6 +195,8 @@ settled-sound f t m figures s =
       totals = settled-totals f t m figures s a;
       charged = s.charged;
       accrued = s.accrued;
+      counted = (settled-made f t m figures s).0;
+      made = (settled-made f t m figures s).1;
     })
     s
 
@@ -204,6 +224,8 @@ annual-sound f t s =
       totals = s.totals;
       charged = s.charged;
       accrued = s.accrued;
+      counted = s.counted;
+      made = s.made;
     })
     s
 
@@ -236,11 +258,24 @@ module _ (f : File) (t : ℕ) (s : Sound t f) (a : accepted (deletion_answer f t
       (record { amount = deletion-bound f t s; last = omega (arith, s.day) }, tt)))
       (λ e. rw e (open-sound f s.calls))
 
+deleted-made : (f : File) (t : ℕ) → Sound t f
+    → (length (calls_deleted f t) ≤ f.made + cond (deletion_calls f t) 1 0)
+    × (f.made + cond (deletion_calls f t) 1 0 ≤ 4 * t + length (calls_deleted f t))
+unfolding calls_deleted
+deleted-made f t s =
+    let c = call_of (deletion_amount_of f t) (t + 10) in
+    split (deletion_calls f t)
+    (λ e. rw e (
+      omega (arith, length-append (open_calls f) (c ∷ []), open-count f t s, s.counted),
+      omega (arith, length-append (open_calls f) (c ∷ []), open-count f t s, s.made),
+    ))
+    (λ e. rw e (omega (arith, open-count f t s, s.counted), omega (arith, open-count f t s, s.made)))
+
 -- the file after a deletion
 pub deleted-sound : (f : File) (t : ℕ) → Sound t f → Sound t (deleted_file f t)
 unfolding deleted_file open_calls
 deleted-sound f t s =
-    either-sound t (accepted (deletion_answer f t)) (with_deletion f (calls_deleted f t)) f
+    either-sound t (accepted (deletion_answer f t)) (with_deletion f (calls_deleted f t) (cond (deletion_calls f t) 1 0)) f
     (λ a. record {
       day = s.day;
       slots = s.slots;
@@ -252,5 +287,7 @@ deleted-sound f t s =
       totals = s.totals;
       charged = s.charged;
       accrued = s.accrued;
+      counted = (deleted-made f t s).0;
+      made = (deleted-made f t s).1;
     })
     s

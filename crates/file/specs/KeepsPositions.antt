@@ -112,6 +112,8 @@ with_slots-sound t f l s a =
       totals = s.totals;
       charged = s.charged;
       accrued = s.accrued;
+      counted = s.counted;
+      made = s.made;
     }
 
 -- A file chosen by a test is sound where both are.
@@ -158,6 +160,7 @@ blank-sound : (t role : ℕ) (admitted : Bool) (calls : List OpenCall) (count : 
       totals = replicate 16 no_total;
       charged = 0;
       accrued = 0;
+      made = count;
     })
 unfolding open_calls
 blank-sound t role admitted calls count day sound few placed =
@@ -172,6 +175,8 @@ blank-sound t role admitted calls count day sound few placed =
       totals = all_replicate (λ (r : MonthTotal). nat_abs r.total ≤ total_bound) 16 no_total (omega arith);
       charged = omega arith;
       accrued = omega arith;
+      counted = omega arith;
+      made = omega arith;
     }
 
 -- A place with no call in it is sound.

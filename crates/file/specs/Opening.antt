@@ -53,4 +53,5 @@ opened_file f d =
       totals = f.totals;
       charged = f.charged + cond (eqb (shortfall_opened f d) 0) 0 1;
       accrued = f.accrued + day_charge (shortfall_opened f d);
+      made = f.made;
     }

@@ -59,9 +59,9 @@ unfoldable pub calls_settled : File → ℕ → ℕ → List ℤ → List OpenCa
 calls_settled f t m figures =
     cond (settlement_calls f t m figures) (open_calls f ++ (call_of (nat_abs (sum_of figures)) (t + 10) ∷ [])) (open_calls f)
 
--- The file after it: "E, their sum, is recorded for M, replacing an earlier total."
+-- The file after it: "E, their sum, is recorded for M, replacing an earlier total." A call is one more in its count of calls made (paper 02, Ask 6).
 unfoldable pub settled_file : File → ℕ → ℕ → List ℤ → File
 settled_file f t m figures =
     cond (accepted (settle_answer f t m figures))
-    (with_totals f (with_total f.totals m (sum_of figures)) (calls_settled f t m figures))
+    (with_totals f (with_total f.totals m (sum_of figures)) (calls_settled f t m figures) (cond (settlement_calls f t m figures) 1 0))
     f

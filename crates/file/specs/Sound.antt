@@ -1,6 +1,6 @@
 -- What every file that a book reaches has, and that a method may ask of its file: the bounds of its quantities on day t.
 -- Assumes nothing.
-use Rattle.std.specs.Prelude.{ℕ, ◌*◌, ◌≤◌, ◌≡◌, nat_abs}
+use Rattle.std.specs.Prelude.{ℕ, ◌+◌, ◌*◌, ◌≤◌, ◌≡◌, nat_abs}
 use Rattle.laws.specs.Lists.{All}
 use Rattle.file.specs.declared.File.{File}
 use Rattle.file.specs.declared.Position.{Position}
@@ -25,7 +25,8 @@ pub record SoundCall (c : OpenCall) : Type 0 where
   pub amount : c.amount ≤ total_bound
   pub last : c.last.0 ≤ 29229
 
--- A file's bounds on day t; the places behind the open calls hold zeros.
+-- A file's bounds on day t; the places behind the open calls hold zeros. The calls made are those that are open and those that ended, at most four on
+-- each day that was opened.
 pub record Sound (t : ℕ) (f : File) : Type 0 where
   pub day : t ≤ 29219
   pub slots : All (λ (s : Slot). SoundPosition s.position) f.slots
@@ -37,3 +38,5 @@ pub record Sound (t : ℕ) (f : File) : Type 0 where
   pub totals : All (λ (r : MonthTotal). nat_abs r.total ≤ total_bound) f.totals
   pub charged : f.charged ≤ t
   pub accrued : f.accrued ≤ f.charged * total_bound
+  pub counted : f.count ≤ f.made
+  pub made : f.made ≤ 4 * t + f.count

@@ -1,4 +1,4 @@
--- Paper 01, 'Statement': "firm amount, cover, shortfall, days charged, accrued charge".
+-- Paper 01, 'Statement': "firm amount, cover, shortfall, days charged, accrued charge". Paper 02, Ask 6: "a count in each file, shown in its statement".
 -- Assumes nothing.
 use Rattle.std.specs.Prelude.{ℕ}
 use Rattle.file.specs.declared.File.{File}
@@ -14,4 +14,5 @@ file_statement f t =
       shortfall = shortfall_of f t;
       charged = f.charged;
       accrued = f.accrued;
+      made = f.made;
     }

@@ -55,6 +55,7 @@ impl File {
             totals: [MonthTotal::NONE; 16],
             charged: 0,
             accrued: 0,
+            made: 0,
         }
     }
 
@@ -76,6 +77,7 @@ impl File {
                 last: Day(today.0 + 10),
             };
             file.count = 1;
+            file.made = 1;
         }
         file
     }

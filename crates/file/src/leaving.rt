@@ -36,7 +36,7 @@ impl File {
         self.firm < amount && open.iter().all(|call| call.amount < amount)
     }
 
-    // Takes the status, and adds a call where the amount exceeds the firm amount and every open call.
+    // Takes the status, and adds a call, which is counted, where the amount exceeds the firm amount and every open call.
     fn place_under_deletion(&mut self, today: Day) -> Result<Deletion, Refusal>
         requires { Sound today.0 self.old }
         ensures { (deletion_says result ≡ deletion_answer self.old today.0) × (self.new ≡ deleted_file self.old today.0) }
@@ -55,6 +55,7 @@ impl File {
                 last: Day(today.0 + 10),
             };
             self.count += 1;
+            self.made += 1;
         }
         self.leaving = true;
         Ok(Deletion { amount, called })

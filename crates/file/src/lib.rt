@@ -78,6 +78,8 @@ pub struct File {
     pub totals: [MonthTotal; 16],
     pub charged: u64,
     pub accrued: u64,
+    // How many calls were made, its admission's and its deletion's included (paper 02, Ask 6).
+    pub made: u64,
 }
 
 // What an admission, a lodging or a release answers: done, or the first cause that refuses it.
@@ -112,7 +114,7 @@ pub struct Charges {
     pub accrued: u64,
 }
 
-// A statement: firm amount, cover, shortfall, days charged, accrued charge.
+// A statement: firm amount, cover, shortfall, days charged, accrued charge, and how many calls were made.
 #[derive(Clone, Copy)]
 pub struct Statement {
     pub firm: u64,
@@ -120,4 +122,5 @@ pub struct Statement {
     pub shortfall: u64,
     pub charged: u64,
     pub accrued: u64,
+    pub made: u64,
 }

@@ -87,18 +87,18 @@ module _ (l : List ℕ) (at : ℕ) where
   unfolding Below SoundSlot slots_of_words slot_of_words
   slots-sound b =
       all-table (λ (s : Slot). SoundPosition s.position) 8
-      (λ k. slot_of_words (w (9 + 4 * k)) (w (10 + 4 * k)) (w (11 + 4 * k)) (w (12 + 4 * k))) b
+      (λ k. slot_of_words (w (10 + 4 * k)) (w (11 + 4 * k)) (w (12 + 4 * k)) (w (13 + 4 * k))) b
 
   -- And the other way round.
   sound-slots : All (λ (s : Slot). SoundPosition s.position) (slots_of_words w) → Below 8 (SlotAt l at)
   unfolding Below SoundSlot slots_of_words slot_of_words
   sound-slots a =
       table-all (λ (s : Slot). SoundPosition s.position) 8
-      (λ k. slot_of_words (w (9 + 4 * k)) (w (10 + 4 * k)) (w (11 + 4 * k)) (w (12 + 4 * k))) a
+      (λ k. slot_of_words (w (10 + 4 * k)) (w (11 + 4 * k)) (w (12 + 4 * k)) (w (13 + 4 * k))) a
 
   -- Call k.
   abbrev call_here : ℕ → OpenCall
-  call_here k = open_call_of_words (w (41 + 2 * k)) (w (42 + 2 * k))
+  call_here k = open_call_of_words (w (42 + 2 * k)) (w (43 + 2 * k))
 
   -- A call, from its words.
   call-sound : (k : ℕ) → CallAt l at k → SoundCall (call_here k)
@@ -115,10 +115,10 @@ module _ (l : List ℕ) (at : ℕ) where
   unfolding Below calls_of_words
   calls-placed h b =
       four-places (w 4) (call_here 0) (call_here 1) (call_here 2) (call_here 3) h
-      (λ n. no_call_lem (w 41) (w 42) ((b 0 (omega arith)).behind n))
-      (λ n. no_call_lem (w 43) (w 44) ((b 1 (omega arith)).behind n))
-      (λ n. no_call_lem (w 45) (w 46) ((b 2 (omega arith)).behind n))
-      (λ n. no_call_lem (w 47) (w 48) ((b 3 (omega arith)).behind n))
+      (λ n. no_call_lem (w 42) (w 43) ((b 0 (omega arith)).behind n))
+      (λ n. no_call_lem (w 44) (w 45) ((b 1 (omega arith)).behind n))
+      (λ n. no_call_lem (w 46) (w 47) ((b 2 (omega arith)).behind n))
+      (λ n. no_call_lem (w 48) (w 49) ((b 3 (omega arith)).behind n))
 
   -- And the other way round.
   placed-here : calls_of_words w ≡ in_places (take (w 4) (calls_of_words w)) → (k : ℕ) → k < 4 → w 4 ≤ k → call_here k ≡ no_call
@@ -131,7 +131,7 @@ module _ (l : List ℕ) (at : ℕ) where
   -- A call's words, from the call.
   place-sound : (k : ℕ) → SoundCall (call_here k) → (w 4 ≤ k → call_here k ≡ no_call) → CallAt l at k
   unfolding open_call_of_words
-  place-sound k s z = record { amount = s.amount; last = s.last; behind = λ n. call_none (w (41 + 2 * k)) (w (42 + 2 * k)) (z n) }
+  place-sound k s z = record { amount = s.amount; last = s.last; behind = λ n. call_none (w (42 + 2 * k)) (w (43 + 2 * k)) (z n) }
 
   -- Each of the calls.
   call-here : All SoundCall (calls_of_words w) → (k : ℕ) → k < 4 → SoundCall (call_here k)
@@ -148,19 +148,19 @@ module _ (l : List ℕ) (at : ℕ) where
   unfolding Below totals_of_words total_of_words
   totals-sound b =
       all-table (λ (r : MonthTotal). nat_abs r.total ≤ total_bound) 16
-      (λ k. total_of_words (w (49 + 3 * k)) (w (50 + 3 * k)) (w (51 + 3 * k))) (λ k h. signed-small (w (51 + 3 * k)) (b k h))
+      (λ k. total_of_words (w (50 + 3 * k)) (w (51 + 3 * k)) (w (52 + 3 * k))) (λ k h. signed-small (w (52 + 3 * k)) (b k h))
 
   -- And the other way round.
   sound-totals : All (λ (r : MonthTotal). nat_abs r.total ≤ total_bound) (totals_of_words w) → Below 16 (TotalAt l at)
   unfolding Below totals_of_words total_of_words
   sound-totals a k h =
-      small_signed (w (51 + 3 * k))
+      small_signed (w (52 + 3 * k))
       (table-all (λ (r : MonthTotal). nat_abs r.total ≤ total_bound) 16
-      (λ k. total_of_words (w (49 + 3 * k)) (w (50 + 3 * k)) (w (51 + 3 * k))) a k h)
+      (λ k. total_of_words (w (50 + 3 * k)) (w (51 + 3 * k)) (w (52 + 3 * k))) a k h)
 
   -- The file's own words are sound.
   abbrev Own : ℕ → Type 0
-  Own t = SoundAmounts t (w 4) (w 3) (w 6) (w 7) (w 8)
+  Own t = SoundAmounts t (w 4) (w 3) (w 6) (w 7) (w 8) (w 9)
 
   -- The parts together are the whole.
   whole : (t : ℕ) → t ≤ 29219 → Below 8 (SlotAt l at) → Below 4 (CallAt l at) → Below 16 (TotalAt l at) → Own t → SoundAt t l at
@@ -177,6 +177,8 @@ module _ (l : List ℕ) (at : ℕ) where
         totals = totals-sound r;
         charged = o.charged;
         accrued = o.accrued;
+        counted = o.counted;
+        made = o.made;
       }
 
   -- Each part follows from the whole.
@@ -197,7 +199,16 @@ module _ (l : List ℕ) (at : ℕ) where
   -- The file's own words.
   part-own : (t : ℕ) → SoundAt t l at → Own t
   unfolding SoundAt file_of_words
-  part-own t s = record { count = s.count; firm = s.firm; next = s.next; charged = s.charged; accrued = s.accrued }
+  part-own t s =
+      record {
+        count = s.count;
+        firm = s.firm;
+        next = s.next;
+        charged = s.charged;
+        accrued = s.accrued;
+        counted = s.counted;
+        made = s.made;
+      }
 
   -- A test of the parts, one after another, decides the whole.
   pub whole-decides : (t : ℕ) (r : Bool) → t ≤ 29219

@@ -17,14 +17,14 @@ pub struct FileWords<'a> {
     words: &'a [u64],
     at: usize,
     today: u64,
-    ghost room: { at + 97 ≤ length words.now },
+    ghost room: { at + 98 ≤ length words.now },
     ghost day: { today ≤ 29219 },
 }
 
 impl<'a> FileWords<'a> {
     // The words behind a place, on a day.
     pub fn new(words: &'a [u64], at: usize, today: u64) -> FileWords<'a>
-        requires { (at + 97 ≤ length words.now) × (today ≤ 29219) }
+        requires { (at + 98 ≤ length words.now) × (today ≤ 29219) }
         ensures { (result.words.now ≡ words.now) × (result.at ≡ at) × (result.today ≡ today) }
     {
         FileWords { words, at, today }
@@ -32,7 +32,7 @@ impl<'a> FileWords<'a> {
 
     // The file's word k.
     fn word(self, k: usize) -> u64
-        requires { k ≤ 96 }
+        requires { k ≤ 97 }
         ensures { result ≡ words_at self.entry.words.now self.entry.at k }
     {
         self.words[self.at + k]
@@ -40,7 +40,7 @@ impl<'a> FileWords<'a> {
 
     // The file's row k.
     fn row<R: Row>(self, k: usize) -> R
-        requires { (R.PLACE + R.WORDS * R.COUNT ≤ 97) × (k < R.COUNT) }
+        requires { (R.PLACE + R.WORDS * R.COUNT ≤ 98) × (k < R.COUNT) }
         ensures { result ≡ R.row_in self.entry.words.now (self.entry.at + (R.PLACE + R.WORDS * k)) }
     {
         read_row(self.words, self.at, k)
@@ -75,7 +75,7 @@ impl<'a> FileWords<'a> {
         (0..16).all(
             |k|
                 requires { k < 16 }
-            { self.word(51 + 3 * k) <= 32000000000000 },
+            { self.word(52 + 3 * k) <= 32000000000000 },
         )
     }
 
@@ -83,13 +83,16 @@ impl<'a> FileWords<'a> {
     fn has_sound_amounts(self) -> bool
         ensures { Decides result (SoundAmounts self.entry.today (words_at self.entry.words.now self.entry.at 4)
             (words_at self.entry.words.now self.entry.at 3) (words_at self.entry.words.now self.entry.at 6)
-            (words_at self.entry.words.now self.entry.at 7) (words_at self.entry.words.now self.entry.at 8)) }
+            (words_at self.entry.words.now self.entry.at 7) (words_at self.entry.words.now self.entry.at 8)
+            (words_at self.entry.words.now self.entry.at 9)) }
     {
         self.word(4) <= 4
             && self.word(3) <= BOUND
             && self.word(6) <= BOUND
             && self.word(7) <= self.today
             && self.word(8) <= self.word(7) * BOUND
+            && self.word(4) <= self.word(9)
+            && self.word(9) <= 4 * self.today + self.word(4)
     }
 
     // Whether the file is within its bounds today.
@@ -106,16 +109,16 @@ impl<'a> FileWords<'a> {
     fn is_canonical(self) -> bool
         ensures { Decides result (Canonical self.entry.words.now self.entry.at) }
     {
-        let mut again = [0; 97];
+        let mut again = [0; 98];
         put_file(&mut again, 0, file_at(self.words, self.at));
-        self.words[self.at + 1..self.at + 97] == again[1..]
+        self.words[self.at + 1..self.at + 98] == again[1..]
     }
 
     // Whether the words are zeros.
     fn is_blank(self) -> bool
         ensures { Decides result (Blank self.entry.words.now self.entry.at) }
     {
-        self.words[self.at + 1..self.at + 97] == [0; 96]
+        self.words[self.at + 1..self.at + 98] == [0; 97]
     }
 
     // Whether the words are a file that is well formed today.

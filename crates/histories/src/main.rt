@@ -9,12 +9,12 @@ use std::{fs, io};
 mod history; // history.rt: a history, read from its text
 mod text; // text.rt: the numbers of a text
 
-// Plays a history on a fresh book, and writes its answers: each as six numbers on a line.
+// Plays a history on a fresh book, and writes its answers: each as seven numbers on a line.
 fn play<W: Write>(rt: &HostRuntime, history: &History, to: &mut W) -> io::Result<()> {
     let start = history.start;
     writeln!(to, "history {start}")?;
-    let mut out = vec![in rt.alloc(); 0i64; history.words.len()]?;
-    let mut book = [0u64; 6147];
+    let mut out = vec![in rt.alloc(); 0i64; history.words.len() / 6 * 7]?;
+    let mut book = [0u64; 6210];
     let _ = replay::replay(
         history.start_day(),
         history.first,
@@ -24,9 +24,9 @@ fn play<W: Write>(rt: &HostRuntime, history: &History, to: &mut W) -> io::Result
         &mut out,
         &mut book,
     );
-    for answer in out.chunks_exact(6) {
-        let [a, b, c, d, e, f] = answer else { break };
-        writeln!(to, "{a} {b} {c} {d} {e} {f}")?;
+    for answer in out.chunks_exact(7) {
+        let [a, b, c, d, e, f, g] = answer else { break };
+        writeln!(to, "{a} {b} {c} {d} {e} {f} {g}")?;
     }
     Ok(())
 }

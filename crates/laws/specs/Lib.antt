@@ -4,6 +4,7 @@ pub mod Prefixes
 pub mod Every
 pub mod Least
 pub mod Tabulated
+pub mod Sums
 pub mod Tables
 pub mod Integers
 pub mod Signed

@@ -30,7 +30,7 @@ module _ (l : List ℕ) (at d e : ℕ) where
   abbrev pub cover_to : ℕ → ℕ
   cover_to i = sum_by counted (take i slots)
 
-  module _ (k x : ℕ) (s : Slot) (h : k < 8) (is : s ≡ slot_in l (at + (9 + 4 * k))) (counts : x ≡ counts_through d e s.position) where
+  module _ (k x : ℕ) (s : Slot) (h : k < 8) (is : s ≡ slot_in l (at + (10 + 4 * k))) (counts : x ≡ counts_through d e s.position) where
     there : x ≡ counted (get_or slots k (slot_of Empty))
     there = counts ∙ ap counted (is ∙ sym (slot-there l at k (slot_of Empty) h))
 

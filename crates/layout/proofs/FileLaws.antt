@@ -29,14 +29,14 @@ use Rattle.layout.proofs.Flat.{flat-length, flat-at}
 -- ---- the arrays as they are read
 
 -- Which slot stands where.
-pub slot-there : (l : List ℕ) (at k : ℕ) (d : Slot) → k < 8 → get_or (slots_of_words (words_at l at)) k d ≡ slot_in l (at + (9 + 4 * k))
+pub slot-there : (l : List ℕ) (at k : ℕ) (d : Slot) → k < 8 → get_or (slots_of_words (words_at l at)) k d ≡ slot_in l (at + (10 + 4 * k))
 slot-there l at k d h =
-    ap (λ (slots : List Slot). get_or slots k d) (slots-table l at) ∙ get_d-table 8 (λ (j : ℕ). slot_in l (at + (9 + 4 * j))) k d h
+    ap (λ (slots : List Slot). get_or slots k d) (slots-table l at) ∙ get_d-table 8 (λ (j : ℕ). slot_in l (at + (10 + 4 * j))) k d h
 
 -- Which open call stands where.
-pub call-there : (l : List ℕ) (at k : ℕ) (d : OpenCall) → k < 4 → get_or (calls_of_words (words_at l at)) k d ≡ call_in l (at + (41 + 2 * k))
+pub call-there : (l : List ℕ) (at k : ℕ) (d : OpenCall) → k < 4 → get_or (calls_of_words (words_at l at)) k d ≡ call_in l (at + (42 + 2 * k))
 call-there l at k d h =
-    ap (λ (calls : List OpenCall). get_or calls k d) (calls-table l at) ∙ get_d-table 4 (λ (j : ℕ). call_in l (at + (41 + 2 * j))) k d h
+    ap (λ (calls : List OpenCall). get_or calls k d) (calls-table l at) ∙ get_d-table 4 (λ (j : ℕ). call_in l (at + (42 + 2 * j))) k d h
 
 -- There are as many as a file has.
 pub slots-long : (w : ℕ → ℕ) → length (slots_of_words w) ≡ 8
@@ -51,36 +51,36 @@ pub totals-long : (w : ℕ → ℕ) → length (totals_of_words w) ≡ 16
 unfolding totals_of_words
 totals-long w = refl
 
--- ---- a file is read from its words 1 to 96
+-- ---- a file is read from its words 1 to 97
 
-module _ (w v : ℕ → ℕ) (same : (k : ℕ) → 1 ≤ k → k ≤ 96 → w k ≡ v k) where
+module _ (w v : ℕ → ℕ) (same : (k : ℕ) → 1 ≤ k → k ≤ 97 → w k ≡ v k) where
   slots-ext : slots_of_words w ≡ slots_of_words v
   unfolding slots_of_words
   slots-ext =
-      table-ext 8 (λ k. slot_of_words (w (9 + 4 * k)) (w (10 + 4 * k)) (w (11 + 4 * k)) (w (12 + 4 * k)))
-      (λ k. slot_of_words (v (9 + 4 * k)) (v (10 + 4 * k)) (v (11 + 4 * k)) (v (12 + 4 * k)))
+      table-ext 8 (λ k. slot_of_words (w (10 + 4 * k)) (w (11 + 4 * k)) (w (12 + 4 * k)) (w (13 + 4 * k)))
+      (λ k. slot_of_words (v (10 + 4 * k)) (v (11 + 4 * k)) (v (12 + 4 * k)) (v (13 + 4 * k)))
       (λ k h i. slot_of_words
-      (same (9 + 4 * k) (omega arith) (omega arith) i)
       (same (10 + 4 * k) (omega arith) (omega arith) i)
       (same (11 + 4 * k) (omega arith) (omega arith) i)
-      (same (12 + 4 * k) (omega arith) (omega arith) i))
+      (same (12 + 4 * k) (omega arith) (omega arith) i)
+      (same (13 + 4 * k) (omega arith) (omega arith) i))
 
   calls-ext : calls_of_words w ≡ calls_of_words v
   unfolding calls_of_words
   calls-ext =
-      table-ext 4 (λ k. open_call_of_words (w (41 + 2 * k)) (w (42 + 2 * k)))
-      (λ k. open_call_of_words (v (41 + 2 * k)) (v (42 + 2 * k)))
-      (λ k h i. open_call_of_words (same (41 + 2 * k) (omega arith) (omega arith) i) (same (42 + 2 * k) (omega arith) (omega arith) i))
+      table-ext 4 (λ k. open_call_of_words (w (42 + 2 * k)) (w (43 + 2 * k)))
+      (λ k. open_call_of_words (v (42 + 2 * k)) (v (43 + 2 * k)))
+      (λ k h i. open_call_of_words (same (42 + 2 * k) (omega arith) (omega arith) i) (same (43 + 2 * k) (omega arith) (omega arith) i))
 
   totals-ext : totals_of_words w ≡ totals_of_words v
   unfolding totals_of_words
   totals-ext =
-      table-ext 16 (λ k. total_of_words (w (49 + 3 * k)) (w (50 + 3 * k)) (w (51 + 3 * k)))
-      (λ k. total_of_words (v (49 + 3 * k)) (v (50 + 3 * k)) (v (51 + 3 * k)))
+      table-ext 16 (λ k. total_of_words (w (50 + 3 * k)) (w (51 + 3 * k)) (w (52 + 3 * k)))
+      (λ k. total_of_words (v (50 + 3 * k)) (v (51 + 3 * k)) (v (52 + 3 * k)))
       (λ k h i. total_of_words
-      (same (49 + 3 * k) (omega arith) (omega arith) i)
       (same (50 + 3 * k) (omega arith) (omega arith) i)
-      (same (51 + 3 * k) (omega arith) (omega arith) i))
+      (same (51 + 3 * k) (omega arith) (omega arith) i)
+      (same (52 + 3 * k) (omega arith) (omega arith) i))
 
   pub file-ext : file_of_words w ≡ file_of_words v
   unfolding file_of_words
@@ -97,6 +97,7 @@ module _ (w v : ℕ → ℕ) (same : (k : ℕ) → 1 ≤ k → k ≤ 96 → w k 
         totals = totals-ext i;
         charged = same 7 (omega arith) (omega arith) i;
         accrued = same 8 (omega arith) (omega arith) i;
+        made = same 9 (omega arith) (omega arith) i;
       }
 
 -- ---- a file's words lead back to it
@@ -108,40 +109,40 @@ listed (suc n) [] d h = absurd (omega arith)
 listed {A = A} (suc n) (x ∷ l) d h = ap (λ (m : List A). x ∷ m) (listed n l d (omega arith))
 
 slots-back : (w : ℕ → ℕ) (xs : List Slot) (d : Slot) → length xs ≡ 8 → All SlotBack xs
-    → ((i j m : ℕ) → i < 8 → j < 4 → m ≡ 9 + (4 * i + j) → w m ≡ get_or (slot_words (get_or xs i d)) j 0) → slots_of_words w ≡ xs
+    → ((i j m : ℕ) → i < 8 → j < 4 → m ≡ 10 + (4 * i + j) → w m ≡ get_or (slot_words (get_or xs i d)) j 0) → slots_of_words w ≡ xs
 unfolding slots_of_words
 slots-back w xs d long all reads =
-    table-ext 8 (λ k. slot_of_words (w (9 + 4 * k)) (w (10 + 4 * k)) (w (11 + 4 * k)) (w (12 + 4 * k))) (λ k. get_or xs k d)
+    table-ext 8 (λ k. slot_of_words (w (10 + 4 * k)) (w (11 + 4 * k)) (w (12 + 4 * k)) (w (13 + 4 * k))) (λ k. get_or xs k d)
     (λ k h. rw (
-      reads k 0 (9 + 4 * k) h (omega arith) (omega arith),
-      reads k 1 (10 + 4 * k) h (omega arith) (omega arith),
-      reads k 2 (11 + 4 * k) h (omega arith) (omega arith),
-      reads k 3 (12 + 4 * k) h (omega arith) (omega arith),
+      reads k 0 (10 + 4 * k) h (omega arith) (omega arith),
+      reads k 1 (11 + 4 * k) h (omega arith) (omega arith),
+      reads k 2 (12 + 4 * k) h (omega arith) (omega arith),
+      reads k 3 (13 + 4 * k) h (omega arith) (omega arith),
     )
     (all-at SlotBack xs k d (omega arith) all))
     ∙ listed 8 xs d long
 
 calls_back : (w : ℕ → ℕ) (xs : List OpenCall) (d : OpenCall) → length xs ≡ 4 → All CallBack xs
-    → ((i j m : ℕ) → i < 4 → j < 2 → m ≡ 41 + (2 * i + j) → w m ≡ get_or (open_call_words (get_or xs i d)) j 0) → calls_of_words w ≡ xs
+    → ((i j m : ℕ) → i < 4 → j < 2 → m ≡ 42 + (2 * i + j) → w m ≡ get_or (open_call_words (get_or xs i d)) j 0) → calls_of_words w ≡ xs
 unfolding calls_of_words
 calls_back w xs d long all reads =
-    table-ext 4 (λ k. open_call_of_words (w (41 + 2 * k)) (w (42 + 2 * k))) (λ k. get_or xs k d)
+    table-ext 4 (λ k. open_call_of_words (w (42 + 2 * k)) (w (43 + 2 * k))) (λ k. get_or xs k d)
     (λ k h. rw (
-      reads k 0 (41 + 2 * k) h (omega arith) (omega arith),
-      reads k 1 (42 + 2 * k) h (omega arith) (omega arith),
+      reads k 0 (42 + 2 * k) h (omega arith) (omega arith),
+      reads k 1 (43 + 2 * k) h (omega arith) (omega arith),
     )
     (all-at CallBack xs k d (omega arith) all))
     ∙ listed 4 xs d long
 
 totals-back : (w : ℕ → ℕ) (xs : List MonthTotal) (d : MonthTotal) → length xs ≡ 16 → All TotalBack xs
-    → ((i j m : ℕ) → i < 16 → j < 3 → m ≡ 49 + (3 * i + j) → w m ≡ get_or (total_words (get_or xs i d)) j 0) → totals_of_words w ≡ xs
+    → ((i j m : ℕ) → i < 16 → j < 3 → m ≡ 50 + (3 * i + j) → w m ≡ get_or (total_words (get_or xs i d)) j 0) → totals_of_words w ≡ xs
 unfolding totals_of_words
 totals-back w xs d long all reads =
-    table-ext 16 (λ k. total_of_words (w (49 + 3 * k)) (w (50 + 3 * k)) (w (51 + 3 * k))) (λ k. get_or xs k d)
+    table-ext 16 (λ k. total_of_words (w (50 + 3 * k)) (w (51 + 3 * k)) (w (52 + 3 * k))) (λ k. get_or xs k d)
     (λ k h. rw (
-      reads k 0 (49 + 3 * k) h (omega arith) (omega arith),
-      reads k 1 (50 + 3 * k) h (omega arith) (omega arith),
-      reads k 2 (51 + 3 * k) h (omega arith) (omega arith),
+      reads k 0 (50 + 3 * k) h (omega arith) (omega arith),
+      reads k 1 (51 + 3 * k) h (omega arith) (omega arith),
+      reads k 2 (52 + 3 * k) h (omega arith) (omega arith),
     )
     (all-at TotalBack xs k d (omega arith) all))
     ∙ listed 16 xs d long
@@ -170,7 +171,7 @@ module _ (f : File) (eight : length f.slots ≡ 8) (four : length f.calls ≡ 4)
   length-totals : length O ≡ 48
   length-totals = flat-length total_words 3 (λ x. refl) TotalBack f.totals ∙ omega arith
 
-  file-long : length (file_words f) ≡ 96
+  file-long : length (file_words f) ≡ 97
   unfolding file_words
   file-long =
       simp (length-append) (omega (arith, length-slots, length-calls, length-totals))
@@ -178,21 +179,21 @@ module _ (f : File) (eight : length f.slots ≡ 8) (four : length f.calls ≡ 4)
   abbrev word : ℕ → ℕ
   word k = get_or (0 ∷ file_words f) k 0
 
-  own : (m n : ℕ) → m ≡ 9 + n → word m ≡ get_or (S ++ (C ++ O)) n 0
+  own : (m n : ℕ) → m ≡ 10 + n → word m ≡ get_or (S ++ (C ++ O)) n 0
   unfolding file_words
   own m n e = behind (0 ∷ own_words f) (S ++ (C ++ O)) m n e
 
-  slot-words : (i j m : ℕ) → i < 8 → j < 4 → m ≡ 9 + (4 * i + j) → word m ≡ get_or (slot_words (get_or f.slots i (slot_of Empty))) j 0
+  slot-words : (i j m : ℕ) → i < 8 → j < 4 → m ≡ 10 + (4 * i + j) → word m ≡ get_or (slot_words (get_or f.slots i (slot_of Empty))) j 0
   slot-words i j m h k e =
       own m (4 * i + j) e ∙ flat-at slot_words 4 (λ x. refl) SlotBack f.slots (C ++ O) i j (slot_of Empty) (omega arith) k
 
-  call-words : (i j m : ℕ) → i < 4 → j < 2 → m ≡ 41 + (2 * i + j) → word m ≡ get_or (open_call_words (get_or f.calls i (call_of 0 0))) j 0
+  call-words : (i j m : ℕ) → i < 4 → j < 2 → m ≡ 42 + (2 * i + j) → word m ≡ get_or (open_call_words (get_or f.calls i (call_of 0 0))) j 0
   call-words i j m h k e =
       own m (32 + (2 * i + j)) (omega arith)
       ∙ behind S (C ++ O) (32 + (2 * i + j)) (2 * i + j) (omega (arith, length-slots))
       ∙ flat-at open_call_words 2 (λ x. refl) CallBack f.calls O i j (call_of 0 0) (omega arith) k
 
-  total-words : (i j m : ℕ) → i < 16 → j < 3 → m ≡ 49 + (3 * i + j) → word m ≡ get_or (total_words (get_or f.totals i no_total)) j 0
+  total-words : (i j m : ℕ) → i < 16 → j < 3 → m ≡ 50 + (3 * i + j) → word m ≡ get_or (total_words (get_or f.totals i no_total)) j 0
   total-words i j m h k e =
       own m (40 + (3 * i + j)) (omega arith)
       ∙ behind S (C ++ O) (40 + (3 * i + j)) (8 + (3 * i + j)) (omega (arith, length-slots))
@@ -215,9 +216,10 @@ module _ (f : File) (eight : length f.slots ≡ 8) (four : length f.calls ≡ 4)
         totals = totals-back word f.totals no_total sixteen bt total-words i;
         charged = f.charged;
         accrued = f.accrued;
+        made = f.made;
       }
 
-  placed : (l : List ℕ) (at k : ℕ) → at + 97 ≤ length l → 1 ≤ k → k ≤ 96 → get_or (written l (at + 1) (file_words f)) (at + k) 0 ≡ word k
+  placed : (l : List ℕ) (at k : ℕ) → at + 98 ≤ length l → 1 ≤ k → k ≤ 97 → get_or (written l (at + 1) (file_words f)) (at + k) 0 ≡ word k
   placed l at zero h a b = absurd (omega arith)
   placed l at (suc k) h a b =
       written_in l (at + 1) (file_words f) (at + suc k) k (omega arith) (omega (arith, file-long)) (omega (arith, file-long))
@@ -226,7 +228,7 @@ module _ (f : File) (eight : length f.slots ≡ 8) (four : length f.calls ≡ 4)
 
 -- Words with a file's written behind a place: the file is read there.
 pub put_of : (f : File) (l m : List ℕ) (at : ℕ) → length f.slots ≡ 8 → length f.calls ≡ 4 → length f.totals ≡ 16
-    → All SlotBack f.slots → All CallBack f.calls → All TotalBack f.totals → at + 97 ≤ length l
+    → All SlotBack f.slots → All CallBack f.calls → All TotalBack f.totals → at + 98 ≤ length l
     → m ≡ written l (at + 1) (file_words f) → Put l at f m
 put_of f l m at ls lc lt bs bc bt h e =
     record {
@@ -239,10 +241,10 @@ put_of f l m at ls lc lt bs bc bt h e =
           ∙ file-back f ls lc lt bs bc bt;
     }
 
-pub put_is : (f : File) (l m n o p : List ℕ) (at : ℕ) → at + 97 ≤ length l → m ≡ written l (at + 1) (own_words f)
-    → PutRows slot_words SlotBack 8 f.slots m (at + 9) n
-    → PutRows open_call_words CallBack 4 f.calls n (at + 41) o
-    → PutRows total_words TotalBack 16 f.totals o (at + 49) p
+pub put_is : (f : File) (l m n o p : List ℕ) (at : ℕ) → at + 98 ≤ length l → m ≡ written l (at + 1) (own_words f)
+    → PutRows slot_words SlotBack 8 f.slots m (at + 10) n
+    → PutRows open_call_words CallBack 4 f.calls n (at + 42) o
+    → PutRows total_words TotalBack 16 f.totals o (at + 50) p
     → Put l at f p
 unfolding file_words
 put_is f l m n o p at h first s c t =
@@ -253,9 +255,9 @@ put_is f l m n o p at h first s c t =
     let O = flat total_words f.totals in
     put_of f l p at s.long c.long t.long s.backs c.backs t.backs h
     (t.stored
-    ∙ ap (λ (z : List ℕ). written z (at + 49) O) (c.stored ∙ ap (λ (z : List ℕ). written z (at + 41) C) s.stored)
-    ∙ ap (λ (z : List ℕ). written z (at + 49) O) (written_next m (at + 9) (at + 41) S C (omega arith))
-    ∙ written_next m (at + 9) (at + 49) (S ++ C) O (omega (arith, length-append S C))
-    ∙ ap (λ (z : List ℕ). written m (at + 9) z) (append_assoc S C O)
-    ∙ ap (λ (z : List ℕ). written z (at + 9) (S ++ (C ++ O))) first
-    ∙ written_next l (at + 1) (at + 9) (own_words f) (S ++ (C ++ O)) (omega arith))
+    ∙ ap (λ (z : List ℕ). written z (at + 50) O) (c.stored ∙ ap (λ (z : List ℕ). written z (at + 42) C) s.stored)
+    ∙ ap (λ (z : List ℕ). written z (at + 50) O) (written_next m (at + 10) (at + 42) S C (omega arith))
+    ∙ written_next m (at + 10) (at + 50) (S ++ C) O (omega (arith, length-append S C))
+    ∙ ap (λ (z : List ℕ). written m (at + 10) z) (append_assoc S C O)
+    ∙ ap (λ (z : List ℕ). written z (at + 10) (S ++ (C ++ O))) first
+    ∙ written_next l (at + 1) (at + 10) (own_words f) (S ++ (C ++ O)) (omega arith))

@@ -1,4 +1,5 @@
--- A part of a file put back by its own words alone: a position, a month's total, an open call, the number of them, the next amount, the charges.
+-- A part of a file put back by its own words alone: a position, a month's total, an open call, the number of them, the next amount, the charges, the
+-- count of calls made.
 -- Assumes nothing.
 use Prim.Native.Nat.{ℕ, zero, suc, ◌+◌, ◌*◌, ◌≤◌, ◌<◌}
 use mathlib.Core.Path.{◌≡◌, refl, sym, ap, ◌∙◌}
@@ -48,17 +49,17 @@ total-read r m t = simp (again m, flag-back (flag_of r), signed_back (signed_of_
 module _ (w : ℕ → ℕ) where
   slots_read : All SlotBack (slots_of_words w)
   unfolding slots_of_words
-  slots_read = all-table SlotBack 8 (λ k. slot_of_words (w (9 + 4 * k)) (w (10 + 4 * k)) (w (11 + 4 * k)) (w (12 + 4 * k)))
-      (λ k h. slot_read (w (9 + 4 * k)) (w (10 + 4 * k)) (w (11 + 4 * k)) (w (12 + 4 * k)))
+  slots_read = all-table SlotBack 8 (λ k. slot_of_words (w (10 + 4 * k)) (w (11 + 4 * k)) (w (12 + 4 * k)) (w (13 + 4 * k)))
+      (λ k h. slot_read (w (10 + 4 * k)) (w (11 + 4 * k)) (w (12 + 4 * k)) (w (13 + 4 * k)))
 
   calls-read : All CallBack (calls_of_words w)
   unfolding calls_of_words
-  calls-read = all-table CallBack 4 (λ k. open_call_of_words (w (41 + 2 * k)) (w (42 + 2 * k))) (λ k h. call-read (w (41 + 2 * k)) (w (42 + 2 * k)))
+  calls-read = all-table CallBack 4 (λ k. open_call_of_words (w (42 + 2 * k)) (w (43 + 2 * k))) (λ k h. call-read (w (42 + 2 * k)) (w (43 + 2 * k)))
 
   totals-read : All TotalBack (totals_of_words w)
   unfolding totals_of_words
-  totals-read = all-table TotalBack 16 (λ k. total_of_words (w (49 + 3 * k)) (w (50 + 3 * k)) (w (51 + 3 * k)))
-      (λ k h. total-read (w (49 + 3 * k)) (w (50 + 3 * k)) (w (51 + 3 * k)))
+  totals-read = all-table TotalBack 16 (λ k. total_of_words (w (50 + 3 * k)) (w (51 + 3 * k)) (w (52 + 3 * k)))
+      (λ k h. total-read (w (50 + 3 * k)) (w (51 + 3 * k)) (w (52 + 3 * k)))
 
 -- ---- one part among others in a row is replaced
 
@@ -97,6 +98,7 @@ with_months f totals =
       totals = totals;
       charged = f.charged;
       accrued = f.accrued;
+      made = f.made;
     }
 
 -- The file with other calls in its places, and another number of them.
@@ -114,6 +116,25 @@ with_places f calls count =
       totals = f.totals;
       charged = f.charged;
       accrued = f.accrued;
+      made = f.made;
+    }
+
+-- The file with another count of calls made.
+abbrev pub with_made : File → ℕ → File
+with_made f made =
+    record {
+      admitted = f.admitted;
+      leaving = f.leaving;
+      role = f.role;
+      firm = f.firm;
+      slots = f.slots;
+      calls = f.calls;
+      count = f.count;
+      next = f.next;
+      totals = f.totals;
+      charged = f.charged;
+      accrued = f.accrued;
+      made = made;
     }
 
 module _ (f : File) where
@@ -127,7 +148,7 @@ module _ (f : File) where
   O = flat total_words f.totals
 
   slot-words : (k : ℕ) (s : Slot) → k < 8 → length f.slots ≡ 8
-      → file_words (with_slots f (set f.slots k s)) ≡ written (file_words f) (8 + 4 * k) (slot_words s)
+      → file_words (with_slots f (set f.slots k s)) ≡ written (file_words f) (9 + 4 * k) (slot_words s)
   unfolding file_words
   slot-words k s h many =
       let room = flat-length slot_words 4 (λ x. refl) SlotBack f.slots in
@@ -136,13 +157,13 @@ module _ (f : File) where
       ∙ sym (written-later (own_words f) (slot_words s) (S ++ (C ++ O)) (4 * k) (omega (arith, length-append S (C ++ O))))
 
   total-words : (k : ℕ) (t : MonthTotal) → k < 16 → length f.slots ≡ 8 → length f.calls ≡ 4 → length f.totals ≡ 16
-      → file_words (with_months f (set f.totals k t)) ≡ written (file_words f) (48 + 3 * k) (total_words t)
+      → file_words (with_months f (set f.totals k t)) ≡ written (file_words f) (49 + 3 * k) (total_words t)
   unfolding file_words
   total-words k t h eight four sixteen =
       let ls = flat-length slot_words 4 (λ x. refl) SlotBack f.slots in
       let lc = flat-length open_call_words 2 (λ x. refl) CallBack f.calls in
       let lo = flat-length total_words 3 (λ x. refl) TotalBack f.totals in
-      let at : 8 + (length S + (length C + 3 * k)) ≡ 48 + 3 * k = omega arith in
+      let at : 9 + (length S + (length C + 3 * k)) ≡ 49 + 3 * k = omega arith in
       ap (λ (z : List ℕ). own_words f ++ (S ++ (C ++ z))) (row-replaced total_words 3 (λ x. refl) TotalBack f.totals k t (omega arith))
       ∙ ap (λ (z : List ℕ). own_words f ++ (S ++ z)) (sym (written-later C (total_words t) O (3 * k) (omega arith)))
       ∙ ap (λ (z : List ℕ). own_words f ++ z) (sym (written-later S (total_words t) (C ++ O) (length C + 3 * k) (omega (arith, length-append C O))))
@@ -151,12 +172,12 @@ module _ (f : File) where
       ∙ ap (λ (j : ℕ). written (own_words f ++ (S ++ (C ++ O))) j (total_words t)) at
 
   call-words : (k : ℕ) (c : OpenCall) → k < 4 → length f.slots ≡ 8 → length f.calls ≡ 4
-      → file_words (with_places f (set f.calls k c) f.count) ≡ written (file_words f) (40 + 2 * k) (open_call_words c)
+      → file_words (with_places f (set f.calls k c) f.count) ≡ written (file_words f) (41 + 2 * k) (open_call_words c)
   unfolding file_words
   call-words k c h eight four =
       let ls = flat-length slot_words 4 (λ x. refl) SlotBack f.slots in
       let lc = flat-length open_call_words 2 (λ x. refl) CallBack f.calls in
-      let at : 8 + (length S + 2 * k) ≡ 40 + 2 * k = omega arith in
+      let at : 9 + (length S + 2 * k) ≡ 41 + 2 * k = omega arith in
       ap (λ (z : List ℕ). own_words f ++ (S ++ (z ++ O))) (row-replaced open_call_words 2 (λ x. refl) CallBack f.calls k c (omega arith))
       ∙ ap (λ (z : List ℕ). own_words f ++ (S ++ z)) (sym (written-left C (open_call_words c) O (2 * k) (omega arith)))
       ∙ ap (λ (z : List ℕ). own_words f ++ z) (sym (written-later S (open_call_words c) (C ++ O) (2 * k) (omega (arith, length-append C O))))
@@ -176,12 +197,16 @@ module _ (f : File) where
   unfolding file_words written
   charges-words c = refl
 
+  made-words : (n : ℕ) → file_words (with_made f n) ≡ written (file_words f) 8 (n ∷ [])
+  unfolding file_words written
+  made-words n = refl
+
 module _ (l m : List ℕ) (p : ℕ) (same : l ≡ book_words (book_of_words l)) (long : length l ≡ book_length) (low : p ≤ 63) where
   abbrev f : File
   f = file_in_words l p
 
   -- a part of its words is written
-  stored : (g : File) (j : ℕ) (vs : List ℕ) → file_words g ≡ written (file_words f) j vs → j + length vs ≤ 96 → m ≡ written l (place p + 1 + j) vs
+  stored : (g : File) (j : ℕ) (vs : List ℕ) → file_words g ≡ written (file_words f) j vs → j + length vs ≤ 97 → m ≡ written l (place p + 1 + j) vs
       → m ≡ written l (place p + 1) (file_words g)
   stored g j vs e h q =
       q
@@ -207,37 +232,37 @@ module _ (l m : List ℕ) (p : ℕ) (same : l ≡ book_words (book_of_words l)) 
       (e ∙ words-stand l p same low)
 
   -- a position
-  pub slot-put : (k : ℕ) (s : Slot) → k < 8 → SlotBack s → m ≡ written l (place p + (9 + 4 * k)) (slot_words s)
+  pub slot-put : (k : ℕ) (s : Slot) → k < 8 → SlotBack s → m ≡ written l (place p + (10 + 4 * k)) (slot_words s)
       → Put l (place p) (with_slots f (set f.slots k s)) m
   unfolding file_of_words
   slot-put k s h back e =
-      let at : place p + (9 + 4 * k) ≡ place p + 1 + (8 + 4 * k) = omega arith in
+      let at : place p + (10 + 4 * k) ≡ place p + 1 + (9 + 4 * k) = omega arith in
       put (with_slots f (set f.slots k s)) (length-set (slots_of_words w) k s ∙ slots-long w) (calls-long w) (totals-long w)
       (all_set SlotBack (slots_of_words w) k s back (slots_read w)) (calls-read w) (totals-read w)
-      (stored (with_slots f (set f.slots k s)) (8 + 4 * k) (slot_words s) (slot-words f k s h (slots-long w)) (omega arith)
+      (stored (with_slots f (set f.slots k s)) (9 + 4 * k) (slot_words s) (slot-words f k s h (slots-long w)) (omega arith)
       (e ∙ ap (λ (j : ℕ). written l j (slot_words s)) at))
 
   -- a month's total
-  pub total-put : (k : ℕ) (t : MonthTotal) → k < 16 → TotalBack t → m ≡ written l (place p + (49 + 3 * k)) (total_words t)
+  pub total-put : (k : ℕ) (t : MonthTotal) → k < 16 → TotalBack t → m ≡ written l (place p + (50 + 3 * k)) (total_words t)
       → Put l (place p) (with_months f (set f.totals k t)) m
   unfolding file_of_words
   total-put k t h back e =
-      let at : place p + (49 + 3 * k) ≡ place p + 1 + (48 + 3 * k) = omega arith in
+      let at : place p + (50 + 3 * k) ≡ place p + 1 + (49 + 3 * k) = omega arith in
       put (with_months f (set f.totals k t)) (slots-long w) (calls-long w) (length-set (totals_of_words w) k t ∙ totals-long w)
       (slots_read w) (calls-read w) (all_set TotalBack (totals_of_words w) k t back (totals-read w))
-      (stored (with_months f (set f.totals k t)) (48 + 3 * k) (total_words t) (total-words f k t h (slots-long w) (calls-long w) (totals-long w))
+      (stored (with_months f (set f.totals k t)) (49 + 3 * k) (total_words t) (total-words f k t h (slots-long w) (calls-long w) (totals-long w))
       (omega arith)
       (e ∙ ap (λ (j : ℕ). written l j (total_words t)) at))
 
   -- an open call
-  pub call-put : (k : ℕ) (c : OpenCall) → k < 4 → CallBack c → m ≡ written l (place p + (41 + 2 * k)) (open_call_words c)
+  pub call-put : (k : ℕ) (c : OpenCall) → k < 4 → CallBack c → m ≡ written l (place p + (42 + 2 * k)) (open_call_words c)
       → Put l (place p) (with_places f (set f.calls k c) f.count) m
   unfolding file_of_words
   call-put k c h back e =
-      let at : place p + (41 + 2 * k) ≡ place p + 1 + (40 + 2 * k) = omega arith in
+      let at : place p + (42 + 2 * k) ≡ place p + 1 + (41 + 2 * k) = omega arith in
       put (with_places f (set f.calls k c) f.count) (slots-long w) (length-set (calls_of_words w) k c ∙ calls-long w) (totals-long w)
       (slots_read w) (all_set CallBack (calls_of_words w) k c back (calls-read w)) (totals-read w)
-      (stored (with_places f (set f.calls k c) f.count) (40 + 2 * k) (open_call_words c) (call-words f k c h (slots-long w) (calls-long w))
+      (stored (with_places f (set f.calls k c) f.count) (41 + 2 * k) (open_call_words c) (call-words f k c h (slots-long w) (calls-long w))
       (omega arith)
       (e ∙ ap (λ (j : ℕ). written l j (open_call_words c)) at))
 
@@ -266,8 +291,16 @@ module _ (l m : List ℕ) (p : ℕ) (same : l ≡ book_words (book_of_words l)) 
       put (with_charges f c) (slots-long w) (calls-long w) (totals-long w) (slots_read w) (calls-read w) (totals-read w)
       (stored (with_charges f c) 6 vs (charges-words f c) (omega arith) (e ∙ ap (λ (j : ℕ). written l j vs) at))
 
+  -- the count of calls made
+  pub made-put : (n : ℕ) → m ≡ set l (place p + 9) n → Put l (place p) (with_made f n) m
+  unfolding file_of_words written
+  made-put n e =
+      let at : place p + 9 ≡ place p + 1 + 8 = omega arith in
+      put (with_made f n) (slots-long w) (calls-long w) (totals-long w) (slots_read w) (calls-read w) (totals-read w)
+      (stored (with_made f n) 8 (n ∷ []) (made-words f n) (omega arith) (e ∙ ap (λ (j : ℕ). set l j n) at))
+
 -- One part put after another: the file that was put last stands there.
-pub put-again : (l m n : List ℕ) (at : ℕ) (g h : File) → at + 97 ≤ length l → Put l at g m → Put m at h n → Put l at h n
+pub put-again : (l m n : List ℕ) (at : ℕ) (g h : File) → at + 98 ≤ length l → Put l at g m → Put m at h n → Put l at h n
 put-again l m n at g h room one two =
     record {
       stored =

@@ -1,4 +1,4 @@
--- A file in 96 words: eight of its own, eight positions of four, four open calls of two, sixteen month totals of three.
+-- A file in 97 words: nine of its own, eight positions of four, four open calls of two, sixteen month totals of three.
 -- Assumes nothing.
 use Rattle.std.specs.Prelude.{ℕ, ◌+◌, ◌*◌, ◌≡◌, List, [], ◌∷◌, ◌++◌, length, get_or, take}
 use Rattle.laws.specs.Lists.{All, table}
@@ -19,18 +19,18 @@ call_in l at = open_call_of_words (get_or l at 0) (get_or l (at + 1) 0)
 abbrev pub month_total_in : List ℕ → ℕ → MonthTotal
 month_total_in l at = total_of_words (get_or l at 0) (get_or l (at + 1) 0) (get_or l (at + 2) 0)
 
--- The eight positions, the four open calls and the sixteen month totals of a file, from its words 1 to 96.
+-- The eight positions, the four open calls and the sixteen month totals of a file, from its words 1 to 97.
 unfoldable pub slots_of_words : (ℕ → ℕ) → List Slot
-slots_of_words w = table 8 (λ k. slot_of_words (w (9 + 4 * k)) (w (10 + 4 * k)) (w (11 + 4 * k)) (w (12 + 4 * k)))
+slots_of_words w = table 8 (λ k. slot_of_words (w (10 + 4 * k)) (w (11 + 4 * k)) (w (12 + 4 * k)) (w (13 + 4 * k)))
 
 unfoldable pub calls_of_words : (ℕ → ℕ) → List OpenCall
-calls_of_words w = table 4 (λ k. open_call_of_words (w (41 + 2 * k)) (w (42 + 2 * k)))
+calls_of_words w = table 4 (λ k. open_call_of_words (w (42 + 2 * k)) (w (43 + 2 * k)))
 
 unfoldable pub totals_of_words : (ℕ → ℕ) → List MonthTotal
-totals_of_words w = table 16 (λ k. total_of_words (w (49 + 3 * k)) (w (50 + 3 * k)) (w (51 + 3 * k)))
+totals_of_words w = table 16 (λ k. total_of_words (w (50 + 3 * k)) (w (51 + 3 * k)) (w (52 + 3 * k)))
 
--- The file: its words 1 to 8 are its status, its role, the firm amount, the number of open calls, whether a next amount is set, the next amount, the
--- days charged and the accrued charge.
+-- The file: its words 1 to 9 are its status, its role, the firm amount, the number of open calls, whether a next amount is set, the next amount, the
+-- days charged, the accrued charge and the count of calls made.
 unfoldable pub file_of_words : (ℕ → ℕ) → File
 file_of_words w =
     record {
@@ -45,6 +45,7 @@ file_of_words w =
       totals = totals_of_words w;
       charged = w 7;
       accrued = w 8;
+      made = w 9;
     }
 
 -- The words behind a place.
@@ -56,19 +57,19 @@ unfoldable pub flat : {A : Type 0} → (A → List ℕ) → List A → List ℕ
 flat enc [] = []
 flat enc (x ∷ l) = enc x ++ flat enc l
 
--- The first eight words of a file.
+-- The first nine words of a file.
 abbrev pub own_words : File → List ℕ
 own_words f =
-    status_word f.admitted f.leaving ∷ f.role ∷ f.firm ∷ f.count ∷ flag_word f.next.set ∷ f.next.amount ∷ f.charged ∷ f.accrued ∷ []
+    status_word f.admitted f.leaving ∷ f.role ∷ f.firm ∷ f.count ∷ flag_word f.next.set ∷ f.next.amount ∷ f.charged ∷ f.accrued ∷ f.made ∷ []
 
--- The 96 words of a file.
+-- The 97 words of a file.
 unfoldable pub file_words : File → List ℕ
 file_words f = own_words f ++ (flat slot_words f.slots ++ (flat open_call_words f.calls ++ flat total_words f.totals))
 
 -- What a file that is put at a place leaves: its words, and it is the file read there.
 pub record Put (l : List ℕ) (at : ℕ) (f : File) (m : List ℕ) : Type 0 where
   pub stored : m ≡ written l (at + 1) (file_words f)
-  pub long : length (file_words f) ≡ 96
+  pub long : length (file_words f) ≡ 97
   pub back : file_of_words (words_at m at) ≡ f
 
 -- What parts that are put from a place on leave.

@@ -1,6 +1,6 @@
 -- Which words are a book: those that a saved book must be before it is used.
 -- Assumes nothing.
-use Rattle.std.specs.Prelude.{ℕ, ◌+◌, ◌*◌, ◌≤◌, ◌≡◌, false, List, [], ◌∷◌, length}
+use Rattle.std.specs.Prelude.{◌≤◌, ◌≡◌, ℕ, false, List, length}
 use Rattle.laws.specs.Lists.{All}
 use Rattle.file.specs.declared.File.{File}
 use Rattle.file.specs.Admit.{no_file}
@@ -8,23 +8,16 @@ use Rattle.file.specs.Sound.{Sound}
 use Rattle.layout.specs.Book.{Book}
 use Rattle.layout.specs.Words.{book_length, book_of_words, book_words}
 
--- How many calls are open in the files.
-unfoldable pub open_count : List File → ℕ
-open_count [] = 0
-open_count (f ∷ files) = f.count + open_count files
-
 -- A file that isn't admitted holds nothing.
 abbrev pub BlankUnlessAdmitted : File → Type 0
 BlankUnlessAdmitted f = f.admitted ≡ false → f ≡ no_file
 
--- The bounds of a book's quantities: today lies in the calendar, there are 64 files, each within its bounds today, and of the calls made
--- those that are no longer open ended on a day that was opened, at most four of each file on a day.
+-- The bounds of a book's quantities: today lies in the calendar, and there are 64 files, each within its bounds today.
 pub record SoundBook (b : Book) : Type 0 where
   pub day : b.today.0 ≤ 29219
   pub many : length b.files ≡ 64
   pub files : All (Sound b.today.0) b.files
   pub blank : All BlankUnlessAdmitted b.files
-  pub made : b.made ≤ 256 * b.today.0 + open_count b.files
 
 -- Well-formed words: they are the words of the book that they stand for, so that one book has one list of words, and that book is within its
 -- bounds.

@@ -1,4 +1,4 @@
-// A file in 96 words behind a place: 8 of its own, 8 slots of 4, 4 open calls of 2, 16 month totals of 3.
+// A file in 97 words behind a place: 9 of its own, 8 slots of 4, 4 open calls of 2, 16 month totals of 3.
 ghost use Rattle.std.specs.Prelude.{◌≡◌, ◌+◌, ◌≤◌, [], ◌∷◌, length};
 ghost use Rattle.laws.specs.Lists.{All};
 ghost use Rattle.file.specs.declared.Slot.{Slot};
@@ -17,7 +17,7 @@ use file::{Charges, File, MonthTotal, NextAmount, OpenCall, Slot};
 #[tactic(auto, unfolding(crate::specs::Files::file_of_words))]
 #[inline]
 pub fn file_at(words: &[u64], at: usize) -> File
-    requires { at + 97 ≤ length words.now }
+    requires { at + 98 ≤ length words.now }
     ensures { result ≡ file_of_words (words_at words.now at) }
 {
     File {
@@ -35,12 +35,13 @@ pub fn file_at(words: &[u64], at: usize) -> File
         totals: read_rows(words, at),
         charged: words[at + 7],
         accrued: words[at + 8],
+        made: words[at + 9],
     }
 }
 
 // Writes the words of the file's own behind a place.
 fn put_own(words: &mut [u64], at: usize, file: File)
-    requires { at + 9 ≤ length words.old }
+    requires { at + 10 ≤ length words.old }
     ensures { words.new ≡ written words.old (at + 1) (own_words file) }
 {
     put_words(
@@ -55,13 +56,14 @@ fn put_own(words: &mut [u64], at: usize, file: File)
             file.next.amount,
             file.charged,
             file.accrued,
+            file.made,
         ],
     );
 }
 
 // Writes the file behind a place.
 pub fn put_file(words: &mut [u64], at: usize, file: File)
-    requires { at + 97 ≤ length words.old }
+    requires { at + 98 ≤ length words.old }
     ensures { Put words.old at file words.new }
 {
     put_own(words, at, file);
@@ -72,7 +74,7 @@ pub fn put_file(words: &mut [u64], at: usize, file: File)
 
 // Writes a next amount, set, of the file behind a place.
 pub fn put_next(words: &mut [u64], at: usize, amount: u64)
-    requires { at + 97 ≤ length words.old }
+    requires { at + 98 ≤ length words.old }
     ensures { words.new ≡ written words.old (at + 5) (1 ∷ amount ∷ []) }
 {
     put_words(words, at + 5, &[1, amount]);
@@ -80,7 +82,7 @@ pub fn put_next(words: &mut [u64], at: usize, amount: u64)
 
 // Writes the charges of the file behind a place.
 pub fn put_charges(words: &mut [u64], at: usize, charges: Charges)
-    requires { at + 97 ≤ length words.old }
+    requires { at + 98 ≤ length words.old }
     ensures { words.new ≡ written words.old (at + 7) (charges.charged ∷ charges.accrued ∷ []) }
 {
     put_words(words, at + 7, &[charges.charged, charges.accrued]);
@@ -88,7 +90,7 @@ pub fn put_charges(words: &mut [u64], at: usize, charges: Charges)
 
 // What the positions of the file behind a place give from one day through another that isn't before it.
 pub fn cover_at(words: &[u64], at: usize, from: Day, through: Day) -> u64
-    requires { (at + 97 ≤ length words.now) × All (λ (s : Slot). SoundPosition s.position) (slots_of_words (words_at words.now at)) }
+    requires { (at + 98 ≤ length words.now) × All (λ (s : Slot). SoundPosition s.position) (slots_of_words (words_at words.now at)) }
     ensures { result ≡ cover_through from.0 through.0 (slots_of_words (words_at words.now at)) }
 {
     // Kept: as `file::cover::cover`, but by the words: with the positions read first and summed there a statement took 1.8 times as long.

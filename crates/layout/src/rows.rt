@@ -57,13 +57,13 @@ pub trait Row: Copy {
 impl Row for Slot {
     ghost WORDS = { 4 };
 
-    ghost PLACE = { 9 };
+    ghost PLACE = { 10 };
 
     ghost COUNT = { 8 };
 
     const WORDS: usize = 4;
 
-    const PLACE: usize = 9;
+    const PLACE: usize = 10;
 
     ghost row_in = { slot_in };
 
@@ -94,13 +94,13 @@ impl Row for Slot {
 impl Row for OpenCall {
     ghost WORDS = { 2 };
 
-    ghost PLACE = { 41 };
+    ghost PLACE = { 42 };
 
     ghost COUNT = { 4 };
 
     const WORDS: usize = 2;
 
-    const PLACE: usize = 41;
+    const PLACE: usize = 42;
 
     ghost row_in = { call_in };
 
@@ -132,13 +132,13 @@ impl Row for OpenCall {
 impl Row for MonthTotal {
     ghost WORDS = { 3 };
 
-    ghost PLACE = { 49 };
+    ghost PLACE = { 50 };
 
     ghost COUNT = { 16 };
 
     const WORDS: usize = 3;
 
-    const PLACE: usize = 49;
+    const PLACE: usize = 50;
 
     ghost row_in = { month_total_in };
 

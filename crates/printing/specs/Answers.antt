@@ -32,8 +32,8 @@ answer_words (Answer.Covered e) = text "covered" ∷ integer e ∷ []
 answer_words (Answer.Recorded e) = text "recorded" ∷ integer e ∷ []
 answer_words (Answer.Annual a m) = text "annual" ∷ decimal a ∷ decimal m ∷ []
 answer_words (Answer.Opened d) = text "opened" ∷ decimal d ∷ []
-answer_words (Answer.Statement f c s d m) =
-    text "statement" ∷ decimal f ∷ decimal c ∷ decimal s ∷ decimal d ∷ decimal m ∷ []
+answer_words (Answer.Statement f c s d m n) =
+    text "statement" ∷ decimal f ∷ decimal c ∷ decimal s ∷ decimal d ∷ decimal m ∷ decimal n ∷ []
 answer_words (Answer.Calls n) = text "calls" ∷ decimal n ∷ []
 answer_words (Answer.Special c) = text "special" ∷ decimal c ∷ []
 answer_words (Answer.Batch n) = text "batch" ∷ decimal n ∷ []

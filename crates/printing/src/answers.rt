@@ -55,7 +55,7 @@ impl Puts for Answer {
             Answer::Recorded(e) => out.words(b"recorded", &[e]),
             Answer::Annual(amount, months) => out.words(b"annual", &[amount, months]),
             Answer::Opened(days) => out.words(b"opened", &[days as u64]),
-            Answer::Statement(f, c, s, d, m) => out.words(b"statement", &[f, c, s, d, m]),
+            Answer::Statement(f, c, s, d, m, n) => out.words(b"statement", &[f, c, s, d, m, n]),
             Answer::Calls(n) => out.words(b"calls", &[n]),
             Answer::Special(cents) => out.words(b"special", &[cents]),
             Answer::Batch(n) => out.words(b"batch", &[n]),

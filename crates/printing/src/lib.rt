@@ -17,9 +17,9 @@ pub use numbers::last_digit;
 pub use rows::parted;
 
 // An answer to a line: E is the sum of a settlement's figures, ASKED what a call asks for and LAST_FREE_DAY its last free day; the amount
-// and the months of an annual run; the days opened; a statement's firm amount, cover, shortfall, days charged and accrued charge; the calls
-// made; a special guarantee in cents; how many settlements a batch made, or its refusal and the index of the pair; a deletion's amount, and
-// whether it became a call; the line that is no call, and why. Nothing is said to an empty line.
+// and the months of an annual run; the days opened; a statement's firm amount, cover, shortfall, days charged, accrued charge and count of calls
+// made; the calls made in all; a special guarantee in cents; how many settlements a batch made, or its refusal and the index of the pair; a deletion's
+// amount, and whether it became a call; the line that is no call, and why. Nothing is said to an empty line.
 // Kept: `Nothing` and `Error` are cases: `shown` and `answer_line` speak of any, and an Option of a Result would ask two more matches.
 #[derive(Clone, Copy)]
 pub enum Answer {
@@ -31,7 +31,7 @@ pub enum Answer {
     Recorded(i64),
     Annual(u64, u64),
     Opened(u32),
-    Statement(u64, u64, u64, u64, u64),
+    Statement(u64, u64, u64, u64, u64, u64),
     Calls(u64),
     Special(u64),
     Batch(u64),

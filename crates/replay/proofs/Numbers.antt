@@ -45,8 +45,8 @@ use Rattle.book.specs.Reached.{Given}
 use Rattle.book.specs.InWords.{GivenWords}
 use Rattle.replay.specs.Encoding.{WithinSigned}
 use Rattle.book.proofs.Participant.Decide.{decide_true, decide-false}
-use Rattle.book.proofs.Functions.SoundBook.{sound-file, sound-made}
-use Rattle.book.proofs.Functions.OnWords.{file-there}
+use Rattle.book.proofs.Functions.SoundBook.{sound-file, made-bound}
+use Rattle.book.proofs.Functions.OnWords.{counts-few, file-there}
 
 -- ---- the bounds of an answer's numbers
 
@@ -91,7 +91,7 @@ statement-within : (f : File) (t : ℕ) → Sound t f → length f.slots ≡ 8 �
 unfolding file_statement shortfall_of
 statement-within f t s n =
     let cover = sound-cover t t f s n in
-    (omega (arith, s.firm), omega arith, omega (arith, s.firm), omega (arith, s.charged, s.day), omega (arith, s.charged, s.day, s.accrued))
+    (omega (arith, s.firm), omega arith, omega (arith, s.firm), omega (arith, s.charged, s.day), omega (arith, s.charged, s.day, s.accrued), omega (arith, made-bound t f s))
 
 -- A call's on a participant's file.
 file-within : (f : File) (t : ℕ) (a : Act) → Sound t f → WithinSigned (file_answer f t a)
@@ -113,7 +113,7 @@ unfolding file_of_words slots_of_words
 eight l p h =
     let w = words_at l (place p) in
     ap (λ (f : File). length f.slots) (file-there l p h)
-    ∙ length-table 8 (λ k. slot_of_words (w (9 + 4 * k)) (w (10 + 4 * k)) (w (11 + 4 * k)) (w (12 + 4 * k)))
+    ∙ length-table 8 (λ k. slot_of_words (w (10 + 4 * k)) (w (11 + 4 * k)) (w (12 + 4 * k)) (w (13 + 4 * k)))
 
 -- A batch's are small by its bytes.
 batch-within : (form : Result ℕ Misfit) (answers : ℕ → Answer) → WithinSigned (batch_says form answers)
@@ -137,7 +137,7 @@ answer-within l (statement p) w =
     (λ n. decide-within _ (statement_says (file_statement (file_at b p) b.today.0))
     (λ m. statement-within (file_at b p) b.today.0 (sound-file b p w.sound) (eight l p (ltb-false 63 p n.0))))
 answer-within l (batch file) w = batch-within (form_of file) (part_answer (book_of_words l) file)
-answer-within l calls_made w = let few = sound-made (book_of_words l) w.sound in omega arith
+answer-within l calls_made w = let few = counts-few l w in omega arith
 
 -- .. so those of what a question or a call gives are.
 pub asked-within : (l : List ℕ) (c : Call) (x : Answer) → WellFormed l → Given (book_of_words l) c x (book_of_words l) → WithinSigned x

@@ -25,7 +25,7 @@ use Rattle.book.specs.Reading.Decisions.{decision, events_of}
 use Rattle.book.specs.Reached.{Reached, Begun}
 use Rattle.book.specs.InWords.{BegunWords}
 use Rattle.replay.specs.Encoding.{call_at, first_calls, since_calls, history_up_to}
-use Rattle.replay.specs.Encoding.{rule_of, rule_of_place, six_numbers, decided}
+use Rattle.replay.specs.Encoding.{rule_of, rule_of_place, seven_numbers, decided}
 use Rattle.replay.specs.Replayed.{GivenNumbers, call_count, Replayed, ReplayedFrom}
 use Rattle.book.proofs.History.Life.{life}
 use Rattle.book.proofs.History.Lift as Lift
@@ -39,7 +39,7 @@ unfolding step
 given-alike l m c z n g =
     let x = alike c n (book_of_words l) in
     record {
-      answered = g.answered ∙ ap six_numbers (sym x);
+      answered = g.answered ∙ ap seven_numbers (sym x);
       left = g.left ∙ ap (λ (y : Answer). cond (accepted y) (applied (book_of_words l) c) (book_of_words l)) (sym x);
       formed = g.formed;
     }
@@ -52,8 +52,8 @@ under-either false l m c z other g = g
 
 -- ---- the calls in turn
 
--- An answer's numbers are six.
-numbers-long : (x : Answer) → length (six_numbers x) ≡ 6
+-- An answer's numbers are seven.
+numbers-long : (x : Answer) → length (seven_numbers x) ≡ 7
 numbers-long (refused n) = refl
 numbers-long done = refl
 numbers-long (called e asked last) = refl
@@ -61,18 +61,18 @@ numbers-long (covered e) = refl
 numbers-long (recorded e) = refl
 numbers-long (annual a n) = refl
 numbers-long (days_opened n) = refl
-numbers-long (stated f c s d a) = refl
+numbers-long (stated f c s d a m) = refl
 numbers-long (counted n) = refl
 numbers-long (batched n) = refl
 numbers-long (refused_pair n i) = refl
 numbers-long (deletion a calls) = refl
 
-decided-long : (s first : ℕ) (calls : List ℕ) (figures : List ℤ) (files : List ℕ) (n : ℕ) → length (decided s first calls figures files n) ≡ 6 * n
+decided-long : (s first : ℕ) (calls : List ℕ) (figures : List ℤ) (files : List ℕ) (n : ℕ) → length (decided s first calls figures files n) ≡ 7 * n
 unfolding decided
 decided-long s first calls figures files zero = refl
 decided-long s first calls figures files (suc n) =
-    let x = six_numbers (decision (rule_of_place first n) s (events_of s (history_up_to first calls figures files n)) (call_at calls figures files n)) in
-    let six = numbers-long (decision (rule_of_place first n) s (events_of s (history_up_to first calls figures files n)) (call_at calls figures files n)) in
+    let x = seven_numbers (decision (rule_of_place first n) s (events_of s (history_up_to first calls figures files n)) (call_at calls figures files n)) in
+    let seven = numbers-long (decision (rule_of_place first n) s (events_of s (history_up_to first calls figures files n)) (call_at calls figures files n)) in
     omega (arith, length-append (decided s first calls figures files n) x, decided-long s first calls figures files n)
 
 -- After i calls of `count` from a fresh book on day s: what was written and the book in the words m are those of the first i calls.
@@ -81,7 +81,7 @@ pub record Turn (calls : List ℕ) (figures : List ℤ) (files : List ℕ) (out�
   pub all : count ≡ call_count calls out₀
   pub made : i ≤ count
   pub long : length out ≡ length out₀
-  pub written : out ≡ decided s first calls figures files i ++ drop (6 * i) out₀
+  pub written : out ≡ decided s first calls figures files i ++ drop (7 * i) out₀
   pub left : book_of_words m ≡ run s (history_up_to first calls figures files i)
   pub formed : WellFormed m
 
@@ -129,7 +129,7 @@ first_day m = (book_of_words m).today.0
 
 -- No call yet.
 pub turn-first : (calls : List ℕ) (figures : List ℤ) (files : List ℕ) (out : List ℤ) (d first count : ℕ) (m : List ℕ) → BegunWords d done m
-    → count ≡ min (length calls / 6) (length out / 6) → Turn calls figures files out (first_day m) first count 0 out m
+    → count ≡ min (length calls / 6) (length out / 7) → Turn calls figures files out (first_day m) first count 0 out m
 unfolding decided run
 turn-first calls figures files out d first count m g e =
     let h = begun-within d g.begun.answered in
@@ -160,7 +160,7 @@ module _ (calls : List ℕ) (figures : List ℤ) (files : List ℕ) (out₀ : Li
   pub turn-words : i < count → 6 * i + 6 ≤ length calls
   turn-words h = omega (arith, t.all)
 
-  pub turn-room : i < count → 6 * i + 6 ≤ length out
+  pub turn-room : i < count → 7 * i + 7 ≤ length out
   turn-room h = omega (arith, t.all, t.long)
 
   -- Its answer is the reading's decision.
@@ -170,33 +170,33 @@ module _ (calls : List ℕ) (figures : List ℤ) (files : List ℕ) (out₀ : Li
       ap (λ (b : Book). answer (rule_of_place first i) b (call_at calls figures files i)) t.left
       ∙ Lift.decided s (history_up_to first calls figures files i) t.day (rule_of_place first i) (call_at calls figures files i)
 
-  -- What was written stays, and what is behind the next six numbers.
-  turn-before : take (6 * i) out ≡ decided s first calls figures files i
+  -- What was written stays, and what is behind the next seven numbers.
+  turn-before : take (7 * i) out ≡ decided s first calls figures files i
   turn-before =
-      ap (take (6 * i)) t.written
-      ∙ take_at (decided s first calls figures files i) (drop (6 * i) out₀) (6 * i) (decided-long s first calls figures files i)
+      ap (take (7 * i)) t.written
+      ∙ take_at (decided s first calls figures files i) (drop (7 * i) out₀) (7 * i) (decided-long s first calls figures files i)
 
-  turn-behind : drop (6 * i + 6) out ≡ drop (6 * i + 6) out₀
+  turn-behind : drop (7 * i + 7) out ≡ drop (7 * i + 7) out₀
   turn-behind =
-      sym (drop-drop 6 (6 * i) out)
-      ∙ ap (λ (l : List ℤ). drop 6 (drop (6 * i) l)) t.written
-      ∙ ap (drop 6) (drop_at (decided s first calls figures files i) (drop (6 * i) out₀) (6 * i) (decided-long s first calls figures files i))
-      ∙ drop-drop 6 (6 * i) out₀
+      sym (drop-drop 7 (7 * i) out)
+      ∙ ap (λ (l : List ℤ). drop 7 (drop (7 * i) l)) t.written
+      ∙ ap (drop 7) (drop_at (decided s first calls figures files i) (drop (7 * i) out₀) (7 * i) (decided-long s first calls figures files i))
+      ∙ drop-drop 7 (7 * i) out₀
 
   -- What is written after the next call.
   turn-written : (l out' : List ℤ) (m' : List ℕ) → GivenNumbers (rule_of_place first i) m (call_at calls figures files i) l m'
-      → out' ≡ take (6 * i) out ++ l ++ drop (6 * i + 6) out → out' ≡ decided s first calls figures files (i + 1) ++ drop (6 * (i + 1)) out₀
+      → out' ≡ take (7 * i) out ++ l ++ drop (7 * i + 7) out → out' ≡ decided s first calls figures files (i + 1) ++ drop (7 * (i + 1)) out₀
   unfolding decided
   turn-written l out' m' g e =
-      let n : 6 * i + 6 ≡ 6 * (i + 1) = omega arith in
+      let n : 7 * i + 7 ≡ 7 * (i + 1) = omega arith in
       e
       ∙ ap₂ (λ (x y : List ℤ). x ++ l ++ y) turn-before turn-behind
-      ∙ ap (λ (x : List ℤ). decided s first calls figures files i ++ x ++ drop (6 * i + 6) out₀) (g.answered ∙ ap six_numbers turn-decided)
+      ∙ ap (λ (x : List ℤ). decided s first calls figures files i ++ x ++ drop (7 * i + 7) out₀) (g.answered ∙ ap seven_numbers turn-decided)
       ∙ ap₂ (λ (j k : ℕ). decided s first calls figures files j ++ drop k out₀) (sym (add-one i)) n
 
   -- One call more.
   pub turn-next : (l out' : List ℤ) (m' : List ℕ) → i < count → GivenNumbers (rule_of_place first i) m (call_at calls figures files i) l m'
-      → out' ≡ take (6 * i) out ++ l ++ drop (6 * i + 6) out → Turn calls figures files out₀ s first count (i + 1) out' m'
+      → out' ≡ take (7 * i) out ++ l ++ drop (7 * i + 7) out → Turn calls figures files out₀ s first count (i + 1) out' m'
   unfolding run
   turn-next l out' m' h g e =
       let w = turn-written l out' m' g e in
@@ -206,8 +206,8 @@ module _ (calls : List ℕ) (figures : List ℤ) (files : List ℕ) (out₀ : Li
         made = omega arith;
         long =
             ap length w
-            ∙ length-append (decided s first calls figures files (i + 1)) (drop (6 * (i + 1)) out₀)
-            ∙ omega (arith, decided-long s first calls figures files (i + 1), length-drop (6 * (i + 1)) out₀, t.all);
+            ∙ length-append (decided s first calls figures files (i + 1)) (drop (7 * (i + 1)) out₀)
+            ∙ omega (arith, decided-long s first calls figures files (i + 1), length-drop (7 * (i + 1)) out₀, t.all);
         written = w;
         left =
             g.left

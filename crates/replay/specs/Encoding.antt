@@ -71,24 +71,24 @@ rule_of old = cond old old_rule new_rule
 abbrev pub rule_of_place : (first n : ℕ) → Rule
 rule_of_place first n = rule_of (ltb n first)
 
--- Six numbers, the first of them natural.
-abbrev pub six : ℕ → ℤ → ℤ → ℤ → ℤ → ℤ → List ℤ
-six kind a b c d e = pos kind ∷ a ∷ b ∷ c ∷ d ∷ e ∷ []
+-- Seven numbers, the first of them natural.
+abbrev pub seven : ℕ → ℤ → ℤ → ℤ → ℤ → ℤ → ℤ → List ℤ
+seven kind a b c d e f = pos kind ∷ a ∷ b ∷ c ∷ d ∷ e ∷ f ∷ []
 
--- An answer as six numbers: which it is, then its values, then zeros.
-abbrev pub six_numbers : Answer → List ℤ
-six_numbers (refused n) = six 0 (pos n) (pos 0) (pos 0) (pos 0) (pos 0)
-six_numbers done = six 1 (pos 0) (pos 0) (pos 0) (pos 0) (pos 0)
-six_numbers (called e asked last) = six 2 (pos e) (pos asked) (pos last) (pos 0) (pos 0)
-six_numbers (covered e) = six 3 e (pos 0) (pos 0) (pos 0) (pos 0)
-six_numbers (recorded e) = six 4 e (pos 0) (pos 0) (pos 0) (pos 0)
-six_numbers (annual a n) = six 5 (pos a) (pos n) (pos 0) (pos 0) (pos 0)
-six_numbers (days_opened n) = six 6 (pos n) (pos 0) (pos 0) (pos 0) (pos 0)
-six_numbers (stated f c s d a) = six 7 (pos f) (pos c) (pos s) (pos d) (pos a)
-six_numbers (counted n) = six 8 (pos n) (pos 0) (pos 0) (pos 0) (pos 0)
-six_numbers (batched n) = six 9 (pos n) (pos 0) (pos 0) (pos 0) (pos 0)
-six_numbers (refused_pair n i) = six 10 (pos n) (pos i) (pos 0) (pos 0) (pos 0)
-six_numbers (deletion a calls) = six 11 (pos a) (pos (flag_word calls)) (pos 0) (pos 0) (pos 0)
+-- An answer as seven numbers: which it is, then its values, then zeros.
+abbrev pub seven_numbers : Answer → List ℤ
+seven_numbers (refused n) = seven 0 (pos n) (pos 0) (pos 0) (pos 0) (pos 0) (pos 0)
+seven_numbers done = seven 1 (pos 0) (pos 0) (pos 0) (pos 0) (pos 0) (pos 0)
+seven_numbers (called e asked last) = seven 2 (pos e) (pos asked) (pos last) (pos 0) (pos 0) (pos 0)
+seven_numbers (covered e) = seven 3 e (pos 0) (pos 0) (pos 0) (pos 0) (pos 0)
+seven_numbers (recorded e) = seven 4 e (pos 0) (pos 0) (pos 0) (pos 0) (pos 0)
+seven_numbers (annual a n) = seven 5 (pos a) (pos n) (pos 0) (pos 0) (pos 0) (pos 0)
+seven_numbers (days_opened n) = seven 6 (pos n) (pos 0) (pos 0) (pos 0) (pos 0) (pos 0)
+seven_numbers (stated f c s d a m) = seven 7 (pos f) (pos c) (pos s) (pos d) (pos a) (pos m)
+seven_numbers (counted n) = seven 8 (pos n) (pos 0) (pos 0) (pos 0) (pos 0) (pos 0)
+seven_numbers (batched n) = seven 9 (pos n) (pos 0) (pos 0) (pos 0) (pos 0) (pos 0)
+seven_numbers (refused_pair n i) = seven 10 (pos n) (pos i) (pos 0) (pos 0) (pos 0) (pos 0)
+seven_numbers (deletion a calls) = seven 11 (pos a) (pos (flag_word calls)) (pos 0) (pos 0) (pos 0) (pos 0)
 
 -- The largest number of a signed word of 64 bits.
 abbrev pub largest_signed : ℕ
@@ -103,12 +103,13 @@ WithinSigned (covered e) = Unit {0}
 WithinSigned (recorded e) = Unit {0}
 WithinSigned (annual a n) = (a ≤ largest_signed) × (n ≤ largest_signed)
 WithinSigned (days_opened n) = Unit {0}
-WithinSigned (stated f c s d a) =
+WithinSigned (stated f c s d a m) =
     (f ≤ largest_signed)
     × (c ≤ largest_signed)
     × (s ≤ largest_signed)
     × (d ≤ largest_signed)
     × (a ≤ largest_signed)
+    × (m ≤ largest_signed)
 WithinSigned (counted n) = n ≤ largest_signed
 WithinSigned (batched n) = Unit {0}
 WithinSigned (refused_pair n i) = Unit {0}
@@ -119,5 +120,5 @@ unfoldable pub decided : (s first : ℕ) → List ℕ → List ℤ → List ℕ 
 decided s first calls figures files zero = []
 decided s first calls figures files (suc n) =
     decided s first calls figures files n
-    ++ six_numbers
+    ++ seven_numbers
     (decision (rule_of_place first n) s (events_of s (history_up_to first calls figures files n)) (call_at calls figures files n))

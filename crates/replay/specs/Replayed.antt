@@ -12,18 +12,18 @@ use Rattle.book.specs.Reading.Decisions.{events_of}
 use Rattle.book.specs.Kept.{book_in}
 use Rattle.book.specs.Life.{Life}
 use Rattle.book.specs.Reached.{Reached}
-use Rattle.replay.specs.Encoding.{history_up_to, six_numbers, decided}
+use Rattle.replay.specs.Encoding.{history_up_to, seven_numbers, decided}
 
 -- What call c, made under a rule on the book in the words l, gives: the numbers of its answer, and the words m that it leaves.
 pub record GivenNumbers (rule : Rule) (l : List ℕ) (c : Call) (numbers : List ℤ) (m : List ℕ) : Type 0 where
-  pub answered : numbers ≡ six_numbers (answer rule (book_of_words l) c)
+  pub answered : numbers ≡ seven_numbers (answer rule (book_of_words l) c)
   pub left : book_of_words m ≡ step rule (book_of_words l) c
   -- the next call may be made
   pub formed : WellFormed m
 
--- How many calls are made: as many as have their six words, and room for their six numbers.
+-- How many calls are made: as many as have their six words, and room for their seven numbers.
 abbrev pub call_count : List ℕ → List ℤ → ℕ
-call_count calls out = min (length calls / 6) (length out / 6)
+call_count calls out = min (length calls / 6) (length out / 7)
 
 -- Demand 3, of the first n calls from a fresh book on day s, of which the first `first` are made under the old admission rule and the others
 -- under the new one (paper 02, Ask 3): what was written, `before` being there until then, and the book b at the end.
@@ -36,7 +36,7 @@ pub record Replayed
     (b : Book)
     : Type 0 where
   -- the numbers of each answer are those that the papers decide, call by call; what is past them is as it was
-  pub written : after ≡ decided s first calls figures files n ++ drop (6 * n) before
+  pub written : after ≡ decided s first calls figures files n ++ drop (7 * n) before
   -- the book is that of the readings of the history, field by field
   pub kept : b ≡ book_in s (events_of s (history_up_to first calls figures files n))
   -- it is the book that the calls lead to, and the claim about the list of calls holds of it

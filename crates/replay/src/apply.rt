@@ -11,7 +11,7 @@ use crate::encoded::{Made, Numbered, Opened};
 
 // Makes a call on a book by the new admission rule, and gives the numbers of its answer.
 #[tactic(auto, using(crate::proofs::Numbers::within))]
-fn apply(book: &mut [u64], call: Call) -> [i64; 6]
+fn apply(book: &mut [u64], call: Call) -> [i64; 7]
     requires { WellFormed book.old }
     ensures { GivenNumbers new_rule book.old (said call.entry) result book.new }
 {
@@ -36,7 +36,7 @@ fn apply(book: &mut [u64], call: Call) -> [i64; 6]
 }
 
 // Makes a call under the old admission rule, where `old` says so, or under the new one. Only admission differs (paper 02, Ask 3).
-pub fn apply_under(book: &mut [u64], call: Call, old: bool) -> [i64; 6]
+pub fn apply_under(book: &mut [u64], call: Call, old: bool) -> [i64; 7]
     requires { WellFormed book.old }
     ensures { GivenNumbers (rule_of old) book.old (said call.entry) result book.new }
 {

@@ -9,15 +9,15 @@ use crate::call::call_at;
 use calendar::Day;
 use file::Outcome;
 
-// Writes six numbers from a place on.
-fn put(out: &mut [i64], at: usize, numbers: [i64; 6])
-    requires { at + 6 ≤ length out.old }
-    ensures { out.new ≡ take at out.old ++ numbers ++ drop (at + 6) out.old }
+// Writes seven numbers from a place on.
+fn put(out: &mut [i64], at: usize, numbers: [i64; 7])
+    requires { at + 7 ≤ length out.old }
+    ensures { out.new ≡ take at out.old ++ numbers ++ drop (at + 7) out.old }
 {
-    out[at..at + 6].copy_from_slice(&numbers);
+    out[at..at + 7].copy_from_slice(&numbers);
 }
 
-// Writes a fresh book on a day into lent words, makes the calls in turn on it, and writes the six numbers of each answer; says what the fresh
+// Writes a fresh book on a day into lent words, makes the calls in turn on it, and writes the seven numbers of each answer; says what the fresh
 // book answered, and leaves the book at the end. Six words are a call; a settlement's figures are a part of `figures`, and a batch's file is a
 // part of `files`. The first `first` calls, or all if there are fewer, are made under the old admission rule (paper 02, Ask 3), the others under
 // the new one.
@@ -38,10 +38,10 @@ pub fn replay(
 {
     book::fresh(book, start)?;
     // Kept: by places, here, in `put` and in `call_at`: the library's `as_chunks_mut` says nothing of what `out` ends as, which is what is promised.
-    let count = (calls.len() / 6).min(out.len() / 6);
+    let count = (calls.len() / 6).min(out.len() / 7);
     for i in 0..count {
         let call = call_at(calls, figures, files, i);
-        put(out, 6 * i, apply_under(book, call, i < first));
+        put(out, 7 * i, apply_under(book, call, i < first));
     }
     Ok(())
 }

@@ -33,7 +33,7 @@ unfolding date_text digits
 date = ap dated_text (date_of-day_of_date 2021 10 1 (record { 0 = 639 }) october-2021)
 
 -- A trader's line.
-pub line : line_of 7 2 (stated 2000000 1500000 500000 12 500000000)
+pub line : line_of 7 2 (stated 2000000 1500000 500000 12 500000000 1)
     ≡ text "          7           trader          20000.00          15000.00           5000.00           12            5000.00000\n"
 unfolding line_of table_line in_columns padded joined spaced role_text role_names fixed digits decimal numeral
 line = refl

@@ -30,7 +30,7 @@ Answers calls from standard input, one a line. With JOURNAL the book is kept in 
 
 // The version: its second number grows with what is kept or answered otherwise than before.
 pub fn put_version(rt: &HostRuntime) {
-    let _ = write_whole(rt, Stream::Output, b"ledger 1.5\n");
+    let _ = write_whole(rt, Stream::Output, b"ledger 1.6\n");
 }
 
 // The last line: all lines of the input, and those of them that were neither refused nor an error.

@@ -1,46 +1,36 @@
 -- What each public call gives, from what it did: the call's answer, and the participant's file put back into the book.
 -- Assumes nothing.
-use Prim.Native.Nat.{ℕ, ◌+◌, ◌≤◌, ◌<◌}
-use native.Mathlib.Omega.{arith}
-use native.Mathlib.Nat.{add-zero}
-use mathlib.Core.Path.{◌≡◌, refl, sym, ap, subst, ◌∙◌}
-use mathlib.Core.Bool.{Bool, true, false, cond}
+use Prim.Native.Nat.{ℕ, ◌≤◌, ◌<◌}
+use mathlib.Core.Path.{◌≡◌, refl, sym, ap, ◌∙◌}
+use mathlib.Core.Bool.{true, false}
 use mathlib.Core.List.{List, [], ◌∷◌}
 use borrow.Author.Tests.{lt-ltb, le-ltb}
 use lib.Dec.{ltb}
-use lib.IntN.{ℤ}
 use lib.ListN.{set}
 use Rattle.laws.specs.Cases.{split}
 use Rattle.file.specs.declared.File.{File}
 use Rattle.file.specs.declared.Statement.{Statement}
-use Rattle.file.specs.Answer.{Answer, Cause, refused, done, counted, deletion, decide, accepted, statement_says}
+use Rattle.file.specs.Answer.{Answer, Cause, refused, done, counted, decide, accepted, statement_says}
 use Rattle.file.specs.Admit.{admitted_file}
-use Rattle.file.specs.KeepsPositions.{admitted-sound}
 use Rattle.file.specs.Statement.{file_statement}
 use Rattle.layout.specs.Book.{Book}
-use Rattle.layout.specs.WellFormed.{SoundBook}
-use Rattle.book.specs.Call.{Act, admit, settle, delete, Call, on, statement, calls_made, is_called}
+use Rattle.book.specs.Call.{Act, admit, Call, on, statement, calls_made}
 use Rattle.book.specs.Rule.{Rule, old_rule, new_rule}
-use Rattle.book.specs.Account.{file_at, with_file, if_numbered, if_admitted, admits_retired, file_answer, calls_added, answer, applied, step}
+use Rattle.book.specs.Account.{file_at, with_file, sum_of_counts, if_numbered, if_admitted, admits_retired, file_answer, answer, applied, step}
 use Rattle.book.specs.Left.{file_left}
 use Rattle.book.specs.Reached.{Given}
 use Rattle.book.proofs.Participant.Decide.{decide_true, decide-false, decide-accepted}
 use Rattle.book.proofs.Functions.OnFile.{refused-left, known-first, known-answer, is-admitted}
-use Rattle.book.proofs.Functions.OnFile.{admitted-left, none_left, settle-left, delete-left}
-use Rattle.book.proofs.Functions.SoundBook.{sound-made}
+use Rattle.book.proofs.Functions.OnFile.{admitted-left, left-stored}
 use Rattle.book.proofs.History.Life.{given}
 
 -- A refused call: its number, and the book as it was.
 refusal : (b : Book) (c : Call) (n : ℕ) → refused n ≡ answer new_rule b c → Given b c (refused n) b
 refusal b c n e = given b c (refused n) b e (refused-left b c n e)
 
--- A book with another file for a participant, and the calls that were made besides.
-abbrev pub stored_in : Book → ℕ → File → ℕ → Book
-stored_in b p g made = record { files = set b.files p g; today = b.today; made = made }
-
-stored-none : (b : Book) (p : ℕ) (g : File) → with_file b p g 0 ≡ stored_in b p g b.made
-unfolding with_file
-stored-none b p g = λ i. record { files = set b.files p g; today = b.today; made = add-zero b.made i }
+-- A book with another file for a participant.
+abbrev pub stored_in : Book → ℕ → File → Book
+stored_in b p g = record { files = set b.files p g; today = b.today }
 
 -- The calls on a participant's file.
 module _ (b : Book) (p : ℕ) (low : p ≤ 63) where
@@ -53,36 +43,13 @@ module _ (b : Book) (p : ℕ) (low : p ≤ 63) where
   numbered : ltb 63 p ≡ false
   numbered = le-ltb 63 p low
 
-  -- What the call on the file answered, and the book with the file that it left and the n calls that it made.
-  gave : (a : Act) (x : Answer) (n : ℕ) (g : File) → admits_retired a ≡ false → x ≡ file_answer f t a → g ≡ file_left f t a
-      → with_file b p (file_left f t a) n ≡ step new_rule b (on p a) → Given b (on p a) x (with_file b p g n)
-  gave a x n g other answered file left =
-      given b (on p a) x (with_file b p g n) (known-answer b p a x numbered other answered) (ap (λ (z : File). with_file b p z n) file ∙ left)
-
-  -- A call that makes none.
-  pub left-none : (a : Act) (x : Answer) (g : File) → admits_retired a ≡ false → ((f : File) (t : ℕ) → calls_added f t a ≡ 0)
-      → x ≡ file_answer (file_at b p) b.today.0 a → g ≡ file_left (file_at b p) b.today.0 a
-      → Given b (on p a) x (stored_in b p g b.made)
-  left-none a x g other none e h =
-      subst (Given b (on p a) x) (stored-none b p g) (gave a x 0 g other e h (none_left b p numbered a other none))
-
-  -- A settlement.
-  pub left-settle : (m : ℕ) (figures : List ℤ) (x : Answer) (n : ℕ) (g : File)
-      → x ≡ file_answer (file_at b p) b.today.0 (settle m figures) → g ≡ file_left (file_at b p) b.today.0 (settle m figures)
-      → n ≡ cond (is_called x) 1 0 → Given b (on p (settle m figures)) x (stored_in b p g (b.made + n))
+  -- What the call on the file answered, and the book with the file that it left.
+  pub left-given : (a : Act) (x : Answer) (g : File) → admits_retired a ≡ false
+      → x ≡ file_answer (file_at b p) b.today.0 a → g ≡ file_left (file_at b p) b.today.0 a → Given b (on p a) x (stored_in b p g)
   unfolding with_file
-  left-settle m figures x n g e h number =
-      gave (settle m figures) x n g refl e h
-      (ap (with_file b p (file_left f t (settle m figures))) (number ∙ ap (λ (y : Answer). cond (is_called y) 1 0) e)
-      ∙ settle-left b p numbered m figures)
-
-  -- A deletion that isn't refused.
-  pub left-delete : (a : ℕ) (c : Bool) (n : ℕ) (g : File) → deletion a c ≡ file_answer (file_at b p) b.today.0 delete
-      → g ≡ file_left (file_at b p) b.today.0 delete → n ≡ cond c 1 0 → Given b (on p delete) (deletion a c) (stored_in b p g (b.made + n))
-  unfolding with_file
-  left-delete a c n g e h number =
-      gave delete (deletion a c) n g refl e h
-      (ap (with_file b p (file_left f t delete)) number ∙ delete-left b p numbered a c e)
+  left-given a x g other answered file =
+      given b (on p a) x (stored_in b p g) (known-answer b p a x numbered other answered)
+      (ap (with_file b p) file ∙ left-stored b p a numbered other)
 
   -- Admissions, by the causes that both rules have.
   pub first-already : (role : ℕ) → (file_at b p).admitted ≡ true → refused 3 ≡ answer old_rule b (on p (admit role))
@@ -128,24 +95,17 @@ accepted-done b p role e =
     let first = decide-accepted (record { number = 1; holds = ltb 63 p } ∷ []) (decide refused causes done) e in
     sym (first ∙ decide-accepted causes done (ap accepted (sym first) ∙ e))
 
--- An accepted admission, under either rule: the file of an admission and the calls that it makes are put back.
+-- An accepted admission, under either rule: the file of an admission is put back.
 pub left-admit : (rule : Rule) (b : Book) (p role : ℕ) (g : File) → accepted (answer rule b (on p (admit role))) ≡ true
-    → g ≡ admitted_file b.today.0 role → stored_in b p g (b.made + g.count) ≡ step rule b (on p (admit role))
-unfolding with_file admitted_file
-left-admit rule b p role g e file = ap (λ (z : File). with_file b p z z.count) file ∙ admitted-left rule b p role e
+    → g ≡ admitted_file b.today.0 role → stored_in b p g ≡ step rule b (on p (admit role))
+unfolding with_file
+left-admit rule b p role g e file = ap (with_file b p) file ∙ admitted-left rule b p role e
 
 -- A statement that is refused.
 pub refused-statement : (b : Book) (p n : ℕ) → refused n ≡ answer new_rule b (statement p) → Given b (statement p) (refused n) b
 refused-statement b p n e = refusal b (statement p) n e
 
--- The count of calls made.
-pub gave_count : (b : Book) (n : ℕ) → n ≡ b.made → Given b calls_made (counted n) b
+-- The count of calls made to all.
+pub gave_count : (b : Book) (n : ℕ) → n ≡ sum_of_counts b → Given b calls_made (counted n) b
 unfolding answer step applied
 gave_count b n e = given b calls_made (counted n) b (ap counted e) refl
-
--- The sums of the count fit their word.
-pub count_fits : (b : Book) (n : ℕ) → SoundBook b → n ≤ 4 → b.made + n < 18446744073709551616
-count_fits b n s h = let few = sound-made b s in omega arith
-
-pub admission-few : (t role : ℕ) (g : File) → t ≤ 29219 → g ≡ admitted_file t role → g.count ≤ 4
-admission-few t role g h e = subst (λ (z : File). z.count ≤ 4) (sym e) (admitted-sound t role h).count

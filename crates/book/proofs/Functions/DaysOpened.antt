@@ -121,7 +121,6 @@ pub record Pass (i : ℕ) (l m : List ℕ) : Type 0 where
       ≡ record {
         files = up_to (opened_if_admitted (suc (today_in l))) i (book_of_words l).files;
         today = (book_of_words l).today;
-        made = (book_of_words l).made;
       }
 
 pub pass-first : (l : List ℕ) → WellFormed l → today_in l + 1 ≤ 29219 → Pass 0 l l
@@ -135,7 +134,6 @@ pass-first l w h =
       stand = λ i. record {
         files = sym (up_to-none (opened_if_admitted (suc (today_in l))) (book_of_words l).files) i;
         today = (book_of_words l).today;
-        made = (book_of_words l).made;
       };
     }
 
@@ -188,7 +186,6 @@ module _ (i : ℕ) (l m : List ℕ) (s : Pass i l m) where
               files = up_to-turn g (book_of_words m).files (book_of_words l).files i 64 (file_in_words m i) f no_file (book-long l) h
                   (ap (λ (b : Book). b.files) s.stand) (sym (book-file m i low)) (ap (λ (k : ℕ). opened_if_admitted k (file_in_words m i)) e) j;
               today = (s.stand j).today;
-              made = (s.stand j).made;
             });
       }
 
@@ -200,14 +197,13 @@ module _ (i : ℕ) (l m : List ℕ) (s : Pass i l m) where
       let g = opened_if_admitted (suc (today_in l)) in
       let e : d ≡ suc (today_in l) = omega arith in
       let low : d ≤ 29219 = omega (arith, s.within) in
-      let long : 3 ≤ length m = omega (arith, s.long) in
+      let long : 2 ≤ length m = omega (arith, s.long) in
       let b = book_of_words l in
       let leads : book_of_words (set m 1 d) ≡ open_day b =
       today-book m d long low
       ∙ (λ j. record {
         files = (ap (λ (k : Book). k.files) s.stand ∙ up_to-all g i b.files (omega (arith, book-long l))) j;
         today = record { 0 = e j };
-        made = (s.stand j).made;
       }) in (
         leads,
         record {

@@ -26,10 +26,10 @@ use Rattle.layout.specs.Words.{place, file_in_words, today_in}
 use Rattle.layout.specs.WellFormed.{WellFormed}
 use Rattle.layout.proofs.PartLaws.{slot-put}
 use Rattle.book.specs.Call.{lodge, release, on}
-use Rattle.book.specs.Account.{file_answer, file_after, calls_added}
+use Rattle.book.specs.Account.{file_answer, file_after}
 use Rattle.book.specs.InWords.{GivenWords}
 use Rattle.book.specs.Positions.{PutsPosition}
-use Rattle.book.proofs.Functions.OnWords.{given-none, given-unknown, given-refused, seen, own-answered, left-after}
+use Rattle.book.proofs.Functions.OnWords.{given-left, given-unknown, given-refused, seen, own-answered, left-after}
 
 -- A lodging and a release that are accepted are at one of eight places.
 pub lodge-place : (f : File) (t k : ℕ) (h : Position) → done ≡ lodge_answer f t k h → k ≤ 7
@@ -49,24 +49,24 @@ module _ (l l' m : List ℕ) (p p' k : ℕ) (w : WellFormed l) (words : l' ≡ l
 
   pub given-lodged : (h : Position) → done ≡ lodge_answer (file_in_words l' p') (today_in l') k h → PutsPosition l p k h m
       → GivenWords l (on p (lodge k h)) done m
-  unfolding file_after calls_added lodged_file
+  unfolding file_after lodged_file
   given-lodged h e put =
       let is : done ≡ file_answer f t (lodge k h) = own-answered l l' p p' (lodge k h) done words same known refl e in
       let own : done ≡ lodge_answer f t k h = seen l l' p p' words same (λ f t. lodge_answer f t k h) done e in
-      given-none l p w low m (with_slots f (set f.slots k (slot_of h)))
+      given-left l p w low m (with_slots f (set f.slots k (slot_of h)))
       (slot-put l m p w.canonical w.long low k (slot_of h) (let few = lodge-place f t k h own in omega arith) put.back put.stored)
-      (lodge k h) done refl (λ f t. refl) is
+      (lodge k h) done refl is
       (sym (left-after f t (lodge k h) is refl ∙ cond-true (accepted (lodge_answer f t k h)) (with_slots f (set f.slots k (slot_of h))) f (ap accepted (sym own))))
 
   pub given-released : (n : ℕ) (h : Position) → done ≡ release_answer (file_in_words l' p') (today_in l') k n
       → h ≡ less_released n (position_at (file_in_words l' p').slots k) → PutsPosition l p k h m → GivenWords l (on p (release k n)) done m
-  unfolding file_after calls_added released_file slots_left
+  unfolding file_after released_file slots_left
   given-released n h e left put =
       let is : done ≡ file_answer f t (release k n) = own-answered l l' p p' (release k n) done words same known refl e in
       let own : done ≡ release_answer f t k n = seen l l' p p' words same (λ f t. release_answer f t k n) done e in
-      given-none l p w low m (with_slots f (set f.slots k (slot_of h)))
+      given-left l p w low m (with_slots f (set f.slots k (slot_of h)))
       (slot-put l m p w.canonical w.long low k (slot_of h) (let few = release-place f t k n own in omega arith) put.back put.stored)
-      (release k n) done refl (λ f t. refl) is
+      (release k n) done refl is
       (ap (λ (z : Position). with_slots f (set f.slots k (slot_of z))) (seen l l' p p' words same (λ f t. less_released n (position_at f.slots k)) h left)
       ∙ sym (left-after f t (release k n) is refl ∙ cond-true (accepted (release_answer f t k n)) (with_slots f (slots_left f k n)) f (ap accepted (sym own))))
 

@@ -1,15 +1,15 @@
 -- What each public call gives on words, from what it did: the participant's file taken out, its method's answer, and the file put back.
 -- Assumes nothing.
 use Prim.Native.Nat.{ℕ, suc, ◌+◌, ◌-◌, ◌≤◌, ◌<◌}
-use native.Mathlib.Nat.{add-zero}
 use native.Mathlib.Omega.{arith}
 use mathlib.Core.Path.{◌≡◌, refl, sym, ap, subst, ◌∙◌}
 use mathlib.Core.Bool.{Bool, true, false, cond}
 use mathlib.Core.List.{List, [], ◌∷◌}
 use borrow.Author.Tests.{lt-ltb, le-ltb, eq-eqb, ne_eqb}
-use lib.IntN.{ℤ}
-use lib.ListN.{length, get_or, set, replicate, length-set, length-replicate, get_or-eq_default}
+use lib.ListN.{length, get_or, set, replicate, length-replicate, get_or-eq_default}
+use Rattle.std.specs.List.{sum_by, range_with_len}
 use Rattle.laws.specs.Cases.{cond-true, cond-false}
+use Rattle.laws.specs.Sums.{sum-places, sum-table-bound}
 use Rattle.file.specs.declared.File.{File}
 use Rattle.refusal.specs.declared.Refusal.{Refusal}
 use Rattle.refusal.specs.declared.Refusal.TheVariants.{NoSuchParticipant}
@@ -29,26 +29,26 @@ use Rattle.file.specs.Position.{cover_through, cover_on}
 use Rattle.file.specs.Sound.{Sound}
 use Rattle.file.specs.Statement.{file_statement}
 use Rattle.layout.specs.Parts.{written}
-use Rattle.layout.specs.Files.{Put}
+use Rattle.layout.specs.Files.{file_of_words, Put}
 use Rattle.layout.specs.Words.{book_length, place, file_in_words, today_in, book_of_words, book_words}
 use Rattle.layout.specs.WellFormed.{SoundBook, WellFormed}
-use Rattle.layout.proofs.BookLaws.{book-long, book-file, put-book, put-length, made-book, canonical-put, canonical-made, fresh_words, fresh-words}
+use Rattle.layout.proofs.BookLaws.{book-long, book-file, put-book, put-length, canonical-put, fresh_words, fresh-words}
 use Rattle.layout.proofs.BookLaws.{canonical-fresh}
 use Rattle.layout.proofs.PartLaws.{next-put}
-use Rattle.book.specs.Call.{Act, admit, lodge, release, settle, annual_run, delete, Call, on, statement, calls_made, is_called}
+use Rattle.book.specs.Call.{Act, admit, lodge, release, settle, annual_run, delete, Call, on, statement, calls_made}
 use Rattle.book.specs.Rule.{Rule, old_rule, new_rule}
-use Rattle.book.specs.Account.{file_at, fresh_book, if_numbered, if_admitted, admits_retired, file_answer, file_after, calls_added, answer, step, applied}
+use Rattle.book.specs.Account.{file_at, fresh_book, sum_of_counts, if_numbered, if_admitted, admits_retired, file_answer, file_after, answer, step, applied}
 use Rattle.book.specs.Left.{file_left}
 use Rattle.book.specs.Reached.{Given, GivenFirst, Begun}
 use Rattle.book.specs.InWords.{GivenWords, GivenFirstWords, BegunWords}
 use Rattle.book.specs.Admissions.{PutsAdmission}
 use Rattle.book.specs.View.{RefusesAll}
-use Rattle.book.proofs.Functions.Answers.{stored_in, left-none, left-settle, left-admit}
-use Rattle.book.proofs.Functions.Answers.{first-already, first-no-role, first_done, accepted-done, admission-few, count_fits}
+use Rattle.book.proofs.Functions.Answers.{stored_in, left-given, left-admit}
+use Rattle.book.proofs.Functions.Answers.{first-already, first-no-role, first_done, accepted-done}
 use Rattle.book.proofs.Functions.Answers.{refused-statement, gave-statement, gave_count}
 use Rattle.book.proofs.Functions.Begins.{begun-refused, begun-done}
 use Rattle.book.proofs.Functions.OnFile.{above-answer, known-answer, unretired, is-admitted, refused-first, accepted-first, retired-first}
-use Rattle.book.proofs.Functions.SoundBook.{sound-file, step-sound, fresh-sound, numbered}
+use Rattle.book.proofs.Functions.SoundBook.{sound-file, made-bound, step-sound, fresh-sound, numbered}
 use Rattle.book.proofs.Participant.Decide.{decide-accepted}
 use Rattle.book.proofs.History.Life.{given, given-first}
 
@@ -97,17 +97,6 @@ pub day-within : (l : List ℕ) (t : ℕ) → WellFormed l → t ≡ today_in l 
 unfolding book_of_words
 day-within l t w e = rw e w.sound.day
 
-pub room : (l : List ℕ) (n : ℕ) → WellFormed l → n ≤ 4 → get_or l 2 0 + n < 18446744073709551616
-unfolding book_of_words
-room l n w h = count_fits (book_of_words l) n w.sound h
-
-pub admit-room : (l : List ℕ) (t role : ℕ) (g : File) → WellFormed l → t ≡ today_in l → g ≡ admitted_file t role
-    → get_or l 2 0 + g.count < 18446744073709551616
-admit-room l t role g w e h = room l g.count w (admission-few t role g (day-within l t w e) h)
-
-pub call-room : (l : List ℕ) → WellFormed l → get_or l 2 0 + 1 < 18446744073709551616
-call-room l w = room l 1 w (omega arith)
-
 -- A participant above 63 has none.
 pub none-there : (l : List ℕ) (p : ℕ) → 63 < p → file_at (book_of_words l) p ≡ no_file
 unfolding file_at
@@ -155,18 +144,11 @@ amount_in (covered e) = 0
 amount_in (recorded e) = 0
 amount_in (annual a n) = a
 amount_in (days_opened n) = 0
-amount_in (stated f c s d a) = 0
+amount_in (stated f c s d a m) = 0
 amount_in (counted n) = 0
 amount_in (batched n) = 0
 amount_in (refused_pair n i) = 0
 amount_in (deletion a c) = 0
-
--- The file of participant p and another count, put back.
-stored-book : (l m : List ℕ) (p : ℕ) (g : File) → p ≤ 63 → Put l (place p) g m → (n : ℕ) → length l ≡ book_length
-    → book_of_words (set m 2 n) ≡ stored_in (book_of_words l) p g n
-stored-book l m p g low put n long =
-    made-book m n (omega (arith, put-length l m p g low put))
-    ∙ (λ i. record { files = (put-book l m p g low put i).files; today = (put-book l m p g low put i).today; made = n })
 
 module _ (l : List ℕ) (p : ℕ) (w : WellFormed l) (low : p ≤ 63) where
   pub file-sound : (f : File) (t : ℕ) → f ≡ file_in_words l p → t ≡ today_in l → Sound t f
@@ -178,61 +160,21 @@ module _ (l : List ℕ) (p : ℕ) (w : WellFormed l) (low : p ≤ 63) where
   said F x e = e ∙ ap F (sym (file-there l p low))
 
   module _ (m : List ℕ) (g : File) (put : Put l (place p) g m) where
-    -- the file alone is put back
-    one : (a : Act) (x : Answer) → Given (book_of_words l) (on p a) x (stored_in (book_of_words l) p g (book_of_words l).made) → GivenWords l (on p a) x m
+    -- the file is put back
+    one : (a : Act) (x : Answer) → Given (book_of_words l) (on p a) x (stored_in (book_of_words l) p g) → GivenWords l (on p a) x m
     one a x h =
         in_words l m (on p a) x w (subst (Given (book_of_words l) (on p a) x) (sym (put-book l m p g low put)) h)
         (put-length l m p g low put)
         (canonical-put l m p g w.canonical low put)
 
-    -- the file and a count
-    pub both : (a : Act) (x : Answer) (n : ℕ) → Given (book_of_words l) (on p a) x (stored_in (book_of_words l) p g n) → GivenWords l (on p a) x (set m 2 n)
-    both a x n h =
-        in_words l (set m 2 n) (on p a) x w (subst (Given (book_of_words l) (on p a) x) (sym (stored-book l m p g low put n w.long)) h)
-        (length-set m 2 n ∙ put-length l m p g low put)
-        (canonical-made m n (canonical-put l m p g w.canonical low put) (omega (arith, put-length l m p g low put, w.long)))
-
-    -- a call that makes none
-    pub given-none : (a : Act) (x : Answer) → admits_retired a ≡ false → ((f : File) (t : ℕ) → calls_added f t a ≡ 0) → x ≡ file_answer (file_in_words l p) (today_in l) a
+    -- what a call gives, from its answer and the file that it leaves
+    pub given-left : (a : Act) (x : Answer) → admits_retired a ≡ false → x ≡ file_answer (file_in_words l p) (today_in l) a
         → g ≡ file_left (file_in_words l p) (today_in l) a → GivenWords l (on p a) x m
     unfolding book_of_words
-    given-none a x other none e h =
+    given-left a x other e h =
         one a x
-        (left-none (book_of_words l) p low a x g other none
+        (left-given (book_of_words l) p low a x g other
         (said (λ z. file_answer z (today_in l) a) x e) (said (λ z. file_left z (today_in l) a) g h))
-
-    -- a settlement: one that made no call, and one that made k
-    settle-stored : (mo : ℕ) (figures : List ℤ) (x : Answer) (k : ℕ) → x ≡ file_answer (file_in_words l p) (today_in l) (settle mo figures)
-        → g ≡ file_left (file_in_words l p) (today_in l) (settle mo figures) → k ≡ cond (is_called x) 1 0
-        → Given (book_of_words l) (on p (settle mo figures)) x (stored_in (book_of_words l) p g (get_or l 2 0 + k))
-    unfolding book_of_words
-    settle-stored mo figures x k a b c =
-        left-settle (book_of_words l) p low mo figures x k g
-        (said (λ z. file_answer z (today_in l) (settle mo figures)) x a) (said (λ z. file_left z (today_in l) (settle mo figures)) g b) c
-
-    pub given-settled : (mo : ℕ) (figures : List ℤ) (x : Answer) → x ≡ file_answer (file_in_words l p) (today_in l) (settle mo figures)
-        → g ≡ file_left (file_in_words l p) (today_in l) (settle mo figures) → ◌≡◌ {A = ℕ} (cond (is_called x) 1 0) 0
-        → GivenWords l (on p (settle mo figures)) x m
-    unfolding book_of_words
-    given-settled mo figures x a b c =
-        one (settle mo figures) x
-        (subst (λ (n : ℕ). Given (book_of_words l) (on p (settle mo figures)) x (stored_in (book_of_words l) p g n)) (add-zero (get_or l 2 0))
-        (settle-stored mo figures x 0 a b (sym c)))
-
-  -- a settlement, and the file that it leaves
-  module _ where
-    abbrev f : File
-    f = file_in_words l p
-
-    abbrev t : ℕ
-    t = today_in l
-
-    -- a settlement that called leaves its file, and the count
-    pub given-called : (m : List ℕ) (mo : ℕ) (figures : List ℤ) (x : Answer) (g : File) (k : ℕ)
-        → x ≡ file_answer f t (settle mo figures) → g ≡ file_left f t (settle mo figures) → k ≡ cond (is_called x) 1 0 → Put l (place p) g m
-        → GivenWords l (on p (settle mo figures)) x (set m 2 (get_or l 2 0 + k))
-    given-called m mo figures x g k b c number put =
-        both m g put (settle mo figures) x (get_or l 2 0 + k) (settle-stored m g put mo figures x k b c number)
 
 -- What a call on an admitted participant's file answers, behind cause 2; an admission asks for none.
 abbrev pub own_answer : File → ℕ → Act → Answer
@@ -300,7 +242,7 @@ given-unknown l p a r w asks e =
 pub given-run : (l l' m : List ℕ) (p p' : ℕ) (run : AnnualRun) → WellFormed l → l' ≡ l → p' ≡ p → p ≤ 63 → (file_in_words l p).admitted ≡ true
     → annual run.amount run.months ≡ annual_answer (file_in_words l' p') (today_in l') → m ≡ written l (place p + 5) (1 ∷ run.amount ∷ [])
     → GivenWords l (on p annual_run) (annual run.amount run.months) m
-unfolding file_after calls_added annual_answer annual_file
+unfolding file_after annual_answer annual_file
 given-run l l' m p p' run w words same low known e stored =
     let f = file_in_words l p in
     let t = today_in l in
@@ -309,7 +251,7 @@ given-run l l' m p p' run w words same low known e stored =
     let own : x ≡ annual_answer f t = seen l l' p p' words same annual_answer x e in
     let is : x ≡ file_answer f t annual_run = own-answered l l' p p' annual_run x words same known refl e in
     let amount : a ≡ annual_amount_of f t = ap amount_in (own ∙ decide-accepted _ _ (ap accepted (sym own))) in
-    given-none l p w low m (with_next f (set_to a)) (next-put l m p w.canonical w.long low a stored) annual_run x refl (λ f t. refl) is
+    given-left l p w low m (with_next f (set_to a)) (next-put l m p w.canonical w.long low a stored) annual_run x refl is
     (ap (λ (y : ℕ). with_next f (set_to y)) amount
     ∙ sym (left-after f t annual_run is refl ∙ cond-true (accepted (annual_answer f t)) (with_next f (set_to (annual_amount_of f t))) f (ap accepted (sym own))))
 
@@ -374,27 +316,26 @@ module _ (l : List ℕ) (p role : ℕ) (e : done ≡ answer old_rule (book_of_wo
 
 -- What an accepted admission writes.
 module _ (l m : List ℕ) (p role : ℕ) (w : WellFormed l) (low : p ≤ 63) (g : File) (put : Put l (place p) g m) where
-  pub put-admission : (day n : ℕ) → day ≡ today_in l → accepted (answer old_rule (book_of_words l) (on p (admit role))) ≡ true
-      → g ≡ admitted_file day role → n ≡ get_or l 2 0 + g.count → PutsAdmission l p role (set m 2 n)
+  pub put-admission : (day : ℕ) → day ≡ today_in l → accepted (answer old_rule (book_of_words l) (on p (admit role))) ≡ true
+      → g ≡ admitted_file day role → PutsAdmission l p role m
   unfolding book_of_words
-  put-admission day n q good b e =
+  put-admission day q good b =
       let book = book_of_words l in
-      let stored : book_of_words (set m 2 n) ≡ stored_in book p g (get_or l 2 0 + g.count)
-      = stored-book l m p g low put n w.long ∙ ap (stored_in book p g) e in
+      let stored : book_of_words m ≡ stored_in book p g = put-book l m p g low put in
       let file : g ≡ admitted_file (today_in l) role = b ∙ ap (λ (d : ℕ). admitted_file d role) q in
-      let long = length-set m 2 n ∙ put-length l m p g low put in
+      let long = put-length l m p g low put in
       let is = accepted-done book p role good in
-      let same = canonical-made m n (canonical-put l m p g w.canonical low put) (omega (arith, put-length l m p g low put, w.long)) in
+      let same = canonical-put l m p g w.canonical low put in
       record {
-        first = first-in-words l (set m 2 n) (on p (admit role)) done w
-            (given-first book (on p (admit role)) done (book_of_words (set m 2 n)) is
+        first = first-in-words l m (on p (admit role)) done w
+            (given-first book (on p (admit role)) done (book_of_words m) is
             (stored ∙ left-admit old_rule book p role g good file))
             long
             same;
         given = λ other.
             let alike = accepted-first book p role good other in
-            in_words l (set m 2 n) (on p (admit role)) done w
-            (given book (on p (admit role)) done (book_of_words (set m 2 n)) (is ∙ sym alike)
+            in_words l m (on p (admit role)) done w
+            (given book (on p (admit role)) done (book_of_words m) (is ∙ sym alike)
             (stored ∙ left-admit new_rule book p role g (ap accepted alike ∙ good) file))
             long
             same;
@@ -408,27 +349,43 @@ pub unknown-stated : (l : List ℕ) (p : ℕ) (r : Refusal) → RefusesAll l p r
 unfolding answer step
 unknown-stated l p r e = refused-statement (book_of_words l) p (number_of r) (e _)
 
-pub given-statement : (l l' : List ℕ) (p p' : ℕ) → l' ≡ l → p' ≡ p → p ≤ 63 → (file_in_words l p).admitted ≡ true → (a c s d u t n : ℕ)
+pub given-statement : (l l' : List ℕ) (p p' : ℕ) → l' ≡ l → p' ≡ p → p ≤ 63 → (file_in_words l p).admitted ≡ true → (a c s d u t n k : ℕ)
     → a ≡ (file_in_words l' p').firm → d ≡ today_in l' → u ≡ today_in l' → c ≡ cover_through d u (file_in_words l' p').slots
     → t ≡ (file_in_words l' p').charged → n ≡ (file_in_words l' p').accrued → s ≡ a - c
-    → Given (book_of_words l) (statement p) (stated a c s t n) (book_of_words l)
+    → k ≡ (file_in_words l' p').made → Given (book_of_words l) (statement p) (stated a c s t n k) (book_of_words l)
 unfolding book_of_words file_statement cover_of cover_on shortfall_of
-given-statement l l' p p' words same low known a c s d u t n ea ed eu ec et en es =
+given-statement l l' p p' words same low known a c s d u t n k ea ed eu ec et en es ek =
     let day = today_in l in
     let firm = seen l l' p p' words same (λ f t. f.firm) a ea in
     let covered = seen l l' p p' words same (λ f t. cover_through t t f.slots) c (ec ∙ (λ i. cover_through (ed i) (eu i) (file_in_words l' p').slots)) in
     let charged = seen l l' p p' words same (λ f t. f.charged) t et in
     let accrued = seen l l' p p' words same (λ f t. f.accrued) n en in
+    let made = seen l l' p p' words same (λ f t. f.made) k ek in
     let short : s ≡ (file_in_words l p).firm - cover_through day day (file_in_words l p).slots = es ∙ (λ i. firm i - covered i) in
-    let st : Statement = record { firm = a; cover = c; shortfall = s; charged = t; accrued = n } in
+    let st : Statement = record { firm = a; cover = c; shortfall = s; charged = t; accrued = n; made = k } in
     gave-statement (book_of_words l) p low st (ap (λ (z : File). z.admitted) (file-there l p low) ∙ known)
-    ((λ i. record { firm = firm i; cover = covered i; shortfall = short i; charged = charged i; accrued = accrued i })
+    ((λ i. record { firm = firm i; cover = covered i; shortfall = short i; charged = charged i; accrued = accrued i; made = made i })
     ∙ ap (λ (z : File). file_statement z day) (sym (file-there l p low)))
 
--- The count of calls made.
-pub given-count : (l : List ℕ) → Given (book_of_words l) calls_made (counted (get_or l 2 0)) (book_of_words l)
-unfolding book_of_words
-given-count l = gave_count (book_of_words l) (get_or l 2 0) refl
+-- The count of calls made to all: the sum of the words of the files' counts.
+abbrev pub made_at : List ℕ → ℕ → ℕ
+made_at l p = get_or l (place p + 9) 0
+
+counts : (l : List ℕ) → sum_by (made_at l) (range_with_len 0 64) ≡ sum_of_counts (book_of_words l)
+unfolding sum_of_counts book_of_words file_of_words
+counts l = sum-places (λ (f : File). f.made) 64 (λ p. file_in_words l p)
+
+pub counts-few : (l : List ℕ) → WellFormed l → sum_of_counts (book_of_words l) ≤ 7480320
+unfolding sum_of_counts book_of_words
+counts-few l w =
+    sum-table-bound (λ (f : File). f.made) 64 116880 (λ p. file_in_words l p)
+    (λ p h. made-bound (today_in l) (file_in_words l p) (file-sound l p w (omega arith) (file_in_words l p) (today_in l) refl refl))
+
+pub counts-fit : (l : List ℕ) → WellFormed l → sum_by (made_at l) (range_with_len 0 64) ≤ 7480320
+counts-fit l w = omega (arith, counts l, counts-few l w)
+
+pub given-count : (l : List ℕ) (n : ℕ) → n ≡ sum_by (made_at l) (range_with_len 0 64) → Given (book_of_words l) calls_made (counted n) (book_of_words l)
+given-count l n e = gave_count (book_of_words l) n (e ∙ counts l)
 
 -- ---- a fresh book
 
@@ -440,30 +397,30 @@ begun-words d day x h b =
       begun = subst (Begun day x) (sym (fresh-words d h)) b;
       formed =
           record {
-            long = ap (λ (n : ℕ). suc (suc (suc n))) (length-replicate {A = ℕ} 6144 0);
+            long = ap (λ (n : ℕ). suc (suc n)) (length-replicate {A = ℕ} 6208 0);
             canonical = canonical-fresh d h;
             sound = subst SoundBook (sym (fresh-words d h)) (fresh-sound d h);
           };
     }
 
-pub fresh-late : (l m : List ℕ) (day : ℕ) → length l ≡ book_length → m ≡ replicate (length l) 0 → 29219 < day → BegunWords day (refused 17) (set m 0 1)
+pub fresh-late : (l m : List ℕ) (day : ℕ) → length l ≡ book_length → m ≡ replicate (length l) 0 → 29219 < day → BegunWords day (refused 17) (set m 0 2)
 fresh-late l m day long e h =
-    subst (λ (z : List ℕ). BegunWords day (refused 17) (set z 0 1)) (sym (e ∙ ap (λ (n : ℕ). replicate n 0) long))
+    subst (λ (z : List ℕ). BegunWords day (refused 17) (set z 0 2)) (sym (e ∙ ap (λ (n : ℕ). replicate n 0) long))
     (begun-words 0 day (refused 17) (omega arith) (begun-refused day (fresh_book 0) h refl))
 
 pub fresh-done : (l m : List ℕ) (day : ℕ) → length l ≡ book_length → m ≡ replicate (length l) 0 → day ≤ 29219
-    → BegunWords day done (set (set m 0 1) 1 day)
+    → BegunWords day done (set (set m 0 2) 1 day)
 fresh-done l m day long e h =
-    subst (λ (z : List ℕ). BegunWords day done (set (set z 0 1) 1 day)) (sym (e ∙ ap (λ (n : ℕ). replicate n 0) long))
+    subst (λ (z : List ℕ). BegunWords day done (set (set z 0 2) 1 day)) (sym (e ∙ ap (λ (n : ℕ). replicate n 0) long))
     (begun-words day day done h (begun-done day (fresh_book day) h refl))
 
 pub ruleset begins = (fresh-late, fresh-done)
 
-pub ruleset questions = (given-count, none-admitted, there-admitted, none-role, there-role, unknown-stated, given-statement)
+pub ruleset questions = (none-admitted, there-admitted, none-role, there-role, unknown-stated, given-statement)
 
 pub ruleset admissions = (no-participant, already-admitted, no-such-role, may-be-admitted)
 
-pub ruleset admitted = (day-within, admit-room, put-admission)
+pub ruleset admitted = (day-within, put-admission)
 
 pub ruleset by_both_rules = (refused-alike, refused-by-old-rule, retired-role, is-accepted, is-numbered, other-role)
 

@@ -1,4 +1,4 @@
--- What an accepted settlement writes: the month's total, and where it calls the call and the count of calls made.
+-- What an accepted settlement writes: the month's total, and where it calls the call and the file's count of calls made.
 -- Assumes nothing.
 use Prim.Native.Nat.{ℕ, ◌+◌, ◌*◌, ◌%◌, ◌-◌, ◌≤◌, ◌<◌}
 use native.Mathlib.Omega.{arith}
@@ -40,13 +40,14 @@ use Rattle.layout.specs.Words.{place, file_in_words, today_in}
 use Rattle.layout.specs.WellFormed.{WellFormed}
 use Rattle.layout.proofs.BookLaws.{canonical-put, put-length}
 use Rattle.layout.proofs.Written.{length-written}
-use Rattle.layout.proofs.PartLaws.{with_months, with_places, total-put, call-put, count-put, put-again}
-use Rattle.book.specs.Call.{settle, on, is_called}
+use Rattle.layout.proofs.PartLaws.{with_months, with_places, with_made, total-put, call-put, count-put, made-put, put-again}
+use Rattle.book.specs.Call.{settle, on}
 use Rattle.book.specs.Account.{file_answer, file_after}
 use Rattle.book.specs.Left.{file_left}
 use Rattle.book.specs.InWords.{GivenWords}
 use Rattle.book.specs.Settlements.{due_on, AnswersSettlement, PutsSettlement}
-use Rattle.book.proofs.Functions.OnWords.{file-sound, seen, answered, left-after, given-refused, given-unknown, given-settled, given-called}
+use Rattle.book.proofs.Functions.OnWords.{file-sound, seen, answered, left-after, given-left, given-refused, given-unknown}
+use Rattle.book.proofs.Functions.SoundBook.{made-bound}
 use Rattle.std.specs.Prelude.{Result}
 use Rattle.refusal.specs.declared.Refusal.{Refusal}
 use Rattle.book.proofs.Participant.Decide.{decide-accepted}
@@ -55,11 +56,11 @@ use Rattle.book.proofs.Participant.Decide.{decide-accepted}
 
 -- A month's total at its place in the ring; a signed number's bits are the number's.
 pub month-put : (l m : List ℕ) (at k : ℕ) (mo : Month) (e : ℤ) → SFits w64 e → k ≡ mo.0 % 16
-    → (m ≡ written l (at + (49 + 3 * k)) (total_words (record { recorded = true; month = mo; total = read e })))
+    → (m ≡ written l (at + (50 + 3 * k)) (total_words (record { recorded = true; month = mo; total = read e })))
     × TotalBack (record { recorded = true; month = mo; total = read e })
-    → (m ≡ written l (at + (49 + 3 * (mo.0 % 16))) (total_words (total_of mo.0 e))) × TotalBack (total_of mo.0 e)
+    → (m ≡ written l (at + (50 + 3 * (mo.0 % 16))) (total_words (total_of mo.0 e))) × TotalBack (total_of mo.0 e)
 month-put l m at k mo e fits here put = (
-  put.0 ∙ (λ i. written l (at + (49 + 3 * here i)) (total_words (total_of mo.0 (to_z-of_z fits i)))),
+  put.0 ∙ (λ i. written l (at + (50 + 3 * here i)) (total_words (total_of mo.0 (to_z-of_z fits i)))),
   subst (λ (z : ℤ). TotalBack (total_of mo.0 z)) (to_z-of_z fits) put.1,
 )
 
@@ -68,10 +69,10 @@ pub call-behind : {P : Type 0} (l m vs : List ℕ) (j k v : ℕ) → (m ≡ writ
 call-behind l m vs j k v put = (ap (λ (z : List ℕ). set z k v) put.0, put.1)
 
 -- As many words as before.
-pub called-long : {P Q : Type 0} (l m n us vs : List ℕ) (i j k v y : ℕ) → (m ≡ written l i us) × P → (n ≡ set (written m j vs) k v) × Q
-    → length (set n 2 y) ≡ length l
-called-long l m n us vs i j k v y one two =
-    length-set n 2 y
+pub called-long : {P Q : Type 0} (l m n us vs : List ℕ) (i j k v a y : ℕ) → (m ≡ written l i us) × P → (n ≡ set (written m j vs) k v) × Q
+    → length (set n a y) ≡ length l
+called-long l m n us vs i j k v a y one two =
+    length-set n a y
     ∙ ap length two.0
     ∙ length-set (written m j vs) k v
     ∙ length-written m j vs
@@ -94,6 +95,10 @@ module _ (l : List ℕ) (p : ℕ) (w : WellFormed l) (low : p ≤ 63) where
   unfolding file_of_words
   few-open = (file-sound l p w low f t refl refl).count
 
+  pub made-room : get_or l (place p + 9) 0 + 1 < 18446744073709551616
+  unfolding file_of_words
+  made-room = let few = made-bound t f (file-sound l p w low f t refl refl) in omega arith
+
   module _ (mo : ℕ) (figures : List ℤ) where
     abbrev e : ℤ
     e = sum_of figures
@@ -103,7 +108,7 @@ module _ (l : List ℕ) (p : ℕ) (w : WellFormed l) (low : p ≤ 63) where
       pub own : accepted (settle_answer f t mo figures) ≡ true
       pub says : x ≡ settled_answer f t mo figures
       pub answers : x ≡ file_answer f t (settle mo figures)
-      pub left : file_left f t (settle mo figures) ≡ with_totals f (with_total f.totals mo e) (calls_settled f t mo figures)
+      pub left : file_left f t (settle mo figures) ≡ with_totals f (with_total f.totals mo e) (calls_settled f t mo figures) (cond (settlement_calls f t mo figures) 1 0)
 
     accepts : (x : Answer) → f.admitted ≡ true → x ≡ settle_answer f t mo figures → accepted x ≡ true → Accepts x
     unfolding file_answer file_after settled_file settle_answer
@@ -134,10 +139,11 @@ module _ (l : List ℕ) (p : ℕ) (w : WellFormed l) (low : p ≤ 63) where
     same-calls h = cond-false (settlement_calls f t mo figures) (open_calls f ++ (call_of (nat_abs e) (t + 10) ∷ [])) (open_calls f) h
 
     kept-left : (z : ℤ) → settlement_calls f t mo figures ≡ false → z ≡ e
-        → with_months f (set f.totals (mo % 16) (total_of mo z)) ≡ with_totals f (with_total f.totals mo e) (calls_settled f t mo figures)
+        → with_months f (set f.totals (mo % 16) (total_of mo z)) ≡ with_totals f (with_total f.totals mo e) (calls_settled f t mo figures) (cond (settlement_calls f t mo figures) 1 0)
     unfolding with_total
     kept-left z h same =
         let s = file-sound l p w low f t refl refl in
+        let none : f.made ≡ f.made + cond (settlement_calls f t mo figures) 1 0 = rw h (omega arith) in
         λ i. record {
           admitted = f.admitted;
           leaving = f.leaving;
@@ -150,29 +156,25 @@ module _ (l : List ℕ) (p : ℕ) (w : WellFormed l) (low : p ≤ 63) where
           totals = set f.totals (mo % 16) (total_of mo (same i));
           charged = f.charged;
           accrued = f.accrued;
+          made = none i;
         }
 
     pub given-kept : (m : List ℕ) (due : Bool) (z : ℤ) → f.admitted ≡ true → keeps_total due z ≡ settle_answer f t mo figures
-        → (m ≡ written l (place p + (49 + 3 * (mo % 16))) (total_words (total_of mo z))) × TotalBack (total_of mo z)
+        → (m ≡ written l (place p + (50 + 3 * (mo % 16))) (total_words (total_of mo z))) × TotalBack (total_of mo z)
         → GivenWords l (on p (settle mo figures)) (keeps_total due z) m
     given-kept m due z known b put =
         let a = accepts (keeps_total due z) known b (keeps due) in
         let is : (settlement_calls f t mo figures ≡ false) × (z ≡ e) =
         kept-total due (settlement_calls f t mo figures) (check_due (month_of t) mo) (nat_abs e) (nat_abs e - deposited f t) (t + 10) z
         (a.says ∙ settled-answer f t mo figures) in
-        given-settled l p w low m (with_months f (set f.totals (mo % 16) (total_of mo z)))
+        given-left l p w low m (with_months f (set f.totals (mo % 16) (total_of mo z)))
         (total-put l m p w.canonical w.long low (mo % 16) (total_of mo z) (omega arith) put.1 put.0)
-        mo figures (keeps_total due z) a.answers
+        (settle mo figures) (keeps_total due z) refl a.answers
         (kept-left z is.0 is.1 ∙ sym a.left)
-        (none due)
       where
         keeps : (due : Bool) → accepted (keeps_total due z) ≡ true
         keeps true = refl
         keeps false = refl
-
-        none : (due : Bool) → ◌≡◌ {A = ℕ} (cond (is_called (keeps_total due z)) 1 0) 0
-        none true = refl
-        none false = refl
 
     -- ---- one that calls
 
@@ -218,8 +220,8 @@ module _ (l : List ℕ) (p : ℕ) (w : WellFormed l) (low : p ≤ 63) where
     count-is = refl
 
     called-left : (x last n : ℕ) (z : ℤ) → Calls x last → n ≡ get_or l (place p + 4) 0 → z ≡ e
-        → with_places (with_months f (set f.totals (mo % 16) (total_of mo z))) (set f.calls n (call_of x last)) (n + 1)
-        ≡ with_totals f (with_total f.totals mo e) (calls_settled f t mo figures)
+        → with_made (with_places (with_months f (set f.totals (mo % 16) (total_of mo z))) (set f.calls n (call_of x last)) (n + 1)) (f.made + 1)
+        ≡ with_totals f (with_total f.totals mo e) (calls_settled f t mo figures) (cond (settlement_calls f t mo figures) 1 0)
     unfolding with_total calls_settled
     called-left x last n z k n-is same =
         let s = file-sound l p w low f t refl refl in
@@ -227,6 +229,7 @@ module _ (l : List ℕ) (p : ℕ) (w : WellFormed l) (low : p ≤ 63) where
         let is : calls_settled f t mo figures ≡ opened = cond-true (settlement_calls f t mo figures) opened (open_calls f) k.calls in
         let at : n ≡ length (open_calls f) = n-is ∙ count-is ∙ sym (open-count f t s) in
         let few : length (open_calls f) < 4 = omega (arith, k.few, count-is, open-count f t s) in
+        let one : f.made + 1 ≡ f.made + cond (settlement_calls f t mo figures) 1 0 = rw k.calls refl in
         λ i. record {
           admitted = f.admitted;
           leaving = f.leaving;
@@ -244,20 +247,22 @@ module _ (l : List ℕ) (p : ℕ) (w : WellFormed l) (low : p ≤ 63) where
           totals = set f.totals (mo % 16) (total_of mo (same i));
           charged = f.charged;
           accrued = f.accrued;
+          made = one i;
         }
 
     pub given-open : (m n : List ℕ) (x asked last : ℕ) (z : ℤ) → z ≡ to_z w64 x
-        → (m ≡ written l (place p + (49 + 3 * (mo % 16))) (total_words (total_of mo z))) × TotalBack (total_of mo z)
-        → (n ≡ set (written m (place p + (41 + 2 * get_or l (place p + 4) 0)) (open_call_words (call_of x last))) (place p + 4) (get_or l (place p + 4) 0 + 1))
+        → (m ≡ written l (place p + (50 + 3 * (mo % 16))) (total_words (total_of mo z))) × TotalBack (total_of mo z)
+        → (n ≡ set (written m (place p + (42 + 2 * get_or l (place p + 4) 0)) (open_call_words (call_of x last))) (place p + 4) (get_or l (place p + 4) 0 + 1))
         × CallBack (call_of x last)
         → f.admitted ≡ true → called x asked last ≡ settle_answer f t mo figures
-        → GivenWords l (on p (settle mo figures)) (called x asked last) (set n 2 (get_or l 2 0 + 1))
+        → GivenWords l (on p (settle mo figures)) (called x asked last) (set n (place p + 9) (get_or l (place p + 9) 0 + 1))
+    unfolding file_of_words
     given-open m n x asked last z z-is one two known b =
         let a = accepts (called x asked last) known b refl in
         let k = calls-of x asked last a in
         let number = get_or l (place p + 4) 0 in
         let c = call_of x last in
-        let room : place p + 97 ≤ length l = omega (arith, w.long) in
+        let room : place p + 98 ≤ length l = omega (arith, w.long) in
         -- the total
         let f₁ = with_months f (set f.totals (mo % 16) (total_of mo z)) in
         let put₁ = total-put l m p w.canonical w.long low (mo % 16) (total_of mo z) (omega arith) one.1 one.0 in
@@ -265,7 +270,7 @@ module _ (l : List ℕ) (p : ℕ) (w : WellFormed l) (low : p ≤ 63) where
         let long₁ = put-length l m p f₁ low put₁ ∙ w.long in
         -- the call
         let r₁ = file_in_words m p in
-        let o = written m (place p + (41 + 2 * number)) (open_call_words c) in
+        let o = written m (place p + (42 + 2 * number)) (open_call_words c) in
         let f₂ = with_places r₁ (set r₁.calls number c) r₁.count in
         let put₂ = call-put m o p same₁ long₁ low number c k.few two.1 refl in
         let same₂ = canonical-put m o p f₂ same₁ low put₂ in
@@ -274,13 +279,22 @@ module _ (l : List ℕ) (p : ℕ) (w : WellFormed l) (low : p ≤ 63) where
         let r₂ = file_in_words o p in
         let f₃ = with_places r₂ r₂.calls (number + 1) in
         let put₃ = count-put o n p same₂ long₂ low (number + 1) two.0 in
-        let is : f₃ ≡ with_places f₁ (set f.calls number c) (number + 1) =
-        ap (λ (y : File). with_places y y.calls (number + 1)) put₂.back
-        ∙ ap (λ (y : File). with_places y (set y.calls number c) (number + 1)) put₁.back in
-        given-called l p w low n mo figures (called x asked last) f₃ 1 a.answers
+        let same₃ = canonical-put o n p f₃ same₂ low put₃ in
+        let long₃ = put-length o n p f₃ low put₃ ∙ long₂ in
+        -- the count of calls made
+        let made = get_or l (place p + 9) 0 + 1 in
+        let r₃ = file_in_words n p in
+        let f₄ = with_made r₃ made in
+        let put₄ = made-put n (set n (place p + 9) made) p same₃ long₃ low made refl in
+        let is : f₄ ≡ with_made (with_places f₁ (set f.calls number c) (number + 1)) made =
+        ap (λ (y : File). with_made y made) put₃.back
+        ∙ ap (λ (y : File). with_made (with_places y y.calls (number + 1)) made) put₂.back
+        ∙ ap (λ (y : File). with_made (with_places y (set y.calls number c) (number + 1)) made) put₁.back in
+        given-left l p w low (set n (place p + 9) made) f₄
+        (put-again l n (set n (place p + 9) made) (place p) f₃ f₄ room
+        (put-again l o n (place p) f₂ f₃ room (put-again l m o (place p) f₁ f₂ room put₁ put₂) put₃) put₄)
+        (settle mo figures) (called x asked last) refl a.answers
         (is ∙ called-left x last number z k refl (z-is ∙ k.total) ∙ sym a.left)
-        refl
-        (put-again l o n (place p) f₂ f₃ room (put-again l m o (place p) f₁ f₂ room put₁ put₂) put₃)
 
 -- ---- by the case of the answer
 
@@ -290,14 +304,14 @@ module _ (l : List ℕ) (p mo : ℕ) (w : WellFormed l) (low : p ≤ 63) (r : Se
   puts-called m x asked last e put = subst (λ (z : Settled). PutsSettlement l p mo (settlement_says z) m) (sym e) (put asked)
 
   pub puts-covered : (m : List ℕ) (z y : ℤ) → r ≡ Settlements.Covered z → y ≡ z
-      → (m ≡ written l (place p + (49 + 3 * (mo % 16))) (total_words (total_of mo y))) × TotalBack (total_of mo y)
+      → (m ≡ written l (place p + (50 + 3 * (mo % 16))) (total_words (total_of mo y))) × TotalBack (total_of mo y)
       → PutsSettlement l p mo (settlement_says r) m
   puts-covered m z y e same put =
       subst (λ (s : Settled). PutsSettlement l p mo (settlement_says s) m) (sym (e ∙ ap Settlements.Covered (sym same)))
       (λ figures known b. given-kept l p w low mo figures m true y known b put)
 
   pub puts-recorded : (m : List ℕ) (z y : ℤ) → r ≡ Settlements.Recorded z → y ≡ z
-      → (m ≡ written l (place p + (49 + 3 * (mo % 16))) (total_words (total_of mo y))) × TotalBack (total_of mo y)
+      → (m ≡ written l (place p + (50 + 3 * (mo % 16))) (total_words (total_of mo y))) × TotalBack (total_of mo y)
       → PutsSettlement l p mo (settlement_says r) m
   puts-recorded m z y e same put =
       subst (λ (s : Settled). PutsSettlement l p mo (settlement_says s) m) (sym (e ∙ ap Settlements.Recorded (sym same)))

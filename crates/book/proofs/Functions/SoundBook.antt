@@ -1,37 +1,35 @@
 -- A sound book stays sound under every call, and a fresh one is sound: so every book that a fresh book and calls lead to is.
 -- Assumes nothing.
-use Prim.Native.Nat.{ℕ, zero, suc, ◌+◌, ◌-◌, ◌*◌, ◌≤◌, ◌<◌, min}
-use native.Mathlib.Nat.{add-zero}
+use Prim.Native.Nat.{ℕ, zero, suc, ◌+◌, ◌-◌, ◌≤◌, ◌<◌, min}
 use native.Mathlib.Omega.{arith}
 use mathlib.Core.Path.{◌≡◌, refl, sym, ap, subst, ◌∙◌}
 use mathlib.Core.Bool.{Bool, true, false, cond, not, ◌&&◌, ◌||◌}
 use mathlib.Core.List.{List, [], ◌∷◌}
 use borrow.Author.Tests.{ltb-false, not-false}
 use lib.Dec.{ltb}
-use lib.IntN.{ℤ}
-use lib.ListN.{length, get_or, set, replicate, length-append, length-set, length-map, length-replicate}
-use Rattle.laws.specs.Lists.{All, all-default, all_set, all_replicate, all_map}
-use Rattle.laws.specs.Cases.{split, clash, cond-true, by-test}
+use lib.ListN.{set, length-set, length-map, length-replicate}
+use Rattle.laws.specs.Lists.{all-default, all_set, all_replicate, all_map}
+use Rattle.laws.specs.Cases.{split, clash, by-test}
 use Rattle.file.specs.declared.File.{File}
-use Rattle.file.specs.Answer.{Answer, refused, done, days_opened, Cause, decide, accepted}
+use Rattle.file.specs.Answer.{Answer, refused, days_opened, Cause, decide, accepted}
 use Rattle.file.specs.Admit.{no_file, admitted_file}
-use Rattle.file.specs.Fields.{open_calls, with_slots, with_totals, with_next, with_deletion, set_to}
+use Rattle.file.specs.Fields.{with_slots, with_totals, with_next, with_deletion, set_to}
 use Rattle.file.specs.Position.{slot_of}
 use Rattle.file.specs.Lodge.{lodge_answer, lodged_file}
 use Rattle.file.specs.Release.{slots_left, release_answer, released_file}
-use Rattle.file.specs.Settle.{settle_answer, settled_file, settlement_calls, calls_settled}
+use Rattle.file.specs.Settle.{settle_answer, settled_file, calls_settled}
 use Rattle.file.specs.Annual.{annual_amount_of, annual_answer, annual_file}
-use Rattle.file.specs.Deletion.{deletion_calls, deletion_answer, calls_deleted, deleted_file}
+use Rattle.file.specs.Deletion.{deletion_answer, calls_deleted, deleted_file}
 use Rattle.file.specs.Opening.{opened_file}
 use Rattle.file.specs.Sound.{Sound}
 use Rattle.file.specs.DecideLaws.{none-holds}
 use Rattle.file.specs.KeepsPositions.{none-sound, admitted-sound, lodged-sound, released-sound}
-use Rattle.file.specs.KeepsCalls.{open-count, opened-sound, settled-sound, annual-sound, deleted-sound}
+use Rattle.file.specs.KeepsCalls.{opened-sound, settled-sound, annual-sound, deleted-sound}
 use Rattle.layout.specs.Book.{Book}
-use Rattle.layout.specs.WellFormed.{open_count, BlankUnlessAdmitted, SoundBook}
+use Rattle.layout.specs.WellFormed.{BlankUnlessAdmitted, SoundBook}
 use Rattle.batch.specs.Batch.{count_in, participant_at}
 use Rattle.book.specs.Call.{Act, admit, lodge, release, settle, annual_run, delete, Call, on, advance, statement, calls_made, batch, part_act}
-use Rattle.book.specs.Account.{fresh_book, file_at, with_file, if_numbered, if_admitted, file_answer, file_after, calls_added, opened_if_admitted}
+use Rattle.book.specs.Account.{fresh_book, file_at, with_file, if_numbered, if_admitted, file_answer, file_after, opened_if_admitted}
 use Rattle.book.specs.Rule.{Rule, old_rule, new_rule, MadeCall, history}
 use Rattle.book.specs.Account.{admits_retired, unless_retired, answer_on, applied_on, after_parts, part_answer, open_day, open_days, answer, applied, step, run}
 use Rattle.book.specs.Reading.Decisions.{cause}
@@ -59,38 +57,19 @@ sound-later t f h s =
       totals = s.totals;
       charged = let c = s.charged in omega arith;
       accrued = s.accrued;
+      counted = s.counted;
+      made = let m = s.made in omega arith;
     }
+
+-- The count of calls made has room for another call: a sound file's is at most 4 for each day that there is, and 4 more.
+pub made-bound : (t : ℕ) (f : File) → Sound t f → f.made ≤ 116880
+made-bound t f s = omega (arith, s.made, s.count, s.day)
 
 -- A file at the opening of the next day.
 sound-opened : (t : ℕ) (f : File) → suc t ≤ 29219 → Sound t f → Sound (suc t) (opened_if_admitted (suc t) f)
 unfolding opened_if_admitted
 sound-opened t f h s =
     by-test f.admitted (opened_file f (suc t)) f (Sound (suc t)) (λ e. opened-sound f t s h) (λ e. sound-later t f h s)
-
--- ---- the open calls of all files
-
--- a sound file has at most four
-pub open-few : (t : ℕ) (files : List File) → All (Sound t) files → open_count files ≤ 4 * length files
-unfolding open_count
-open-few t [] all = omega arith
-open-few t (f ∷ files) all = omega (arith, all.0.count, open-few t files all.1)
-
--- one file is replaced by another with at least n more
-open_more : (files : List File) (p n : ℕ) (g : File) → p < length files → (get_or files p no_file).count + n ≤ g.count
-    → open_count files + n ≤ open_count (set files p g)
-unfolding open_count
-open_more [] p n g h k = absurd (omega arith)
-open_more (f ∷ files) zero n g h k = omega arith
-open_more (f ∷ files) (suc p) n g h k = omega (arith, open_more files p n g (omega arith) k)
-
-none_open : (n : ℕ) → open_count (replicate n no_file) ≡ 0
-unfolding open_count
-none_open zero = refl
-none_open (suc n) = omega (arith, none_open n)
-
--- The count of calls made has room for another call.
-pub sound-made : (b : Book) → SoundBook b → b.made ≤ 7480320
-sound-made b s = omega (arith, s.made, s.day, s.many, open-few b.today.0 b.files s.files)
 
 -- ---- a fresh book
 
@@ -102,7 +81,6 @@ fresh-sound d h =
       many = length-replicate 64 no_file;
       files = all_replicate (Sound d) 64 no_file (none-sound d h);
       blank = all_replicate BlankUnlessAdmitted 64 no_file (λ e. refl);
-      made = omega arith;
     }
 
 -- ---- a call on a file
@@ -141,48 +119,24 @@ pub accepted-behind : (f : File) (x : Answer) → accepted (if_admitted f x) ≡
 unfolding if_admitted
 accepted-behind f x e = (is-admitted f x e, decide-accepted (cause 2 (not f.admitted) ∷ []) x e)
 
--- The file that an accepted call leaves is admitted, and has as many more open calls as were made.
-module _ (f : File) (t : ℕ) (s : Sound t f) (blank : BlankUnlessAdmitted f) where
-  abbrev Grown : ℕ → File → Type 0
-  Grown n g = (g.admitted ≡ true) × (f.count + n ≤ g.count)
+-- The file that an accepted call leaves is admitted.
+module _ (f : File) (t : ℕ) where
+  kept : (c : Bool) (g : File) → f.admitted ≡ true → g.admitted ≡ f.admitted → (cond c g f).admitted ≡ true
+  kept c g known e = by-test c g f (λ (h : File). h.admitted ≡ true) (λ yes. e ∙ known) (λ no. known)
 
-  kept : (c : Bool) (g : File) → f.admitted ≡ true → g.admitted ≡ f.admitted → g.count ≡ f.count → Grown 0 (cond c g f)
-  kept c g known e q = by-test c g f (Grown 0) (λ yes. (e ∙ known, omega arith)) (λ no. (known, omega arith))
-
-  settled-count : (m : ℕ) (figures : List ℤ) → length (calls_settled f t m figures) ≡ f.count + cond (settlement_calls f t m figures) 1 0
-  unfolding calls_settled
-  settled-count m figures =
-      split (settlement_calls f t m figures)
-      (λ e. rw e (length-append (open_calls f) _ ∙ ap (λ (n : ℕ). n + 1) (open-count f t s)))
-      (λ e. rw e (open-count f t s ∙ sym (add-zero f.count)))
-
-  deleted-count : length (calls_deleted f t) ≡ f.count + cond (deletion_calls f t) 1 0
-  unfolding calls_deleted
-  deleted-count =
-      split (deletion_calls f t)
-      (λ e. rw e (length-append (open_calls f) _ ∙ ap (λ (n : ℕ). n + 1) (open-count f t s)))
-      (λ e. rw e (open-count f t s ∙ sym (add-zero f.count)))
-
-  grown : (a : Act) → accepted (file_answer f t a) ≡ true → Grown (calls_added f t a) (file_after f t a)
-  unfolding file_answer file_after calls_added admitted_file lodged_file released_file annual_file settled_file deleted_file
-  grown (admit role) e = (refl, omega (arith, none))
-    where
-      none : f.count ≡ 0
-      none = ap (λ (g : File). g.count) (blank (none-holds (cause 3 f.admitted ∷ cause 4 (ltb 5 role) ∷ []) done e).0)
-  grown (lodge k h) e =
-      kept (accepted (lodge_answer f t k h)) (with_slots f (set f.slots k (slot_of h))) (is-admitted f (lodge_answer f t k h) e) refl refl
-  grown (release k a) e =
-      kept (accepted (release_answer f t k a)) (with_slots f (slots_left f k a)) (is-admitted f (release_answer f t k a) e) refl refl
-  grown (settle m figures) e =
-      let ok = behind-admitted f (settle_answer f t m figures) e in
-      rw (cond-true (accepted (settle_answer f t m figures)) (with_totals f _ (calls_settled f t m figures)) f ok)
-      (is-admitted f (settle_answer f t m figures) e, omega (arith, settled-count m figures))
-  grown annual_run e =
-      kept (accepted (annual_answer f t)) (with_next f (set_to (annual_amount_of f t))) (is-admitted f (annual_answer f t) e) refl refl
-  grown delete e =
-      let ok = behind-admitted f (deletion_answer f t) e in
-      rw (cond-true (accepted (deletion_answer f t)) (with_deletion f (calls_deleted f t)) f ok)
-      (is-admitted f (deletion_answer f t) e, omega (arith, deleted-count))
+  left-admitted : (a : Act) → accepted (file_answer f t a) ≡ true → (file_after f t a).admitted ≡ true
+  unfolding file_answer file_after admitted_file lodged_file released_file annual_file settled_file deleted_file
+  left-admitted (admit role) e = refl
+  left-admitted (lodge k h) e =
+      kept (accepted (lodge_answer f t k h)) (with_slots f (set f.slots k (slot_of h))) (is-admitted f (lodge_answer f t k h) e) refl
+  left-admitted (release k a) e =
+      kept (accepted (release_answer f t k a)) (with_slots f (slots_left f k a)) (is-admitted f (release_answer f t k a) e) refl
+  left-admitted (settle m figures) e =
+      kept (accepted (settle_answer f t m figures)) (with_totals f _ (calls_settled f t m figures) _) (is-admitted f (settle_answer f t m figures) e) refl
+  left-admitted annual_run e =
+      kept (accepted (annual_answer f t)) (with_next f (set_to (annual_amount_of f t))) (is-admitted f (annual_answer f t) e) refl
+  left-admitted delete e =
+      kept (accepted (deletion_answer f t)) (with_deletion f (calls_deleted f t) _) (is-admitted f (deletion_answer f t) e) refl
 
 -- The file that a call leaves.
 after-sound : (f : File) (t : ℕ) (a : Act) → t ≤ 29219 → Sound t f → Sound t (file_after f t a)
@@ -212,7 +166,6 @@ day-sound b h s =
       blank = all_map BlankUnlessAdmitted BlankUnlessAdmitted (opened_if_admitted (suc b.today.0)) b.files
           (λ f k. blank-opened (suc b.today.0) f k)
           s.blank;
-      made = omega (arith, s.made, s.many, open-few b.today.0 b.files s.files);
     }
 
 days-sound : (n : ℕ) (b : Book) → b.today.0 + n ≤ 29219 → SoundBook b → SoundBook (open_days n b)
@@ -235,14 +188,13 @@ named-sound rule b p a e s =
     let f = file_at b p in
     let t = b.today.0 in
     let low = numbered p (unless_retired rule a (file_answer f t a)) e in
-    let more = grown f t (sound-file b p s) (all-default BlankUnlessAdmitted b.files p no_file (λ e. refl) s.blank) a
+    let known = left-admitted f t a
     (behind-rule rule a (file_answer f t a) (behind-number p (unless_retired rule a (file_answer f t a)) e)) in
     record {
       day = s.day;
       many = length-set b.files p (file_after f t a) ∙ s.many;
       files = all_set (Sound t) b.files p (file_after f t a) (after-sound f t a s.day (sound-file b p s)) s.files;
-      blank = all_set BlankUnlessAdmitted b.files p (file_after f t a) (λ n. clash more.0 n) s.blank;
-      made = omega (arith, s.made, open_more b.files p (calls_added f t a) (file_after f t a) (omega (arith, s.many)) more.1);
+      blank = all_set BlankUnlessAdmitted b.files p (file_after f t a) (λ n. clash known n) s.blank;
     }
 
 -- The book after the settlements of a batch.

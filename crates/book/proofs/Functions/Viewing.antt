@@ -54,20 +54,20 @@ view-long l w = w.long
 pub ruleset views = (view-sound, view-long)
 
 -- What is held at a position.
-pub held-there : (l : List ℕ) (p k at : ℕ) (s : Slot) → at ≡ place p → k ≤ 7 → s ≡ slot_in l (at + (9 + 4 * k))
+pub held-there : (l : List ℕ) (p k at : ℕ) (s : Slot) → at ≡ place p → k ≤ 7 → s ≡ slot_in l (at + (10 + 4 * k))
     → s.position ≡ position_at (file_in_words l p).slots k
 unfolding file_of_words
 held-there l p k at s here h e =
     ap (λ (z : Slot). z.position)
-    (e ∙ ap (λ (n : ℕ). slot_in l (n + (9 + 4 * k))) here ∙ sym (slot-there l (place p) k (slot_of Empty) (omega arith)))
+    (e ∙ ap (λ (n : ℕ). slot_in l (n + (10 + 4 * k))) here ∙ sym (slot-there l (place p) k (slot_of Empty) (omega arith)))
 
 -- One of its open calls.
 pub call-open : (l : List ℕ) (p k at : ℕ) (c : OpenCall) → at ≡ place p → Sound (today_in l) (file_in_words l p) → k < (file_in_words l p).count
-    → c ≡ call_in l (at + (41 + 2 * k)) → c ≡ get_or (open_calls (file_in_words l p)) k (call_of 0 0)
+    → c ≡ call_in l (at + (42 + 2 * k)) → c ≡ get_or (open_calls (file_in_words l p)) k (call_of 0 0)
 unfolding file_of_words open_calls
 call-open l p k at c here s h e =
     e
-    ∙ ap (λ (n : ℕ). call_in l (n + (41 + 2 * k))) here
+    ∙ ap (λ (n : ℕ). call_in l (n + (42 + 2 * k))) here
     ∙ sym (call-there l (place p) k (call_of 0 0) (omega (arith, s.count)))
     ∙ sym (get_or-take (file_in_words l p).count (file_in_words l p).calls k (call_of 0 0) h)
 

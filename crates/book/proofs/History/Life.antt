@@ -9,7 +9,7 @@ use Rattle.file.specs.Answer.{Answer, accepted}
 use Rattle.layout.specs.Book.{Book}
 use Rattle.book.specs.Call.{Call}
 use Rattle.book.specs.Rule.{old_rule, new_rule, MadeCall, history}
-use Rattle.book.specs.Account.{file_at, answer, step, run}
+use Rattle.book.specs.Account.{file_at, sum_of_counts, answer, step, run}
 use Rattle.book.specs.Reading.Events.{Event, Own, day_opened, act, mine, today_of}
 use Rattle.book.specs.Reading.Decisions.{calls_below, decision, with_call, events_of}
 use Rattle.book.specs.Kept.{file_in, book_in}
@@ -19,7 +19,8 @@ use Rattle.book.proofs.Participant.Lawful.{Lawful}
 use Rattle.book.proofs.Participant.DayCharged.{day-counted, day-charged}
 use Rattle.book.proofs.History.Events.{LawfulAll}
 use Rattle.book.proofs.History.LawfulCalls.{lawful-events}
-use Rattle.book.proofs.History.Lift.{file-at, part, run_is, decided}
+use Rattle.book.proofs.History.Lift.{file-at, part, counts-are, run_is, decided}
+use Rattle.book.proofs.History.OneCount.{answers-before}
 use Rattle.book.proofs.History.Openings.{each-opening}
 use Rattle.book.proofs.History.Higher.{call-higher, same-events}
 
@@ -34,7 +35,7 @@ file-reads : (s p : ℕ) (events : List Event) → LawfulAll s events
     → ReadsAs (today_of s events) (file_in (today_of s events) (mine p events)) (mine p events)
 unfolding file_in
 file-reads s p events lw =
-    record { admitted = refl; leaving = refl; role = refl; firm = refl; cover = (part s events lw p).cover; charged = refl; accrued = refl }
+    record { admitted = refl; leaving = refl; role = refl; firm = refl; cover = (part s events lw p).cover; charged = refl; accrued = refl; made = refl }
 
 -- So does each file of the book that a list of calls leads to.
 figures-are : (s : ℕ) (calls : List MadeCall) → s ≤ 29219 → (p : ℕ) → p < 64
@@ -85,10 +86,9 @@ each-call s (e ∷ before) h = (
   each-call s before h,
 )
 
--- The count of calls made.
-made-is : (s : ℕ) (calls : List MadeCall) → s ≤ 29219 → (run s calls).made ≡ calls_below 64 (events_of s calls)
-unfolding book_in
-made-is s calls h = ap (λ (b : Book). b.made) (run_is s calls h)
+-- The sum of the counts of calls made.
+made-is : (s : ℕ) (calls : List MadeCall) → s ≤ 29219 → sum_of_counts (run s calls) ≡ calls_below 64 (events_of s calls)
+made-is s calls h = ap sum_of_counts (run_is s calls h) ∙ counts-are s (events_of s calls)
 
 -- Demand 3: for every list of calls from a fresh book on any day, refused ones included.
 pub life : (s : ℕ) (calls : List MadeCall) → s ≤ 29219 → Life s calls
@@ -101,6 +101,7 @@ life s calls h =
       openings = each-opening s calls;
       none_higher = each-call s calls h;
       made = made-is s calls h;
+      as_before = answers-before s calls h;
       today = today-is s calls h;
     }
 

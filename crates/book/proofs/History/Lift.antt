@@ -3,30 +3,30 @@
 -- Assumes nothing.
 use Prim.Native.Nat.{ℕ, zero, suc, ◌+◌, ◌-◌, ◌≤◌, ◌<◌, min}
 use native.Mathlib.Omega.{arith}
-use native.Mathlib.Nat.{add-suc, le_refl, not-suc-le-zero}
-use mathlib.Core.Path.{◌≡◌, refl, sym, ap, ap₂, subst, ◌∙◌}
+use native.Mathlib.Nat.{add-suc, le_refl}
+use mathlib.Core.Path.{◌≡◌, refl, sym, ap, subst, ◌∙◌}
 use mathlib.Core.Bool.{true, cond, not}
 use mathlib.Core.List.{List, [], ◌∷◌, ◌++◌, append-nil}
 use borrow.Author.Tests.{ltb-false}
 use lib.Dec.{ltb, eqb}
-use lib.ListN.{length}
 use Rattle.laws.specs.Lists.{table}
 use Rattle.laws.specs.Tabulated.{table-ext, get_d-table, set-table-as, replicate-table, map-table}
 use Rattle.laws.specs.Cases.{split, cond-true, cond-false}
+use Rattle.laws.specs.Sums.{sum-table-more}
+use Rattle.std.specs.List.{sum_by}
 use Rattle.file.specs.declared.File.{File}
-use Rattle.file.specs.Answer.{Answer, Cause, refused, done, decide, accepted, statement_says}
+use Rattle.file.specs.Answer.{Answer, Cause, refused, done, counted, decide, accepted, statement_says}
 use Rattle.file.specs.Admit.{no_file}
 use Rattle.file.specs.Statement.{file_statement}
 use Rattle.layout.specs.Book.{Book}
 use Rattle.batch.specs.Batch.{count_in, participant_at}
 use Rattle.batch.specs.FormLaws.{Whole}
 use Rattle.book.specs.Call.{Act, admit, lodge, release, settle, annual_run, delete, Call, on, advance, statement, calls_made, batch, part_act}
-use Rattle.book.specs.Account.{fresh_book, file_at, with_file, if_numbered, if_admitted, file_answer, file_after, calls_added, opened_if_admitted}
+use Rattle.book.specs.Account.{fresh_book, file_at, with_file, sum_of_counts, if_numbered, if_admitted, file_answer, file_after, opened_if_admitted}
 use Rattle.book.specs.Rule.{Rule, old_rule, new_rule, MadeCall}
 use Rattle.book.specs.Account.{unless_retired, answer_on, applied_on, after_parts, part_answer, open_day, open_days, answer, applied, step, run}
 use Rattle.book.specs.Reading.Events as E
-use Rattle.book.specs.Reading.Events.{Event, did, Own, day_opened, act, mine, today_of, with_days, admitted_in}
-use Rattle.book.specs.Reading.Calls.{calls_in}
+use Rattle.book.specs.Reading.Events.{Event, did, Own, day_opened, mine, today_of, with_days, admitted_in}
 use Rattle.book.specs.Reading.Decisions.{cause, own_causes, own_answer, own_statement, calls_below}
 use Rattle.book.specs.Reading.Decisions.{retirement, decision_on, part_decision, decision, with_parts, with_call, events_of}
 use Rattle.book.specs.Kept.{file_in, book_in}
@@ -35,15 +35,15 @@ use Rattle.book.proofs.Participant.Decide.{decide-first, decide-behind, none_bef
 use Rattle.book.proofs.Participant.Blank.{blank-file}
 use Rattle.book.proofs.Participant.OnePart.{OnePart, one-part}
 use Rattle.book.proofs.History.Advances.{open_days-last}
-use Rattle.book.proofs.History.Events.{mine-did, mine-named, mine-other, today-mine, today-days}
+use Rattle.book.proofs.History.Events.{mine-named, mine-other, today-mine, today-days}
 use Rattle.book.proofs.History.Events.{LawfulAll, lawful-days, days-within}
 use Rattle.book.proofs.History.LawfulCalls.{lawful-events}
 use Rattle.book.proofs.History.Parts.{batch-accepted, batch-agree, part-alone}
 use Rattle.book.proofs.History.PartEvents.{today-parts, none-of-part, lawful-parts}
 
 -- A path between books from paths of their fields.
-book-path : (b c : Book) → b.files ≡ c.files → b.today.0 ≡ c.today.0 → b.made ≡ c.made → b ≡ c
-book-path b c p q r = λ i. record { files = p i; today = record { 0 = q i }; made = r i }
+book-path : (b c : Book) → b.files ≡ c.files → b.today.0 ≡ c.today.0 → b ≡ c
+book-path b c p q = λ i. record { files = p i; today = record { 0 = q i } }
 
 -- A participant's file in the book of the readings.
 pub file-at : (s p : ℕ) (events : List Event) → p < 64 → file_at (book_in s events) p ≡ file_in (today_of s events) (mine p events)
@@ -52,39 +52,22 @@ file-at s p events h = get_d-table 64 (λ q. file_in (today_of s events) (mine q
 
 -- The fresh book is the book of no events: nobody is admitted, so every file is blank.
 fresh-is : (s : ℕ) → s ≤ 29219 → fresh_book s ≡ book_in s []
-unfolding fresh_book book_in today_of mine admitted_in calls_below calls_in
+unfolding fresh_book book_in today_of mine admitted_in
 fresh-is s h =
     book-path (fresh_book s) (book_in s [])
     (replicate-table 64 no_file ∙ ap (λ (f : File). table 64 (λ p. f)) (sym (blank-file s [] h refl s)))
     refl
-    refl
 
--- A call of participant p adds no call to those of the participants below n, where p isn't among them ..
-made_other : (n t p : ℕ) (a : Act) (events : List Event) → n ≤ p → calls_below n (did t p a ∷ events) ≡ calls_below n events
-unfolding calls_below
-made_other zero t p a events h = refl
-made_other (suc n) t p a events h =
-    ap₂ ◌+◌
-    (ap (λ (own : List Own). length (calls_in own)) (sym (mine-other t p n a events (λ e. omega arith))))
-    (made_other n t p a events (omega arith))
+-- The sum of the counts of the files is the number of calls made to all.
+counts-from : (t : ℕ) (events : List Event) (n : ℕ) → sum_by (λ (f : File). f.made) (table n (λ p. file_in t (mine p events))) ≡ calls_below n events
+unfolding calls_below file_in
+counts-from t events zero = refl
+counts-from t events (suc n) =
+    omega (arith, sum-table-more (λ (f : File). f.made) n (λ p. file_in t (mine p events)), counts-from t events n)
 
--- .. and where it is, the k that it makes.
-made-named : (n t p : ℕ) (a : Act) (events : List Event) (k : ℕ) → p < n
-    → k + length (calls_in (mine p events)) ≡ length (calls_in (act t a ∷ mine p events))
-    → calls_below n (did t p a ∷ events) ≡ calls_below n events + k
-unfolding calls_below
-made-named zero t p a events k h e = absurd (not-suc-le-zero h)
-made-named (suc n) t p a events k h e =
-    mine-did (λ j own. length (calls_in own) + calls_below j (did t p a ∷ events) ≡ length (calls_in (mine j events)) + calls_below j events + k)
-    t p n a events
-    (let below = made_other p t p a events (omega arith) in omega arith)
-    (λ ne. let rest = made-named n t p a events k (omega arith) e in omega arith)
-
--- An opened day makes no call.
-made-opened : (n d : ℕ) (events : List Event) → calls_below n (E.opened d ∷ events) ≡ calls_below n events
-unfolding calls_below mine calls_in
-made-opened zero d events = refl
-made-opened (suc n) d events = ap (λ (k : ℕ). length (calls_in (mine n events)) + k) (made-opened n d events)
+pub counts-are : (s : ℕ) (events : List Event) → sum_of_counts (book_in s events) ≡ calls_below 64 events
+unfolding sum_of_counts book_in
+counts-are s events = counts-from (today_of s events) events 64
 
 -- Cause 23 behind the others: by the account it refuses what was accepted, by the reading it is the last cause.
 no_more : (t : ℕ) (own : List Own) (a : Act)
@@ -143,7 +126,7 @@ module _ (s : ℕ) (events : List Event) (lw : LawfulAll s events) where
       (if_admitted (file_at (book_in s events) p) (statement_says (file_statement (file_at (book_in s events) p) t)))
       (own_statement t (mine p events))
       (λ e. known-statement p (omega (arith, ltb-false 63 p e)))
-  answer-is rule calls_made = refl
+  answer-is rule calls_made = ap counted (counts-are s events)
   answer-is rule (batch file) =
       batch-agree file (part_answer (book_in s events) file) (part_decision s events file)
       (λ w k h. part-alone (book_in s events) file w k h ∙ named-is new_rule (participant_at file k) (part_act file k))
@@ -154,15 +137,12 @@ module _ (s : ℕ) (events : List Event) (lw : LawfulAll s events) where
   unfolding with_file book_in today_of
   did-is p a h none =
       let new : List Event = did t p a ∷ events in
-      let own = file_in t (mine p events) in
-      let same : file_at (book_in s events) p ≡ own = file-at s p events h in
+      let same : file_at (book_in s events) p ≡ file_in t (mine p events) = file-at s p events h in
       book-path (applied_on (book_in s events) p a) (book_in s new)
       (set-table-as 64 (λ q. file_in t (mine q events)) (λ q. file_in t (mine q new)) p (file_after (file_at (book_in s events) p) t a)
       (ap (λ (f : File). file_after f t a) same ∙ (part p).left a none ∙ ap (file_in t) (mine-named t p a events))
       (λ q ne. ap (file_in t) (mine-other t p q a events ne)))
       refl
-      (ap (λ (f : File). calls_below 64 events + calls_added f t a) same
-      ∙ sym (made-named 64 t p a events (calls_added own t a) h ((part p).called a none)))
 
   -- The book after one more day was opened.
   opened-is : suc t ≤ 29219 → open_day (book_in s events) ≡ book_in s (E.opened (suc t) ∷ events)
@@ -173,7 +153,6 @@ module _ (s : ℕ) (events : List Event) (lw : LawfulAll s events) where
       ∙ table-ext 64 (λ q. opened_if_admitted (suc t) (file_in t (mine q events))) (λ q. file_in (suc t) (day_opened (suc t) ∷ mine q events))
       (λ q k. (part q).opened h))
       refl
-      (sym (made-opened 64 (suc t) events))
 
 -- The book after n more days were opened.
 days-is : (s n : ℕ) (events : List Event) → LawfulAll s events → today_of s events + n ≤ 29219
@@ -191,7 +170,7 @@ days-is s (suc n) events lw h =
     ∙ ap (λ (d : ℕ). book_in s (E.opened d ∷ last)) next
 
 -- The book after the settlements of the first k parts of an accepted batch.
-parts_is : (s : ℕ) (events : List Event) (file : List ℕ) → LawfulAll s events → Whole file → (k : ℕ) → k ≤ count_in file
+pub parts_is : (s : ℕ) (events : List Event) (file : List ℕ) → LawfulAll s events → Whole file → (k : ℕ) → k ≤ count_in file
     → ((j : ℕ) → j < count_in file → accepted (part_decision s events file j) ≡ true)
     → after_parts (book_in s events) file k ≡ book_in s (with_parts (today_of s events) file k events)
 unfolding after_parts with_parts

@@ -16,7 +16,8 @@ use Rattle.file.specs.Calls.{keep, in_places}
 use Rattle.file.specs.Totals.{no_total}
 use Rattle.file.specs.Fields.{unset}
 use Rattle.file.specs.Admit.{calls_of_admission, admitted_file}
-use Rattle.book.specs.Account.{file_answer, file_after, calls_added}
+use Rattle.book.specs.Account.{file_answer, file_after}
+use Rattle.book.specs.OneCount.{calls_added}
 use Rattle.book.specs.Call.{admit}
 use Rattle.book.specs.Reading.Events.{Own, act, admitted_in, leaving_in, role_in}
 use Rattle.book.specs.Reading.Holdings.{last_lodged, released_since, left_at, position_in}
@@ -92,6 +93,7 @@ module _ (s : ℕ) (own : List Own) (role : ℕ) (lw : Lawful s own) (none : Non
         totals = totals i;
         charged = charged i;
         accrued = accrued i;
+        made = ap length made i;
       }
 
   pub admit-file : file_after (file_in (today_in s own) own) (today_in s own) (admit role)

@@ -59,6 +59,7 @@ module _ (s : ℕ) (own : List Own) (lw : Lawful s own) where
           totals = table 16 (ring_in own);
           charged = (sym (charged-act s own annual_run lw none)) i;
           accrued = (sym (accrued-act s own annual_run lw none)) i;
+          made = length (calls_in own);
         }
 
     pub annual-file : file_after (file_in (today_in s own) own) (today_in s own) annual_run

@@ -136,6 +136,9 @@ module _ (s : ℕ) (own : List Own) (lw : Lawful s own) (e : admitted_in own ≡
   unfolding accrued_in sum_charges
   blank-accrued = rw (days-none own e)
 
+  blank-made : length (calls_in own) ≡ 0
+  blank-made = ap length blank-calls
+
   -- The file of a participant that is not admitted.
   pub blank-slots : (t : ℕ) → table 8 (λ k. slot_of (position_in t k own)) ≡ replicate 8 (slot_of Empty)
   blank-slots t =
@@ -159,4 +162,5 @@ module _ (s : ℕ) (own : List Own) (lw : Lawful s own) (e : admitted_in own ≡
         totals = blank-totals i;
         charged = blank-charged i;
         accrued = blank-accrued i;
+        made = blank-made i;
       }

@@ -2,7 +2,7 @@
 -- Assumes nothing.
 use Prim.Native.Nat.{ℕ, ◌+◌, ◌-◌}
 use mathlib.Core.Path.{◌≡◌, refl, sym, ap, ◌∙◌}
-use mathlib.Core.Bool.{true, not, ◌&&◌, ◌||◌}
+use mathlib.Core.Bool.{true, cond, not, ◌&&◌, ◌||◌}
 use mathlib.Core.List.{List, [], ◌∷◌}
 use native.Mathlib.Omega.{arith}
 use lib.Dec.{leb}
@@ -19,7 +19,8 @@ use Rattle.file.specs.Totals.{total_at}
 use Rattle.file.specs.Fields.{open_amounts, with_deletion}
 use Rattle.file.specs.Deletion.{deletion_totals, last_three, deletion_amount_of, deletion_calls, deletion_answer, calls_deleted, deleted_file}
 use Rattle.file.specs.DeletionLaws.{exceeds-largest}
-use Rattle.book.specs.Account.{if_admitted, file_answer, file_after, calls_added}
+use Rattle.book.specs.Account.{if_admitted, file_answer, file_after}
+use Rattle.book.specs.OneCount.{calls_added}
 use Rattle.book.specs.Call.{delete}
 use Rattle.book.specs.Reading.Events.{Own, act, admitted_in, leaving_in, role_in}
 use Rattle.book.specs.Reading.Holdings.{last_lodged, released_since, left_at, position_in}
@@ -75,6 +76,11 @@ module _ (s : ℕ) (own : List Own) (lw : Lawful s own) where
       (length-behind (calls_in own) (deletion_called (today_in s own) own (calls_in own))
       (call_of (deletion_in (today_in s own) own) (today_in s own + 10)))
 
+  made : length (calls_in own) + cond (deletion_calls (file_in (today_in s own) own) (today_in s own)) 1 0
+      ≡ length (calls_in (act (today_in s own) delete ∷ own))
+  unfolding calls_added
+  made = omega (arith, delete-calls)
+
   -- The open calls that it leaves.
   opens : calls_deleted (file_in (today_in s own) own) (today_in s own) ≡ open_in (today_in s own) (act (today_in s own) delete ∷ own)
   unfolding calls_deleted open_in calls_in
@@ -91,6 +97,7 @@ module _ (s : ℕ) (own : List Own) (lw : Lawful s own) where
 
     -- (2) The file that it leaves.
     placed : with_deletion (file_in (today_in s own) own) (calls_deleted (file_in (today_in s own) own) (today_in s own))
+        (cond (deletion_calls (file_in (today_in s own) own) (today_in s own)) 1 0)
         ≡ file_in (today_in s own) (act (today_in s own) delete ∷ own)
     unfolding file_in admitted_in leaving_in role_in position_in left_at last_lodged released_since next_in ring_in
     placed = λ i.
@@ -106,6 +113,7 @@ module _ (s : ℕ) (own : List Own) (lw : Lawful s own) where
           totals = table 16 (ring_in own);
           charged = (sym (charged-act s own delete lw none)) i;
           accrued = (sym (accrued-act s own delete lw none)) i;
+          made = made i;
         }
 
     pub delete-file : file_after (file_in (today_in s own) own) (today_in s own) delete
@@ -113,7 +121,8 @@ module _ (s : ℕ) (own : List Own) (lw : Lawful s own) where
     unfolding file_after deleted_file
     delete-file =
         cond-true (accepted (deletion_answer (file_in (today_in s own) own) (today_in s own)))
-        (with_deletion (file_in (today_in s own) own) (calls_deleted (file_in (today_in s own) own) (today_in s own)))
+        (with_deletion (file_in (today_in s own) own) (calls_deleted (file_in (today_in s own) own) (today_in s own))
+        (cond (deletion_calls (file_in (today_in s own) own) (today_in s own)) 1 0))
         (file_in (today_in s own) own)
         taken
         ∙ placed

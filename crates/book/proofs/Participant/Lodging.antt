@@ -77,6 +77,7 @@ lodged-kept s k h own lw none =
     (λ j. refl)
     (sym (charged-act s own (lodge k h) lw none))
     (sym (accrued-act s own (lodge k h) lw none))
+    refl
 
 -- An accepted lodging leaves the file of the readings.
 pub lodging-leaves : (s k : ℕ) (h : Position) (own : List Own) → Lawful s own

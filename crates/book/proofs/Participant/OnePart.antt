@@ -11,7 +11,8 @@ use Rattle.file.specs.Answer.{refused, decide, statement_says}
 use Rattle.file.specs.Fields.{cover_of, shortfall_of}
 use Rattle.file.specs.Statement.{file_statement}
 use Rattle.book.specs.Call.{Act, admit, lodge, release, settle, annual_run, delete}
-use Rattle.book.specs.Account.{file_answer, file_after, calls_added, opened_if_admitted}
+use Rattle.book.specs.Account.{file_answer, file_after, opened_if_admitted}
+use Rattle.book.specs.OneCount.{calls_added}
 use Rattle.book.specs.Reading.Events.{Own, day_opened, act, admitted_in}
 use Rattle.book.specs.Reading.Holdings.{cover_in}
 use Rattle.book.specs.Reading.Calls.{calls_in}

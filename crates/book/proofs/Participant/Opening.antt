@@ -25,7 +25,7 @@ use Rattle.book.specs.Call.{admit, lodge, release, settle, annual_run, delete}
 use Rattle.book.specs.Reading.Events.{Own, day_opened, act, admitted_in, leaving_in, role_in}
 use Rattle.book.specs.Reading.Holdings.{last_lodged, released_since, left_at, position_in, lodged_where, released_where, cover_in}
 use Rattle.book.specs.Reading.Months.{next_in}
-use Rattle.book.specs.Reading.Calls.{firm_in, open_in}
+use Rattle.book.specs.Reading.Calls.{calls_in, firm_in, open_in}
 use Rattle.book.specs.Reading.Charges.{charged_in, accrued_in}
 use Rattle.book.specs.Kept.{ring_in, file_in}
 use Rattle.book.proofs.Participant.Lawful.{today_in, Lawful}
@@ -122,7 +122,7 @@ accrued-read s own lw h e = rw (shortfall-read s own lw h) (sym (accrued-opened 
 -- An admitted participant's file: opening the next day, field by field.
 pub opened-admitted : (s : ℕ) (own : List Own) → Lawful s own → next_day s own ≤ 29219 → admitted_in own ≡ true
     → opened_file (file_in (today_in s own) own) (next_day s own) ≡ file_in (next_day s own) (with_next_day s own)
-unfolding opened_file file_in admitted_in leaving_in role_in ring_in
+unfolding opened_file file_in admitted_in leaving_in role_in ring_in calls_in
 opened-admitted s own lw h e =
     let t = today_in s own in
     λ i.
@@ -138,6 +138,7 @@ opened-admitted s own lw h e =
       totals = table 16 (ring_in own);
       charged = charged-read s own lw h e i;
       accrued = accrued-read s own lw h e i;
+      made = length (calls_in own);
     }
 
 -- One that isn't admitted stays blank.

@@ -161,6 +161,7 @@ released-kept s k a own lw none =
     (λ j. refl)
     (sym (charged-act s own (release k a) lw none))
     (sym (accrued-act s own (release k a) lw none))
+    refl
 
 -- An accepted release leaves the file of the readings.
 pub releasing-leaves : (s k a : ℕ) (own : List Own) → Lawful s own → NoneHolds (own_causes (today_in s own) own (release k a))

@@ -21,7 +21,8 @@ use Rattle.file.specs.Calls.{amounts_of, call_of, in_places}
 use Rattle.file.specs.Totals.{total_of, with_total}
 use Rattle.file.specs.Fields.{with_totals}
 use Rattle.file.specs.Settle.{outside_months, check_due, deposited, settlement_calls, check_says, settled_answer, settle_answer, calls_settled, settled_file}
-use Rattle.book.specs.Account.{if_admitted, file_answer, file_after, calls_added}
+use Rattle.book.specs.Account.{if_admitted, file_answer, file_after}
+use Rattle.book.specs.OneCount.{calls_added}
 use Rattle.book.specs.Call.{settle}
 use Rattle.book.specs.Reading.Events.{Own, act, admitted_in, leaving_in, role_in}
 use Rattle.book.specs.Reading.Holdings.{last_lodged, released_since, left_at, position_in, deposited_in}
@@ -78,6 +79,11 @@ module _ (s : ℕ) (own : List Own) (m : ℕ) (figures : List ℤ) (lw : Lawful 
       (length-behind (calls_in own) (called_in (today_in s own) m figures own (calls_in own))
       (call_of (nat_abs (sum_of figures)) (today_in s own + 10)))
 
+  made : length (calls_in own) + cond (settlement_calls (file_in (today_in s own) own) (today_in s own) m figures) 1 0
+      ≡ length (calls_in (act (today_in s own) (settle m figures) ∷ own))
+  unfolding calls_added
+  made = omega (arith, settle-calls)
+
   -- The open calls and month totals that it leaves.
   opens : calls_settled (file_in (today_in s own) own) (today_in s own) m figures
       ≡ open_in (today_in s own) (act (today_in s own) (settle m figures) ∷ own)
@@ -104,6 +110,7 @@ module _ (s : ℕ) (own : List Own) (m : ℕ) (figures : List ℤ) (lw : Lawful 
     settled : with_totals (file_in (today_in s own) own)
         (with_total (table 16 (ring_in own)) m (sum_of figures))
         (calls_settled (file_in (today_in s own) own) (today_in s own) m figures)
+        (cond (settlement_calls (file_in (today_in s own) own) (today_in s own) m figures) 1 0)
         ≡ file_in (today_in s own) (act (today_in s own) (settle m figures) ∷ own)
     unfolding file_in admitted_in leaving_in role_in position_in left_at last_lodged released_since next_in
     settled = λ i.
@@ -119,6 +126,7 @@ module _ (s : ℕ) (own : List Own) (m : ℕ) (figures : List ℤ) (lw : Lawful 
           totals = totals i;
           charged = (sym (charged-act s own (settle m figures) lw none)) i;
           accrued = (sym (accrued-act s own (settle m figures) lw none)) i;
+          made = made i;
         }
 
     pub settle-file : file_after (file_in (today_in s own) own) (today_in s own) (settle m figures)

@@ -18,7 +18,7 @@ use Rattle.file.specs.Fields.{with_slots}
 use Rattle.book.specs.Reading.Events.{Own, admitted_in, leaving_in, role_in}
 use Rattle.book.specs.Reading.Holdings.{position_in}
 use Rattle.book.specs.Reading.Months.{next_in}
-use Rattle.book.specs.Reading.Calls.{firm_in, open_in}
+use Rattle.book.specs.Reading.Calls.{firm_in, open_in, made_in}
 use Rattle.book.specs.Reading.Charges.{charged_in, accrued_in}
 use Rattle.book.specs.Kept.{ring_in, file_in}
 
@@ -35,10 +35,10 @@ position_at_lem t k own place =
 -- A file of the readings with the positions of a history that agrees with it in every other reading.
 pub with-slots-of : (t : ℕ) (own new : List Own) (slots : List Slot) → slots ≡ slots_in t new
     → admitted_in own ≡ admitted_in new → leaving_in own ≡ leaving_in new → role_in own ≡ role_in new → firm_in t own ≡ firm_in t new → open_in t own ≡ open_in t new
-    → next_in own ≡ next_in new → ((k : ℕ) → ring_in own k ≡ ring_in new k) → charged_in own ≡ charged_in new → accrued_in own ≡ accrued_in new
+    → next_in own ≡ next_in new → ((k : ℕ) → ring_in own k ≡ ring_in new k) → charged_in own ≡ charged_in new → accrued_in own ≡ accrued_in new → made_in own ≡ made_in new
     → with_slots (file_in t own) slots ≡ file_in t new
 unfolding file_in
-with-slots-of t own new slots e_slots e_admitted e_leaving e_role e_firm e_open e_next e_ring e_charged e_accrued =
+with-slots-of t own new slots e_slots e_admitted e_leaving e_role e_firm e_open e_next e_ring e_charged e_accrued e_made =
     let e_totals : table 16 (ring_in own) ≡ table 16 (ring_in new) = table-ext 16 (ring_in own) (ring_in new) (λ k h. e_ring k) in
     λ i.
     record {
@@ -53,4 +53,5 @@ with-slots-of t own new slots e_slots e_admitted e_leaving e_role e_firm e_open 
       totals = e_totals i;
       charged = e_charged i;
       accrued = e_accrued i;
+      made = e_made i;
     }

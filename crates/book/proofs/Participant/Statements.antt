@@ -9,7 +9,7 @@ use Rattle.file.specs.Fields.{cover_of, shortfall_of}
 use Rattle.file.specs.Statement.{file_statement}
 use Rattle.book.specs.Reading.Events.{Own}
 use Rattle.book.specs.Reading.Holdings.{cover_in}
-use Rattle.book.specs.Reading.Calls.{firm_in}
+use Rattle.book.specs.Reading.Calls.{firm_in, made_in}
 use Rattle.book.specs.Reading.Charges.{charged_in, accrued_in}
 use Rattle.book.specs.Reading.Decisions.{own_statement}
 use Rattle.book.specs.Kept.{file_in}
@@ -28,4 +28,4 @@ pub statement-is : (s : ℕ) (own : List Own) → Lawful s own
 unfolding file_statement shortfall_of file_in own_statement
 statement-is s own lw =
     let t = today_in s own in
-    ap (λ (cover : ℕ). stated (firm_in t own) cover (firm_in t own - cover) (charged_in own) (accrued_in own)) (cover-of-file s own lw)
+    ap (λ (cover : ℕ). stated (firm_in t own) cover (firm_in t own - cover) (charged_in own) (accrued_in own) (made_in own)) (cover-of-file s own lw)

@@ -1,6 +1,6 @@
 -- The calls made, the firm amount and the open calls, read from a participant's calls and the days opened.
 -- Assumes nothing.
-use Rattle.std.specs.Prelude.{ℕ, ◌+◌, Bool, cond, ◌&&◌, List, [], ◌∷◌, ◌++◌, leb, ltb, ℤ, nat_abs}
+use Rattle.std.specs.Prelude.{ℕ, ◌+◌, Bool, cond, ◌&&◌, List, [], ◌∷◌, ◌++◌, leb, ltb, length, ℤ, nat_abs}
 use Rattle.calendar.specs.Civil.{month_of, is_first_october}
 use Rattle.manual.specs.Minimum.{minimum_of}
 use Rattle.manual.specs.Check.{call_is_made}
@@ -69,6 +69,11 @@ calls_in (act d (settle m figures) ∷ own) =
 calls_in (act d annual_run ∷ own) = calls_in own
 calls_in (act d delete ∷ own) =
     calls_in own ++ cond (deletion_called d own (calls_in own)) (call_of (deletion_in d own) (d + 10) ∷ []) []
+
+-- Paper 02, Ask 6: a participant's count of calls made "equals the number of calls made in the reading of that participant's own calls and the days
+-- opened, its admission's and deletion's included".
+abbrev pub made_in : List Own → ℕ
+made_in own = length (calls_in own)
 
 -- The firm amount on day d, and the calls open on day t.
 unfoldable pub firm_in : ℕ → List Own → ℕ

@@ -16,7 +16,7 @@ use Rattle.book.specs.Rule.{Rule, old_rule, new_rule, MadeCall}
 use Rattle.book.specs.Reading.Events.{Event, Own, did, act, mine, today_of, with_days, admitted_in, leaving_in}
 use Rattle.book.specs.Reading.Holdings.{position_in, cover_in, deposited_in}
 use Rattle.book.specs.Reading.Months.{next_in, annual_in, years_totals, deletion_in}
-use Rattle.book.specs.Reading.Calls.{calls_in, called_in, deletion_called, firm_in, open_in}
+use Rattle.book.specs.Reading.Calls.{calls_in, called_in, deletion_called, firm_in, open_in, made_in}
 use Rattle.book.specs.Reading.Charges.{charged_in, accrued_in}
 
 -- A cause of refusal.
@@ -83,15 +83,15 @@ own_answer t own (settle m figures) = settlement_answer t m figures own
 own_answer t own annual_run = annual (annual_in t own) (length (years_totals t own))
 own_answer t own delete = deletion (deletion_in t own) (deletion_called t own (calls_in own))
 
--- The statement's figures today.
+-- The statement's figures today, and since paper 02, Ask 6 the count of calls made.
 unfoldable pub own_statement : ℕ → List Own → Answer
 own_statement t own =
-    stated (firm_in t own) (cover_in t own) (firm_in t own - cover_in t own) (charged_in own) (accrued_in own)
+    stated (firm_in t own) (cover_in t own) (firm_in t own - cover_in t own) (charged_in own) (accrued_in own) (made_in own)
 
 -- "one count of calls made, admissions' calls included", and since paper 02, Ask 4 deletions': those of participants 0 to n − 1.
 unfoldable pub calls_below : ℕ → List Event → ℕ
 calls_below zero events = 0
-calls_below (suc n) events = length (calls_in (mine n events)) + calls_below n events
+calls_below (suc n) events = made_in (mine n events) + calls_below n events
 
 -- Paper 02, Ask 3, "Only admission changes": the cause that a call has besides under the new rule, behind the others: "23 role 1 at admission, after 4".
 abbrev pub retirement : Rule → Act → List Cause

@@ -11,5 +11,5 @@ returns-in_err-file c =
 pub returns : goal.returns
 returns c =
     let v = c.in_ok-file.ensures in
-    given-statement _ _ _ _ v.0 v.1 v.2 v.3 _ _ _ _ _ _ _ c.firm-firm.ensures c.today.ensures c.today-2.ensures c.cover-cover.ensures c.charged.ensures
-    c.accrued.ensures c.saturating_sub.ensures
+    given-statement _ _ _ _ v.0 v.1 v.2 v.3 _ _ _ _ _ _ _ _ c.firm-firm.ensures c.today.ensures c.today-2.ensures c.cover-cover.ensures c.charged.ensures
+    c.accrued.ensures c.saturating_sub.ensures c.made.ensures
