@@ -226,13 +226,15 @@ GuaranteeDay guarantee_today(const uint64_t *words, size_t length);
  * words were loaded from a file it is asked before anything else, with as many words as the file has. */
 uint64_t guarantee_check(const uint64_t *words, size_t length);
 
+/* How many calls for more were made, of all participants: the sum of the counts in their statements. It is never refused for a book. It is the
+ * operator's: beside its own count it would tell a participant how many calls the others had. */
+GuaranteeCount guarantee_calls_made(const uint64_t *words, size_t length);
+
 /* ---- the accountant */
 
 /* A participant's statement today, with the count of its own calls. The order of refusals is 1, 2. */
 GuaranteeStatement guarantee_statement(const uint64_t *words, size_t length, uint64_t participant);
 
-/* How many calls for more were made, of all participants: the sum of the counts in their statements. It is never refused for a book. */
-GuaranteeCount guarantee_calls_made(const uint64_t *words, size_t length);
 
 #ifdef __cplusplus
 }

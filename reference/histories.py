@@ -10,7 +10,7 @@ answer, each refusal and each corner was met. A file is decimal numbers: `START 
     2 P PLACE AMOUNT FIRST LAST  lodge a letter         7 P           statement
     3 P PLACE AMOUNT             release                8 K B1 .. BK  a batch of K bytes
     4 P MONTH K F1 .. FK         settle                 9 P           delete
-    10                           the count of calls made
+    10                           the sum of the counts of calls made
 
 The first FIRST calls are the history's first stretch, made under the old admission rule, and the others are made under the new one (paper 02, ask
 3); FIRST may be 0, or above COUNT. Every history ends with a statement of each participant admitted by then and the question for the count. The

@@ -5,6 +5,7 @@ from wrong_books import ACCOUNT, ANNUAL, DELETION, FIELDS, OPENING, POSITION, SE
 CIVIL = 'calendar/specs/Civil.antt'
 CALLS, TOTALS, ANSWER = 'file/specs/Calls.antt', 'file/specs/Totals.antt', 'file/specs/Answer.antt'
 ADMIT, LODGE, RELEASE = 'file/specs/Admit.antt', 'file/specs/Lodge.antt', 'file/specs/Release.antt'
+STATEMENT = 'file/specs/Statement.antt'
 CAUSES, INTEGERS, LARGEST = 'laws/specs/Causes.antt', 'laws/specs/Integers.antt', 'laws/specs/Largest.antt'
 SIGNED, EVERY, LISTS = 'laws/specs/Signed.antt', 'laws/specs/Every.antt', 'laws/specs/Lists.antt'
 AMOUNT, CHARGE, CHECK = 'manual/specs/Annual.antt', 'manual/specs/Charge.antt', 'manual/specs/Check.antt'
@@ -1118,6 +1119,36 @@ SHARED = [
      [(GUARANTEE, '(sum_of zero_medium)', '(sum_of (Rattle.std.specs.Prelude.take 1 zero_medium))')], 'Guarantees.semesters-summed'),
     ('only the first low excess',
      [(GUARANTEE, '(sum_of excess_low)', '(sum_of (Rattle.std.specs.Prelude.take 1 excess_low))')], 'Guarantees.semesters-summed'),
+    # Calls counted by participant
+    ("an admission's call that is not counted",
+     [(ADMIT, 'made = length (calls_of_admission t role);', 'made = 0;'),
+      (READ_CALLS, 'made_in own = length (calls_in own)',
+       'made_in own = Rattle.std.specs.Prelude.◌-◌ (length (calls_in own)) (cond (ltb 0 (minimum_of (Rattle.book.specs.Reading.Events.role_in own))) 1 0)')],
+     'Counts.role-0'),
+    ('a count of the open calls alone',
+     [(STATEMENT, 'made = f.made;', 'made = f.count;'), (DECISIONS, '(accrued_in own) (made_in own)', '(accrued_in own) (length (open_in t own))')],
+     'Counts.day-after'),
+    ('a statement with one call more',
+     [(STATEMENT, 'made = f.made;', 'made = Rattle.std.specs.Prelude.suc f.made;'),
+      (DECISIONS, '(accrued_in own) (made_in own)', '(accrued_in own) (suc (made_in own))')],
+     'Counts.at-zero'),
+    ('a statement with the sum of the counts',
+     [(ACCOUNT, '(statement_says (file_statement (file_at b p) b.today.0))',
+       '(Rattle.file.specs.Answer.stated (file_at b p).firm (Rattle.file.specs.Fields.cover_of (file_at b p) b.today.0) '
+       '(Rattle.file.specs.Fields.shortfall_of (file_at b p) b.today.0) (file_at b p).charged (file_at b p).accrued (sum_of_counts b))'),
+      (DECISIONS, '(own_statement (today_of s events) (mine p events))',
+       '(stated (firm_in (today_of s events) (mine p events)) (cover_in (today_of s events) (mine p events)) '
+       '(firm_in (today_of s events) (mine p events) - cover_in (today_of s events) (mine p events)) (charged_in (mine p events)) '
+       '(accrued_in (mine p events)) (calls_below 64 events))')],
+     'Counts.both-first'),
+    ('the days charged for the count',
+     [(ANSWER, 's.accrued s.made', 's.accrued s.charged'), (DECISIONS, '(accrued_in own) (made_in own)', '(accrued_in own) (charged_in own)')],
+     'Counts.role-0'),
+    ('the sum of the counts without that of participant 63',
+     [(ACCOUNT, 'sum_of_counts b = sum_by (λ (f : File). f.made) b.files',
+       'sum_of_counts b = sum_by (λ (f : File). f.made) (Rattle.std.specs.Prelude.take 63 b.files)'),
+      (DECISIONS, 'counted (calls_below 64 events)', 'counted (calls_below 63 events)')],
+     'Counts.sum-of-three'),
 ]
 
 # The changes that are tried on the theorem too, and the numbers that its proof cites, changed with them.

@@ -1,4 +1,4 @@
-// Questions in memory: statements and the count of calls made.
+// Questions in memory: statements and the sum of the counts of calls made.
 use crate::answers::{Answer, sum};
 use crate::bench::Bench;
 use crate::draws::Draws;
@@ -18,7 +18,7 @@ fn statements(book: &BookWords, count: u64) -> u64 {
     sum(drawn.map(|draw| book::statement(&book.words, draw.participant()).number()))
 }
 
-// So many counts of calls made. The sum of the answers.
+// The question for the sum of the counts of calls made, so many times. The sum of the answers.
 fn counts(book: &BookWords, count: u64) -> u64 {
     sum((0..count).map(|_| book::calls_made(&book.words)))
 }

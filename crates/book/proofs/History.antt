@@ -8,6 +8,6 @@ pub mod Lift
 pub mod Higher
 pub mod Openings
 pub mod OneCount
-pub mod Life
 pub mod Private
+pub mod Life
 pub mod Retired

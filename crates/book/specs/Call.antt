@@ -34,7 +34,7 @@ pub data Call : Type 0 where
   advance : (day budget : ℕ) → Call
   -- "Statement (participant)"
   statement : (participant : ℕ) → Call
-  -- the question for the count of calls made
+  -- the question for the sum of the counts of calls made
   calls_made : Call
   -- paper 02, Ask 1: "A month in one file", by its bytes
   batch : (file : List ℕ) → Call

@@ -4,8 +4,8 @@ pub mod Account
 pub mod OneCount
 pub mod Reading
 pub mod Kept
-pub mod Life
 pub mod Private
+pub mod Life
 pub mod Reached
 pub mod InWords
 pub mod Opened

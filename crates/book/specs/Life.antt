@@ -17,6 +17,7 @@ use Rattle.book.specs.Reading.Calls.{firm_in, made_in}
 use Rattle.book.specs.Reading.Charges.{charged_in, accrued_in}
 use Rattle.book.specs.Reading.Decisions.{calls_below, decision, events_of}
 use Rattle.book.specs.Kept.{book_in}
+use Rattle.book.specs.Private.{AgreeOn, TellsAlike}
 
 -- What the book answered to each call of a list, the newest first.
 unfoldable pub answers_of : ℕ → List MadeCall → List Answer
@@ -113,6 +114,8 @@ pub record Life (s : ℕ) (calls : List MadeCall) : Type 0 where
   -- paper 02, Ask 6: the sum of the counts is the number of calls made to all, and "the old question" answers what it did when a book had one count
   pub made : sum_of_counts (run s calls) ≡ calls_below 64 (events_of s calls)
   pub as_before : (rule : Rule) → answer rule (run s calls) calls_made ≡ counted (count_before s calls)
+  -- .. and two lists that agree on a participant's own calls and the days opened tell it the same, whatever the others did
+  pub private : (p : ℕ) (other : List MadeCall) → AgreeOn s p calls other → TellsAlike s p calls other
   -- today
   pub today : (run s calls).today.0 ≡ today_of s (events_of s calls)
 

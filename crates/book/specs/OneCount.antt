@@ -1,5 +1,6 @@
 -- The one count of calls made that a book had before paper 02's Ask 6: "The old question is answered with the sum of the counts." What that question
--- answered before, by every list of calls.
+-- answered before, after every list of calls. No answer but its own looked at the one count and no file held it, so which calls are accepted, and the
+-- files that they find, are by today's account what they were.
 -- Assumes nothing.
 use Rattle.std.specs.Prelude.{ℕ, zero, suc, ◌+◌, cond, List, [], ◌∷◌, length}
 use Rattle.file.specs.declared.File.{File}

@@ -1,4 +1,4 @@
-// The guarantee book, in lent words: 64 files, today, and the count of calls made (paper 01, 'The calls'). Crate `layout` says which words.
+// The guarantee book, in lent words: 64 files and today (paper 01, 'The calls'). Crate `layout` says which words.
 // Kept: the calls but `fresh` take words and ask WellFormed: the C interface lends them anew for each; a view holds only between writes.
 #![tactic(auto)]
 

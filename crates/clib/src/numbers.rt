@@ -160,7 +160,7 @@ impl From<Result<Statement, Fault<Refusal>>> for GuaranteeStatement {
     }
 }
 
-// The numbers of the count of calls made.
+// The numbers of the count of calls made in all.
 impl From<Result<u64, Fault<Refusal>>> for GuaranteeCount {
     ghost from_gives = { λ answer numbers. numbers ≡ count_numbers (lent_says counted refusal_says answer) };
 

@@ -54,7 +54,8 @@ use Rattle.book.specs.Reading.Decisions.{part_decision, with_parts}
 use Rattle.book.specs.Reading.Events.{Own, act, mine, today_of, with_days, admitted_in, leaving_in, role_in}
 use Rattle.book.specs.Reading.Holdings.{last_lodged, released_since, left_at, position_in, lodged_where, released_where, cover_in, deposited_in}
 use Rattle.book.specs.Reading.Months.{total_in, years_totals, annual_in, totals_before, deletion_in, next_in}
-use Rattle.book.proofs.History.Private.{tells-alike}
+use Rattle.book.proofs.History.Private.{tells-alike, alone}
+use Rattle.book.specs.Private.{concerning}
 use Rattle.figures.specs.History.{newest_first, in_turn, decides, answers, decides_behind}
 use Rattle.figures.specs.Counts.{beside, four_times, counting, Counts}
 
@@ -113,7 +114,7 @@ unfolding decide larger sum_of leap length_in length_of first_day holding month_
     lodged_where released_where cover_in deposited_in total_in years_totals annual_in totals_before deletion_in next_in least number_at signed_of
     month_in count_in offset_at length_at end_at begins_at participant_at rows_at figures_behind figures_at too_short misplaced first_misplaced
     not_following is_before wrong_length wrong_part first_wrong refused_if form_of first_refused batch_says after_parts part_answer part_decision
-    with_parts newest_first decides decides_behind answers
+    with_parts concerning newest_first decides decides_behind answers
 counts =
     record {
       shown = λ f t. refl;
@@ -186,11 +187,14 @@ counts =
       before-three = refl;
       before-batch = refl;
       own-statement = refl;
+      book-own-statement = refl;
       other-statement = refl;
       their-sum = refl;
       agree = refl;
       told-alike = tells-alike 60 0 (in_turn [] (beside [])) (in_turn [] (beside four_times)) (omega arith) refl;
       always-alike = tells-alike;
+      own-calls = refl;
+      told-alone = alone;
       four-and-four = refl;
       below-fewest = λ (s : Sound 10 (counting 1)). absurd (omega (arith, s.counted));
       fewest = within-bounds 10 2 (omega arith) (omega arith) (omega arith);

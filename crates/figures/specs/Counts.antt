@@ -20,7 +20,7 @@ use Rattle.book.specs.Call.{Act, admit, lodge, release, settle, annual_run, Call
 use Rattle.book.specs.Rule.{MadeCall}
 use Rattle.book.specs.Account.{file_at, run}
 use Rattle.book.specs.OneCount.{count_before}
-use Rattle.book.specs.Private.{AgreeOn, TellsAlike}
+use Rattle.book.specs.Private.{AgreeOn, TellsAlike, concerning, NoBatch}
 use Rattle.book.specs.Reading.Events.{Own, day_opened, act}
 use Rattle.book.specs.Reading.Calls.{made_in}
 use Rattle.figures.specs.History.{in_turn, decides, answers, decides_behind}
@@ -178,6 +178,8 @@ pub record Counts : Type 0 where
   -- while participant 1 is called never, once and four times: its statement stays, and participant 1's doesn't
   pub own-statement : map (λ (others : List Call). decides 60 (beside others) (statement 0)) never_once_four
       ≡ stated 3000000 0 3000000 1 100000000 2 ∷ stated 3000000 0 3000000 1 100000000 2 ∷ stated 3000000 0 3000000 1 100000000 2 ∷ []
+  pub book-own-statement : map (λ (others : List Call). answers 60 (beside others) (statement 0)) never_once_four
+      ≡ stated 3000000 0 3000000 1 100000000 2 ∷ stated 3000000 0 3000000 1 100000000 2 ∷ stated 3000000 0 3000000 1 100000000 2 ∷ []
   pub other-statement : map (λ (others : List Call). decides 60 (beside others) (statement 1)) never_once_four
       ≡ stated 0 0 0 0 0 0 ∷ stated 100 0 100 1 100000000 1 ∷ stated 400 0 400 1 100000000 4 ∷ []
   pub their-sum : map (λ (others : List Call). decides 60 (beside others) calls_made) never_once_four ≡ counted 2 ∷ counted 3 ∷ counted 6 ∷ []
@@ -185,6 +187,9 @@ pub record Counts : Type 0 where
   pub agree : AgreeOn 60 0 (in_turn [] (beside [])) (in_turn [] (beside four_times))
   pub told-alike : TellsAlike 60 0 (in_turn [] (beside [])) (in_turn [] (beside four_times))
   pub always-alike : (s p : ℕ) (one other : List MadeCall) → s ≤ 29219 → AgreeOn s p one other → TellsAlike s p one other
+  -- .. and where no batch is among them its own calls and the advances alone tell it the same
+  pub own-calls : concerning 0 (in_turn [] (beside four_times)) ≡ in_turn [] (admits 0 ∷ settles 0 3000000 ∷ to_day 71 ∷ [])
+  pub told-alone : (s p : ℕ) (calls : List MadeCall) → s ≤ 29219 → NoBatch calls → TellsAlike s p calls (concerning p calls)
   -- ---- Its bounds: the open calls, and those that ended, at most four on each day that was opened. On day 71 four ended and four are open, and a
   -- fifth adds none; of a file with two open calls on day 10, 2 to 4 × 10 + 2, and on day 0, which no day opened before, 2
   pub four-and-four :

@@ -183,7 +183,8 @@ settled-made f t m figures s =
 pub settled-sound : (f : File) (t m : ℕ) (figures : List ℤ) → Sound t f → Sound t (settled_file f t m figures)
 unfolding settled_file open_calls
 settled-sound f t m figures s =
-    either-sound t (accepted (settle_answer f t m figures)) (with_totals f (with_total f.totals m (sum_of figures)) (calls_settled f t m figures) (cond (settlement_calls f t m figures) 1 0)) f
+    either-sound t (accepted (settle_answer f t m figures))
+    (with_totals f (with_total f.totals m (sum_of figures)) (calls_settled f t m figures) (cond (settlement_calls f t m figures) 1 0)) f
     (λ a. record {
       day = s.day;
       slots = s.slots;

@@ -26,7 +26,7 @@ pub record SoundCall (c : OpenCall) : Type 0 where
   pub last : c.last.0 ≤ 29229
 
 -- A file's bounds on day t; the places behind the open calls hold zeros. The calls made are those that are open and those that ended, at most four on
--- each day that was opened.
+-- each day that was opened; days are counted from day 0, since a file doesn't tell the fresh book's day.
 pub record Sound (t : ℕ) (f : File) : Type 0 where
   pub day : t ≤ 29219
   pub slots : All (λ (s : Slot). SoundPosition s.position) f.slots

@@ -1,4 +1,5 @@
--- What is asked of the words of a book, one after another: of each part of a file, of a file, and of all the files.
+-- What is asked of the words of a book, one after another: of each part of a file, of a file, and of all the files; and which words a book of the
+-- layout before was saved in.
 -- Assumes nothing.
 use Rattle.std.specs.Prelude.{ℕ, ◌+◌, ◌*◌, ◌≤◌, ◌≡◌, Bool, false, List, length, get_or}
 use Rattle.file.specs.declared.OpenCall.{OpenCall}

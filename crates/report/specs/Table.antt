@@ -43,8 +43,8 @@ heading =
 unfoldable pub role_text : ℕ → List ℕ
 role_text r = get_or role_names r []
 
--- The line of participant p with a role, whose statement is given (its count of calls made has no column): amounts in euros with their cents, the charge in euros with its mills,
--- of which a cent has 1,000. A participant that has no statement has no line.
+-- The line of participant p with a role, whose statement is given: amounts in euros with their cents, the charge in euros with its mills, of which a
+-- cent has 1,000. The count of calls made has no column. A participant that has no statement has no line.
 unfoldable pub line_of : ℕ → ℕ → Answer → List ℕ
 line_of p r (stated f c s d a m) =
     table_line (decimal p ∷ role_text r ∷ fixed 2 f ∷ fixed 2 c ∷ fixed 2 s ∷ decimal d ∷ fixed 5 a ∷ [])

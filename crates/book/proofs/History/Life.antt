@@ -21,6 +21,7 @@ use Rattle.book.proofs.History.Events.{LawfulAll}
 use Rattle.book.proofs.History.LawfulCalls.{lawful-events}
 use Rattle.book.proofs.History.Lift.{file-at, part, counts-are, run_is, decided}
 use Rattle.book.proofs.History.OneCount.{answers-before}
+use Rattle.book.proofs.History.Private.{tells-alike}
 use Rattle.book.proofs.History.Openings.{each-opening}
 use Rattle.book.proofs.History.Higher.{call-higher, same-events}
 
@@ -102,6 +103,7 @@ life s calls h =
       none_higher = each-call s calls h;
       made = made-is s calls h;
       as_before = answers-before s calls h;
+      private = λ p other agree. tells-alike s p calls other h agree;
       today = today-is s calls h;
     }
 

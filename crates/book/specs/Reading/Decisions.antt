@@ -88,7 +88,7 @@ unfoldable pub own_statement : ℕ → List Own → Answer
 own_statement t own =
     stated (firm_in t own) (cover_in t own) (firm_in t own - cover_in t own) (charged_in own) (accrued_in own) (made_in own)
 
--- "one count of calls made, admissions' calls included", and since paper 02, Ask 4 deletions': those of participants 0 to n − 1.
+-- Paper 02, Ask 6: "The old question is answered with the sum of the counts": those of participants 0 to n − 1, their calls made counted anew.
 unfoldable pub calls_below : ℕ → List Event → ℕ
 calls_below zero events = 0
 calls_below (suc n) events = made_in (mine n events) + calls_below n events
