@@ -1122,8 +1122,8 @@ SHARED = [
     # Calls counted by participant
     ("an admission's call that is not counted",
      [(ADMIT, 'made = length (calls_of_admission t role);', 'made = 0;'),
-      (READ_CALLS, 'made_in own = length (calls_in own)',
-       'made_in own = Rattle.std.specs.Prelude.◌-◌ (length (calls_in own)) (cond (ltb 0 (minimum_of (Rattle.book.specs.Reading.Events.role_in own))) 1 0)')],
+      (DECISIONS, '(accrued_in own) (made_in own)',
+       '(accrued_in own) (made_in own - cond (ltb 0 (Rattle.manual.specs.Minimum.minimum_of (Rattle.book.specs.Reading.Events.role_in own))) 1 0)')],
      'Counts.role-0'),
     ('a count of the open calls alone',
      [(STATEMENT, 'made = f.made;', 'made = f.count;'), (DECISIONS, '(accrued_in own) (made_in own)', '(accrued_in own) (length (open_in t own))')],
