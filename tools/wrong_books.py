@@ -74,7 +74,7 @@ MUTANTS = [
      (['on 0 (admit 0)'], 10, 1)),
     ('an advance that opens and charges only its first day',
      [(ACCOUNT, 'open_days (suc n) b = open_days n (open_day b)',
-       'open_days (suc n) b = record { files = (open_day b).files; today = record { 0 = b.today.0 + suc n } }')],
+       'open_days (suc n) b = record { files = (open_day b).files; today = record { 0 = Rattle.std.specs.Prelude.◌+◌ b.today.0 (suc n) } }')],
      0, ['on 0 (admit 0)', 'advance 10 100', 'advance 12 100', 'statement 0'],
      [7, 2000000, 0, 2000000, 1, 100000000, 1], [7, 2000000, 0, 2000000, 2, 200000000, 1],
      (['on 0 (admit 0)', 'advance 10 100'], 1, 2)),
