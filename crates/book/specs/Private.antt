@@ -20,7 +20,7 @@ pub record TellsAlike (s p : ℕ) (one other : List MadeCall) : Type 0 where
   -- the answer to each call on its file
   pub calls : (rule : Rule) (a : Act) → answer rule (run s one) (on p a) ≡ answer rule (run s other) (on p a)
 
--- The calls of a list, accepted or refused, that are on participant p's file or open days.
+-- Whether a call is on participant p's file, or an advance ..
 abbrev pub concerns : ℕ → Call → Bool
 concerns p (on q a) = eqb q p
 concerns p (advance day budget) = true
@@ -28,11 +28,12 @@ concerns p (statement q) = false
 concerns p calls_made = false
 concerns p (batch file) = false
 
+-- .. and those of a list, accepted or refused, under the rules that they are made under.
 unfoldable pub concerning : ℕ → List MadeCall → List MadeCall
 concerning p [] = []
 concerning p (e ∷ before) = cond (concerns p e.call) (e ∷ concerning p before) (concerning p before)
 
--- There is no batch among them, which is taken or refused with the parts of others.
+-- Whether a call is a batch, which is accepted or refused with the parts of others ..
 abbrev pub is_batch : Call → Bool
 is_batch (on q a) = false
 is_batch (advance day budget) = false
@@ -40,6 +41,7 @@ is_batch (statement q) = false
 is_batch calls_made = false
 is_batch (batch file) = true
 
+-- .. and a list without one.
 abbrev pub NoBatch : List MadeCall → Type 0
 NoBatch [] = Unit {0}
 NoBatch (e ∷ before) = (is_batch e.call ≡ false) × NoBatch before

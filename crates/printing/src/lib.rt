@@ -18,8 +18,8 @@ pub use rows::parted;
 
 // An answer to a line: E is the sum of a settlement's figures, ASKED what a call asks for and LAST_FREE_DAY its last free day; the amount
 // and the months of an annual run; the days opened; a statement's firm amount, cover, shortfall, days charged, accrued charge and count of calls
-// made; the calls made in all; a special guarantee in cents; how many settlements a batch made, or its refusal and the index of the pair; a deletion's
-// amount, and whether it became a call; the line that is no call, and why. Nothing is said to an empty line.
+// made; the calls made in all; a special guarantee in cents; how many settlements a batch made, or its refusal and the index of the pair; a
+// deletion's amount, and whether it became a call; the line that is no call, and why. Nothing is said to an empty line.
 // Kept: `Nothing` and `Error` are cases: `shown` and `answer_line` speak of any, and an Option of a Result would ask two more matches.
 #[derive(Clone, Copy)]
 pub enum Answer {

@@ -6,7 +6,6 @@ use mathlib.Core.Bool.{true, false}
 use mathlib.Core.List.{List, [], ◌∷◌}
 use borrow.Author.Tests.{lt-ltb, le-ltb}
 use lib.Dec.{ltb}
-use lib.ListN.{set}
 use Rattle.laws.specs.Cases.{split}
 use Rattle.file.specs.declared.File.{File}
 use Rattle.file.specs.declared.Statement.{Statement}
@@ -28,10 +27,6 @@ use Rattle.book.proofs.History.Life.{given}
 refusal : (b : Book) (c : Call) (n : ℕ) → refused n ≡ answer new_rule b c → Given b c (refused n) b
 refusal b c n e = given b c (refused n) b e (refused-left b c n e)
 
--- A book with another file for a participant.
-abbrev pub stored_in : Book → ℕ → File → Book
-stored_in b p g = record { files = set b.files p g; today = b.today }
-
 -- The calls on a participant's file.
 module _ (b : Book) (p : ℕ) (low : p ≤ 63) where
   abbrev f : File
@@ -45,10 +40,9 @@ module _ (b : Book) (p : ℕ) (low : p ≤ 63) where
 
   -- What the call on the file answered, and the book with the file that it left.
   pub left-given : (a : Act) (x : Answer) (g : File) → admits_retired a ≡ false
-      → x ≡ file_answer (file_at b p) b.today.0 a → g ≡ file_left (file_at b p) b.today.0 a → Given b (on p a) x (stored_in b p g)
-  unfolding with_file
+      → x ≡ file_answer (file_at b p) b.today.0 a → g ≡ file_left (file_at b p) b.today.0 a → Given b (on p a) x (with_file b p g)
   left-given a x g other answered file =
-      given b (on p a) x (stored_in b p g) (known-answer b p a x numbered other answered)
+      given b (on p a) x (with_file b p g) (known-answer b p a x numbered other answered)
       (ap (with_file b p) file ∙ left-stored b p a numbered other)
 
   -- Admissions, by the causes that both rules have.
@@ -97,8 +91,7 @@ accepted-done b p role e =
 
 -- An accepted admission, under either rule: the file of an admission is put back.
 pub left-admit : (rule : Rule) (b : Book) (p role : ℕ) (g : File) → accepted (answer rule b (on p (admit role))) ≡ true
-    → g ≡ admitted_file b.today.0 role → stored_in b p g ≡ step rule b (on p (admit role))
-unfolding with_file
+    → g ≡ admitted_file b.today.0 role → with_file b p g ≡ step rule b (on p (admit role))
 left-admit rule b p role g e file = ap (with_file b p) file ∙ admitted-left rule b p role e
 
 -- A statement that is refused.

@@ -87,24 +87,9 @@ unfolding if_admitted decide
 is-admitted f x y e h = h ∙ sym (decide-false (record { number = 2; holds = not f.admitted }) [] x (ap not e))
 
 -- Storing a participant's own file changes nothing.
-pub stored_same : (b : Book) (p : ℕ) → with_file b p (file_at b p) ≡ b
+stored_same : (b : Book) (p : ℕ) → with_file b p (file_at b p) ≡ b
 unfolding with_file file_at
 stored_same b p = λ i. record { files = set-get_or b.files p no_file i; today = b.today }
-
--- The book with the file that a call leaves, f: where the call was refused it is as before.
-pub stored : (b : Book) (p : ℕ) (a : Act) (f : File)
-    → (accepted (answer new_rule b (on p a)) ≡ true → f ≡ file_after (file_at b p) b.today.0 a)
-    → (accepted (answer new_rule b (on p a)) ≡ false → f ≡ file_at b p)
-    → with_file b p f ≡ step new_rule b (on p a)
-unfolding step applied
-stored b p a f if-so if-not =
-    split (accepted (answer new_rule b (on p a)))
-    (λ e.
-    ap (with_file b p) (if-so e) ∙ sym (cond-true (accepted (answer new_rule b (on p a))) (applied b (on p a)) b e))
-    (λ e.
-    ap (with_file b p) (if-not e)
-    ∙ stored_same b p
-    ∙ sym (cond-false (accepted (answer new_rule b (on p a))) (applied b (on p a)) b e))
 
 -- An accepted admission.
 pub admitted-left : (rule : Rule) (b : Book) (p role : ℕ) → accepted (answer rule b (on p (admit role))) ≡ true
@@ -112,14 +97,19 @@ pub admitted-left : (rule : Rule) (b : Book) (p role : ℕ) → accepted (answer
 unfolding step applied file_after
 admitted-left rule b p role e = sym (cond-true (accepted (answer rule b (on p (admit role)))) (applied b (on p (admit role))) b e)
 
--- The book with the file that a call leaves.
+-- The book with the file that a call leaves: where the call was refused it is as before.
 pub left-stored : (b : Book) (p : ℕ) (a : Act) → ltb 63 p ≡ false → admits_retired a ≡ false
     → with_file b p (file_left (file_at b p) b.today.0 a) ≡ step new_rule b (on p a)
-unfolding file_left
+unfolding file_left step applied
 left-stored b p a numbered other =
     let f = file_at b p in
-    let t = b.today.0 in
-    let same = ap accepted (known-answer b p a (file_answer f t a) numbered other refl) in
-    stored b p a (file_left f t a)
-    (λ e. cond-true (accepted (file_answer f t a)) (file_after f t a) f (same ∙ e))
-    (λ e. cond-false (accepted (file_answer f t a)) (file_after f t a) f (same ∙ e))
+    let x = file_answer f b.today.0 a in
+    let after = file_after f b.today.0 a in
+    let same : accepted x ≡ accepted (answer new_rule b (on p a)) = ap accepted (known-answer b p a x numbered other refl) in
+    split (accepted x)
+    (λ e.
+    ap (with_file b p) (cond-true (accepted x) after f e) ∙ sym (cond-true (accepted (answer new_rule b (on p a))) (with_file b p after) b (sym same ∙ e)))
+    (λ e.
+    ap (with_file b p) (cond-false (accepted x) after f e)
+    ∙ stored_same b p
+    ∙ sym (cond-false (accepted (answer new_rule b (on p a))) (with_file b p after) b (sym same ∙ e)))

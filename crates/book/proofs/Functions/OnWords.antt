@@ -37,13 +37,13 @@ use Rattle.layout.proofs.BookLaws.{canonical-fresh}
 use Rattle.layout.proofs.PartLaws.{next-put}
 use Rattle.book.specs.Call.{Act, admit, lodge, release, settle, annual_run, delete, Call, on, statement, calls_made}
 use Rattle.book.specs.Rule.{Rule, old_rule, new_rule}
-use Rattle.book.specs.Account.{file_at, fresh_book, sum_of_counts, if_numbered, if_admitted, admits_retired, file_answer, file_after, answer, step, applied}
+use Rattle.book.specs.Account.{file_at, fresh_book, with_file, sum_of_counts, if_numbered, if_admitted, admits_retired, file_answer, file_after, answer, step, applied}
 use Rattle.book.specs.Left.{file_left}
 use Rattle.book.specs.Reached.{Given, GivenFirst, Begun}
 use Rattle.book.specs.InWords.{GivenWords, GivenFirstWords, BegunWords}
 use Rattle.book.specs.Admissions.{PutsAdmission}
 use Rattle.book.specs.View.{RefusesAll}
-use Rattle.book.proofs.Functions.Answers.{stored_in, left-given, left-admit}
+use Rattle.book.proofs.Functions.Answers.{left-given, left-admit}
 use Rattle.book.proofs.Functions.Answers.{first-already, first-no-role, first_done, accepted-done}
 use Rattle.book.proofs.Functions.Answers.{refused-statement, gave-statement, gave_count}
 use Rattle.book.proofs.Functions.Begins.{begun-refused, begun-done}
@@ -161,7 +161,8 @@ module _ (l : List ℕ) (p : ℕ) (w : WellFormed l) (low : p ≤ 63) where
 
   module _ (m : List ℕ) (g : File) (put : Put l (place p) g m) where
     -- the file is put back
-    one : (a : Act) (x : Answer) → Given (book_of_words l) (on p a) x (stored_in (book_of_words l) p g) → GivenWords l (on p a) x m
+    one : (a : Act) (x : Answer) → Given (book_of_words l) (on p a) x (with_file (book_of_words l) p g) → GivenWords l (on p a) x m
+    unfolding with_file
     one a x h =
         in_words l m (on p a) x w (subst (Given (book_of_words l) (on p a) x) (sym (put-book l m p g low put)) h)
         (put-length l m p g low put)
@@ -318,10 +319,10 @@ module _ (l : List ℕ) (p role : ℕ) (e : done ≡ answer old_rule (book_of_wo
 module _ (l m : List ℕ) (p role : ℕ) (w : WellFormed l) (low : p ≤ 63) (g : File) (put : Put l (place p) g m) where
   pub put-admission : (day : ℕ) → day ≡ today_in l → accepted (answer old_rule (book_of_words l) (on p (admit role))) ≡ true
       → g ≡ admitted_file day role → PutsAdmission l p role m
-  unfolding book_of_words
+  unfolding book_of_words with_file
   put-admission day q good b =
       let book = book_of_words l in
-      let stored : book_of_words m ≡ stored_in book p g = put-book l m p g low put in
+      let stored : book_of_words m ≡ with_file book p g = put-book l m p g low put in
       let file : g ≡ admitted_file (today_in l) role = b ∙ ap (λ (d : ℕ). admitted_file d role) q in
       let long = put-length l m p g low put in
       let is = accepted-done book p role good in

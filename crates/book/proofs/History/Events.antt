@@ -4,16 +4,16 @@ use Prim.Native.Nat.{ℕ, zero, suc, ◌+◌, ◌-◌, ◌≤◌, min}
 use native.Mathlib.Omega.{arith}
 use mathlib.Core.Path.{◌≡◌, refl, sym, ap, subst, ◌∙◌}
 use mathlib.Core.Bool.{true, ◌||◌}
-use mathlib.Core.List.{List, [], ◌∷◌}
+use mathlib.Core.List.{List, [], ◌∷◌, ◌++◌}
 use borrow.Author.Tests.{eqb-true, eqb-false}
 use lib.Dec.{eqb, ltb}
 use Rattle.laws.specs.Cases.{by-test}
-use Rattle.file.specs.Answer.{days_opened, accepted}
+use Rattle.file.specs.Answer.{refused, days_opened, decide, accepted}
 use Rattle.book.specs.Call.{Act, advance}
 use Rattle.book.specs.Rule.{Rule}
 use Rattle.book.specs.Reading.Events as E
 use Rattle.book.specs.Reading.Events.{Event, did, Own, act, mine, today_of, with_days}
-use Rattle.book.specs.Reading.Decisions.{cause, own_causes, decision}
+use Rattle.book.specs.Reading.Decisions.{cause, own_causes, own_answer, retirement, decision_on, decision}
 use Rattle.book.proofs.Participant.Lawful.{today_in, NoneHolds, Lawful}
 use Rattle.file.specs.DecideLaws.{none-holds}
 use Rattle.book.proofs.History.Advances.{days-fit}
@@ -42,6 +42,17 @@ today-mine s p [] = refl
 today-mine s p (E.opened d ∷ events) = refl
 today-mine s p (did d q a ∷ events) =
     mine-did (λ k own. today_in s own ≡ today_of s events) d q p a events (today-mine s q events) (λ ne. today-mine s p events)
+
+-- Two histories with the same part of a participant have the same today, and what is decided of its calls is the same.
+pub same-today : (s p : ℕ) (one other : List Event) → mine p one ≡ mine p other → today_of s one ≡ today_of s other
+same-today s p one other agree = sym (today-mine s p one) ∙ ap (today_in s) agree ∙ today-mine s p other
+
+pub decided-alike : (rule : Rule) (s p : ℕ) (a : Act) (one other : List Event) → mine p one ≡ mine p other
+    → decision_on rule s one p a ≡ decision_on rule s other p a
+decided-alike rule s p a one other agree =
+    let today = same-today s p one other agree in
+    λ i.
+    decide refused (cause 1 (ltb 63 p) ∷ (own_causes (today i) (agree i) a ++ retirement rule a)) (own_answer (today i) (agree i) a)
 
 -- The day after n more were opened.
 pub today-days : (s n : ℕ) (events : List Event) → today_of s (with_days n (today_of s events) events) ≡ today_of s events + n

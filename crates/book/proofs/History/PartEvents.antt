@@ -4,19 +4,19 @@ use Prim.Native.Nat.{ℕ, zero, suc, ◌≤◌, ◌<◌}
 use native.Mathlib.Omega.{arith}
 use mathlib.Core.Path.{◌≡◌, refl, sym, ap, subst, ◌∙◌}
 use mathlib.Core.Bool.{true, false}
-use mathlib.Core.List.{List, [], ◌∷◌, ◌++◌}
+use mathlib.Core.List.{List, [], ◌∷◌}
 use lib.Dec.{ltb}
 use Rattle.batch.specs.Batch.{count_in, participant_at}
 use Rattle.batch.specs.FormLaws.{Whole}
-use Rattle.file.specs.Answer.{refused, decide, accepted}
+use Rattle.file.specs.Answer.{accepted}
 use Rattle.book.specs.Call.{Act, part_act}
 use Rattle.book.specs.Rule.{Rule, new_rule}
 use Rattle.book.specs.Reading.Events.{Event, did, mine, today_of}
-use Rattle.book.specs.Reading.Decisions.{cause, own_causes, own_answer, retirement, decision_on, part_decision, with_parts}
+use Rattle.book.specs.Reading.Decisions.{cause, own_causes, own_answer, decision_on, part_decision, with_parts}
 use Rattle.book.proofs.Participant.Lawful.{NoneHolds}
 use Rattle.book.proofs.Participant.Decide.{none_before}
 use Rattle.book.proofs.History.Parts.{NotAmong, not-among}
-use Rattle.book.proofs.History.Events.{mine-other, LawfulAll, lawful-did}
+use Rattle.book.proofs.History.Events.{mine-other, LawfulAll, lawful-did, decided-alike}
 
 -- A batch opens no day.
 pub today-parts : (s t : ℕ) (file : List ℕ) (k : ℕ) (events : List Event) → today_of s (with_parts t file k events) ≡ today_of s events
@@ -36,10 +36,7 @@ mine-parts t file (suc k) p events other =
 pub decided-parts : (rule : Rule) (s t : ℕ) (file : List ℕ) (k p : ℕ) (a : Act) (events : List Event) → NotAmong file k p
     → decision_on rule s (with_parts t file k events) p a ≡ decision_on rule s events p a
 decided-parts rule s t file k p a events other =
-    λ i.
-    decide refused
-    (cause 1 (ltb 63 p) ∷ (own_causes (today-parts s t file k events i) (mine-parts t file k p events other i) a ++ retirement rule a))
-    (own_answer (today-parts s t file k events i) (mine-parts t file k p events other i) a)
+    decided-alike rule s p a (with_parts t file k events) events (mine-parts t file k p events other)
 
 -- Each settlement of an accepted batch has no cause of refusal behind those before it.
 module _ (s : ℕ) (events : List Event) (file : List ℕ) where

@@ -3,7 +3,7 @@
 use Prim.Native.Nat.{ℕ, zero, suc, ◌+◌, ◌-◌, ◌≤◌, min}
 use mathlib.Core.Path.{◌≡◌, refl, sym, ap, ◌∙◌}
 use mathlib.Core.Bool.{Bool, true, false, cond, not, ◌||◌}
-use mathlib.Core.List.{List, [], ◌∷◌, ◌++◌}
+use mathlib.Core.List.{List, [], ◌∷◌}
 use borrow.Author.Tests.{eqb-true, eqb-false}
 use lib.Dec.{ltb, eqb}
 use Rattle.laws.specs.Cases.{split, clash}
@@ -11,20 +11,18 @@ use Rattle.file.specs.Answer.{refused, days_opened, accepted, decide}
 use Rattle.book.specs.Call.{Act, Call, on, advance, statement, calls_made, batch}
 use Rattle.book.specs.Rule.{Rule, MadeCall}
 use Rattle.book.specs.Reading.Events.{Event, did, Own, day_opened, act, mine, today_of, with_days, admitted_in}
-use Rattle.book.specs.Reading.Decisions.{cause, own_causes, own_answer, own_statement, retirement, decision, with_call, events_of}
+use Rattle.book.specs.Reading.Decisions.{cause, own_statement, decision, with_call, events_of}
 use Rattle.book.specs.Private.{AgreeOn, TellsAlike, concerns, concerning, is_batch, NoBatch}
-use Rattle.book.proofs.Participant.Lawful.{today_in}
-use Rattle.book.proofs.History.Events.{mine-named, mine-other, today-mine}
+use Rattle.book.proofs.History.Events.{mine-named, mine-other, same-today, decided-alike}
 use Rattle.book.proofs.History.Lift.{decided}
 
 -- ---- what is decided of a participant's own file
 
 module _ (s p : ℕ) (one other : List Event) (agree : mine p one ≡ mine p other) where
-  -- today is the same
+  -- today is the same, and so are the decisions
   same-day : today_of s one ≡ today_of s other
-  same-day = sym (today-mine s p one) ∙ ap (today_in s) agree ∙ today-mine s p other
+  same-day = same-today s p one other agree
 
-  -- so are the decisions
   same-statement : (rule : Rule) → decision rule s one (statement p) ≡ decision rule s other (statement p)
   unfolding decision
   same-statement rule =
@@ -32,8 +30,7 @@ module _ (s p : ℕ) (one other : List Event) (agree : mine p one ≡ mine p oth
 
   same-call : (rule : Rule) (a : Act) → decision rule s one (on p a) ≡ decision rule s other (on p a)
   unfolding decision
-  same-call rule a =
-      λ i. decide refused (cause 1 (ltb 63 p) ∷ (own_causes (same-day i) (agree i) a ++ retirement rule a)) (own_answer (same-day i) (agree i) a)
+  same-call rule a = decided-alike rule s p a one other agree
 
   same-advance : (rule : Rule) (day budget : ℕ) → decision rule s one (advance day budget) ≡ decision rule s other (advance day budget)
   unfolding decision
