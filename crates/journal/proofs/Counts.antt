@@ -15,10 +15,10 @@ use Rattle.words.specs.Bytes.{control, some, uncommented}
 use Rattle.words.specs.Words.{words, place_in}
 use Rattle.words.specs.Hex.{bytes_of_hex}
 use Rattle.journal.specs.Names.{call_names}
-use Rattle.journal.specs.Fields.{Left, more, fault, field_of, lodged_field, closed, figures_of, list_of, on_lists, lists_of, file_of, checked_file, ended}
+use Rattle.journal.specs.Fields.{Left, more, fault, field_of, lodged_field, budget_of, closed, figures_of, list_of, on_lists, lists_of, file_of, checked_file, ended}
 use Rattle.journal.specs.Grammar.{Parsed, plain, are_marks, lengths_of, length_list, total, day_numbered, month_numbered}
 use Rattle.journal.specs.Grammar.{fresh_of, admit_of, cash_of, letter_of, lodge_of, release_of, settle_of}
-use Rattle.journal.specs.Grammar.{annual_of, advance_of, statement_of, delete_of, special_of, filed, batch_of, calls_of, named_call, words_of, parsed}
+use Rattle.journal.specs.Grammar.{annual_of, advance_of, statement_of, delete_of, file_asked_of, releasable_of, special_of, filed, batch_of, calls_of, named_call, words_of, parsed}
 use Rattle.journal.specs.declared.Reason.{Reason}
 use Rattle.journal.specs.declared.Request.{Request}
 use Rattle.journal.specs.declared.fields.Kind.{Kind}
@@ -43,6 +43,9 @@ count_of (Request.Batch n) = n
 count_of Request.RoleRetired = 0
 count_of (Request.Delete p) = 0
 count_of Request.Report = 0
+count_of (Request.File p) = 0
+count_of (Request.Releasable p q) = 0
+count_of Request.Today = 0
 count_of (Request.Error e) = 0
 
 -- an error says nothing of its numbers
@@ -63,6 +66,9 @@ IsCall (Request.Batch n) = Unit {0}
 IsCall Request.RoleRetired = Unit {0}
 IsCall (Request.Delete p) = Unit {0}
 IsCall Request.Report = Unit {0}
+IsCall (Request.File p) = Unit {0}
+IsCall (Request.Releasable p q) = Unit {0}
+IsCall Request.Today = Unit {0}
 IsCall (Request.Error e) = ⊥
 
 Counted : Parsed → Type 0
@@ -92,12 +98,12 @@ admit-counted l =
 
 cash-counted : (p q : ℕ) (l : Left) → Counted (plain (cash_of p q l))
 unfolding cash_of
-cash-counted p q l = let a = field_of Kind.Natural l in plain-counted a.left (Request.LodgeCash p q a.value) refl
+cash-counted p q l = let a = field_of Kind.Amount l in plain-counted a.left (Request.LodgeCash p q a.value) refl
 
 letter-counted : (p q : ℕ) (l : Left) → Counted (plain (letter_of p q l))
 unfolding letter_of
 letter-counted p q l =
-    let a = field_of Kind.Natural l in
+    let a = field_of Kind.Amount l in
     let f = field_of Kind.Day a.left in
     let t = field_of Kind.Day f.left in
     plain-counted t.left (Request.LodgeLetter p q a.value (day_numbered f.value) (day_numbered t.value)) refl
@@ -116,7 +122,7 @@ unfolding release_of
 release-counted l =
     let p = field_of Kind.Natural l in
     let q = field_of Kind.Natural p.left in
-    let a = field_of Kind.Natural q.left in
+    let a = field_of Kind.Amount q.left in
     plain-counted a.left (Request.Release p.value q.value a.value) refl
 
 annual-counted : (l : Left) → Counted (plain (annual_of l))
@@ -127,7 +133,7 @@ advance-counted : (l : Left) → Counted (plain (advance_of l))
 unfolding advance_of
 advance-counted l =
     let t = field_of Kind.Day l in
-    let b = field_of Kind.Natural t.left in
+    let b = budget_of t.left in
     plain-counted b.left (Request.Advance (day_numbered t.value) b.value) refl
 
 statement-counted : (l : Left) → Counted (plain (statement_of l))
@@ -137,6 +143,17 @@ statement-counted l = let p = field_of Kind.Natural l in plain-counted p.left (R
 delete-counted : (l : Left) → Counted (plain (delete_of l))
 unfolding delete_of
 delete-counted l = let p = field_of Kind.Natural l in plain-counted p.left (Request.Delete p.value) refl
+
+file-counted : (l : Left) → Counted (plain (file_asked_of l))
+unfolding file_asked_of
+file-counted l = let p = field_of Kind.Natural l in plain-counted p.left (Request.File p.value) refl
+
+releasable-counted : (l : Left) → Counted (plain (releasable_of l))
+unfolding releasable_of
+releasable-counted l =
+    let p = field_of Kind.Natural l in
+    let q = field_of Kind.Natural p.left in
+    plain-counted q.left (Request.Releasable p.value q.value) refl
 
 settle-counted : (room : ℕ) (l : Left) → Counted (settle_of room l)
 unfolding settle_of Counted
@@ -191,7 +208,7 @@ call-counted room k l =
     (fresh-counted l & admit-counted l & lodge-counted l & release-counted l & settle-counted room l & annual-counted l
     & advance-counted l & statement-counted l & plain-counted l Request.Calls refl & special-counted room l
     & plain-counted l Request.Report refl & batch-counted room l & plain-counted l Request.RoleRetired refl
-    & delete-counted l & tt)
+    & delete-counted l & file-counted l & releasable-counted l & plain-counted l Request.Today refl & tt)
 
 words-counted : (room : ℕ) (ws : List (List ℕ)) → Counted (words_of room ws)
 unfolding words_of Counted

@@ -9,7 +9,7 @@ use Rattle.words.specs.Words.{apart, onto, words, left, place_in, place_of}
 use Rattle.words.specs.declared.line.Words.{Words}
 use Rattle.words.specs.Numerals.{natural_of}
 use Rattle.journal.specs.Names.{role_names, role_of_word, read_as, why_not}
-use Rattle.journal.specs.Fields.{Left, more, fault, next_of, faulted, taken, field_of, closed}
+use Rattle.journal.specs.Fields.{Left, more, fault, next_of, faulted, taken, field_of, budget_of, closed}
 use Rattle.journal.specs.Steps.{IsField, said}
 use Rattle.journal.specs.declared.Reason.{Reason}
 use Rattle.journal.specs.declared.Request.{Request}
@@ -72,6 +72,20 @@ field_none k ws e q r = rw (q, r) (taken_fault (read_as k []) (why_not k) Reason
 pub field_fault : (k : Kind) (l : Left) (e : Reason) → l ≡ fault e → (field_of k l).left ≡ fault e
 unfolding field_of next_of
 field_fault k l e q = rw q (taken_fault (read_as k []) (why_not k) e)
+
+-- how many days an advance may open
+pub budget_fault : (l : Left) (e : Reason) → l ≡ fault e → (budget_of l).left ≡ fault e
+unfolding budget_of
+budget_fault l e q = rw q (field_fault Kind.Natural (fault e) e refl)
+
+pub budget_is : (ws rest : List (List ℕ)) (w : List ℕ) (v : Option ℕ) (s : Words) → ws ≡ w ∷ rest → left s ≡ rest → v ≡ natural_of w
+    → IsField (budget_of (more ws)) (ok_or v Reason.NotNumber) s
+unfolding budget_of
+budget_is ws rest w v s e f g = rw e (field_is Kind.Natural (w ∷ rest) rest w v s refl f g)
+
+pub budget_none : (ws rest : List (List ℕ)) → ws ≡ [] → rest ≡ [] → (29219 ≡ (budget_of (more ws)).value) × (more rest ≡ (budget_of (more ws)).left)
+unfolding budget_of
+budget_none ws rest e f = rw (e, f) (refl, refl)
 
 pub closed_fault : (l : Left) (r : Request) (e : Reason) → l ≡ fault e → closed l r ≡ Request.Error e
 unfolding closed

@@ -38,13 +38,13 @@ lodged-fault l e q = rw q (taken_fault (lodged_in []) Reason.NotCashOrLetter e)
 
 cash-fault : (p q : ℕ) (l : Left) (e : Reason) → l ≡ fault e → cash_of p q l ≡ Request.Error e
 unfolding cash_of
-cash-fault p q l e h = closed_fault _ _ e (field_fault Kind.Natural l e h)
+cash-fault p q l e h = closed_fault _ _ e (field_fault Kind.Amount l e h)
 
 letter-fault : (p q : ℕ) (l : Left) (e : Reason) → l ≡ fault e → letter_of p q l ≡ Request.Error e
 unfolding letter_of
 letter-fault p q l e h =
     closed_fault _ _ e
-    (field_fault Kind.Day _ e (field_fault Kind.Day _ e (field_fault Kind.Natural l e h)))
+    (field_fault Kind.Day _ e (field_fault Kind.Day _ e (field_fault Kind.Amount l e h)))
 
 either-fault : (b : Bool) (p q : ℕ) (l : Left) (e : Reason) → l ≡ fault e → cond b (cash_of p q l) (letter_of p q l) ≡ Request.Error e
 either-fault true p q l e h = cash-fault p q l e h
@@ -95,7 +95,7 @@ pub call_at : (k n : ℕ) (l : Left) (e g : List ℤ) (r : Request) → n ≡ k 
 call_at k n l e g r q h = rw q h
 
 -- no name
-pub no_call : (l : Left) (n : ℕ) (e : List ℤ) → n ≡ 14 → ParsedIs (named_call (length e) n l) e (Request.Error Reason.NoCall) e
+pub no_call : (l : Left) (n : ℕ) (e : List ℤ) → n ≡ 17 → ParsedIs (named_call (length e) n l) e (Request.Error Reason.NoCall) e
 unfolding named_call calls_of
 no_call l n e q = rw q (record { request = refl; numbers = refl })
 

@@ -1,6 +1,6 @@
 -- The lists of a line, written number by number.
 -- Assumes nothing.
-use Rattle.std.proofs.Common.{ℕ, zero, suc, ◌+◌, ◌-◌, ◌≤◌, ◌<◌, ◌≡◌, refl, sym, ap, ◌∙◌, Bool, true, false, List, [], ◌∷◌, ◌++◌, length, take, drop, get_or, set, Option, Some, None, Result, Ok, Err, IsErrAnd, ok_or, MatchResult, ℤ, arith, add-one}
+use Rattle.std.proofs.Common.{ℕ, zero, suc, ◌+◌, ◌-◌, ◌≤◌, ◌<◌, ◌≡◌, refl, sym, ap, ◌∙◌, Bool, false, List, [], ◌∷◌, ◌++◌, length, take, drop, get_or, set, Option, Some, None, Result, Ok, Err, IsErrAnd, ok_or, MatchResult, ℤ, arith, add-one}
 use mathlib.Core.Bool.{beq}
 use mathlib.Core.List.{append-nil, append_assoc}
 use borrow.Author.Tests.{eq-eqb, ne_eqb}
@@ -12,15 +12,17 @@ use Rattle.laws.specs.Tables.{beq-eq, every, every-at}
 use Rattle.words.specs.Words.{left}
 use Rattle.words.specs.declared.line.Words.{Words}
 use Rattle.words.specs.Numerals.{natural, unsigned_of, signed_of}
+use Rattle.words.specs.Euros.{figure_of}
 use Rattle.journal.specs.Names.{read_number}
 use Rattle.journal.specs.Fields.{Left, more, fault, next_of, faulted, field_of, words_left}
-use Rattle.journal.specs.Fields.{Numbers, with_number, next_numbers, Lists, on_lists, list_of, lists_of, figures_of, closed}
+use Rattle.journal.specs.Fields.{Numbers, with_number, next_numbers, Lists, on_lists, in_list, list_of, lists_of, figures_of, closed}
 use Rattle.journal.specs.Grammar.{Parsed, are_marks, lengths_of, month_numbered, settle_of, special_of}
 use Rattle.journal.specs.Steps.{IsNumber, IsFilled, ParsedIs, said}
 use Rattle.journal.specs.declared.Request.{Request}
 use Rattle.journal.specs.declared.plain.Call.{Call}
 use Rattle.journal.specs.declared.Reason.{Reason}
 use Rattle.journal.specs.declared.fields.Kind.{Kind}
+use Rattle.journal.specs.declared.lists.Listed.{Listed}
 use Rattle.journal.proofs.FieldLaws.{field_fault, closed_fault}
 use Rattle.journal.proofs.Room.{list-fits}
 
@@ -32,26 +34,27 @@ number-cases : (v : Option ℤ) (s : Words)
 number-cases (Some z) s = (refl, refl)
 number-cases None s = (refl, refl)
 
-pub number_is : (marks : Bool) (ws rest : List (List ℕ)) (w : List ℕ) (v : Option ℤ) (s : Words) → ws ≡ w ∷ rest → left s ≡ rest
-    → v ≡ read_number marks w → IsNumber marks (more ws) (ok_or v Reason.NotNumber) s
+pub number_is : (due : Listed) (ws rest : List (List ℕ)) (w : List ℕ) (v : Option ℤ) (s : Words) → ws ≡ w ∷ rest → left s ≡ rest
+    → v ≡ read_number due w → IsNumber due (more ws) (ok_or v Reason.NotNumber) s
 unfolding next_of faulted
-number_is marks ws rest w v s e f g = rw (e, ← f, ← g) (number-cases v s)
+number_is due ws rest w v s e f g = rw (e, ← f, ← g) (number-cases v s)
 
-no-mark : (marks : Bool) → read_number marks [] ≡ None
-unfolding read_number unsigned_of signed_of natural
-no-mark true = refl
-no-mark false = refl
+no-mark : (due : Listed) → read_number due [] ≡ None
+unfolding read_number unsigned_of signed_of figure_of natural
+no-mark Listed.Mark = refl
+no-mark Listed.Number = refl
+no-mark Listed.Figure = refl
 
 -- no word is left
-pub number_none : (marks : Bool) (ws : List (List ℕ)) (e : Reason) → ws ≡ [] → e ≡ Reason.TooFewWords
-    → (read_number marks (next_of (more ws)).word ≡ None) × (faulted (next_of (more ws)).left Reason.NotNumber ≡ fault e)
+pub number_none : (due : Listed) (ws : List (List ℕ)) (e : Reason) → ws ≡ [] → e ≡ Reason.TooFewWords
+    → (read_number due (next_of (more ws)).word ≡ None) × (faulted (next_of (more ws)).left Reason.NotNumber ≡ fault e)
 unfolding next_of faulted
-number_none marks ws e q r = rw (q, r) (no-mark marks, refl)
+number_none due ws e q r = rw (q, r) (no-mark due, refl)
 
-pub number_err : (marks : Bool) (l : Left) (r : Result ℤ Reason) (why : Reason) (s : Words) → IsErrAnd r (λ y. y ≡ why)
-    → (read_number marks (next_of l).word ≡ None) × (faulted (next_of l).left Reason.NotNumber ≡ fault why) → IsNumber marks l r s
-number_err marks l (Ok z) why s e f = absurd e
-number_err marks l (Err y) why s e f = (f.0, f.1 ∙ sym (ap fault e))
+pub number_err : (due : Listed) (l : Left) (r : Result ℤ Reason) (why : Reason) (s : Words) → IsErrAnd r (λ y. y ≡ why)
+    → (read_number due (next_of l).word ≡ None) × (faulted (next_of l).left Reason.NotNumber ≡ fault why) → IsNumber due l r s
+number_err due l (Ok z) why s e f = absurd e
+number_err due l (Err y) why s e f = (f.0, f.1 ∙ sym (ap fault e))
 
 -- numbers are written up to a fault that is passed on
 pub filled_err : {A : Type 0} (x : Numbers) (e : List ℤ) (r : Result A Reason) (why : Reason) (s t : Words) (f : List ℤ) → IsErrAnd r (λ y. y ≡ why)
@@ -75,9 +78,9 @@ pub record Filling (x y : Numbers) (e f : List ℤ) (i : ℕ) : Type 0 where
   pub rest : y.left ≡ x.left
   pub long : length f ≡ length e
 
-pub filling_starts : (marks : Bool) (count : ℕ) (l : Left) (e : List ℤ)
-    → Filling (next_numbers marks (length e) count l) (next_numbers marks (length e - 0) (count - 0) l) e e 0
-filling_starts marks count l e =
+pub filling_starts : (due : Listed) (count : ℕ) (l : Left) (e : List ℤ)
+    → Filling (next_numbers due (length e) count l) (next_numbers due (length e - 0) (count - 0) l) e e 0
+filling_starts due count l e =
     let z : count - 0 ≡ count = omega arith in
     let h : length e - 0 ≡ length e = omega arith in
     rw (z, h) (record { same = refl; end = omega arith; rest = refl; long = refl })
@@ -86,11 +89,11 @@ set_next : (f : List ℤ) (i : ℕ) (z : ℤ) (zs : List ℤ) → sets (set f i 
 set_next f i z zs = rw (add-one i)
 
 -- the next number and the rest
-unrolled : (marks : Bool) (room count k : ℕ) (l : Left) → k < count
-    → next_numbers marks room (count - k) l
-    ≡ with_number room (read_number marks (next_of l).word) (next_of l).left (next_numbers marks (room - 1) (count - (k + 1)) (next_of l).left)
+unrolled : (due : Listed) (room count k : ℕ) (l : Left) → k < count
+    → next_numbers due room (count - k) l
+    ≡ with_number room (read_number due (next_of l).word) (next_of l).left (next_numbers due (room - 1) (count - (k + 1)) (next_of l).left)
 unfolding next_numbers
-unrolled marks room count k l h = let e : count - k ≡ suc (count - (k + 1)) = omega arith in rw e
+unrolled due room count k l h = let e : count - k ≡ suc (count - (k + 1)) = omega arith in rw e
 
 -- a number that there is room for
 with-room : (room : ℕ) (z : ℤ) (l : Left) (rest : Numbers) → 0 < room
@@ -106,51 +109,51 @@ no_number : (room : ℕ) (l : Left) (rest : Numbers) → with_number room None l
 unfolding with_number
 no_number room l rest = refl
 
-module _ (marks : Bool) (count i : ℕ) (e f : List ℤ) (l m : Left)
-    (w : Filling (next_numbers marks (length e) count l) (next_numbers marks (length e - i) (count - i) m) e f i) where
+module _ (due : Listed) (count i : ℕ) (e f : List ℤ) (l m : Left)
+    (w : Filling (next_numbers due (length e) count l) (next_numbers due (length e - i) (count - i) m) e f i) where
   -- the end of the loop
   module _ (h : count ≤ i) (s : Words) (q : m ≡ more (left s)) where
-    done : next_numbers marks (length e - i) (count - i) m ≡ record { numbers = []; left = m }
+    done : next_numbers due (length e - i) (count - i) m ≡ record { numbers = []; left = m }
     unfolding next_numbers
     done = let z : count - i ≡ 0 = omega arith in rw z
 
-    pub filling_ends : IsFilled (next_numbers marks (length e) count l) e (Ok (tt {0})) s f
+    pub filling_ends : IsFilled (next_numbers due (length e) count l) e (Ok (tt {0})) s f
     filling_ends =
-        let g : Filling (next_numbers marks (length e) count l) (record { numbers = []; left = m }) e f i = rw done at w in
+        let g : Filling (next_numbers due (length e) count l) (record { numbers = []; left = m }) e f i = rw done at w in
         record { rest = sym q ∙ g.rest; numbers = g.same }
 
-    pub filling_whole : i ≤ count → length (next_numbers marks (length e) count l).numbers ≡ count
+    pub filling_whole : i ≤ count → length (next_numbers due (length e) count l).numbers ≡ count
     filling_whole b =
-        let g : Filling (next_numbers marks (length e) count l) (record { numbers = []; left = m }) e f i = rw done at w in
+        let g : Filling (next_numbers due (length e) count l) (record { numbers = []; left = m }) e f i = rw done at w in
         omega (arith, g.end)
 
   module _ (h : i < count) where
     abbrev rest : Numbers
-    rest = next_numbers marks (length e - i - 1) (count - (i + 1)) (next_of m).left
+    rest = next_numbers due (length e - i - 1) (count - (i + 1)) (next_of m).left
 
-    value-is : (v : Option ℤ) → read_number marks (next_of m).word ≡ v
-        → next_numbers marks (length e - i) (count - i) m ≡ with_number (length e - i) v (next_of m).left rest
-    value-is v q = unrolled marks (length e - i) count i m h ∙ ap (λ (u : Option ℤ). with_number (length e - i) u (next_of m).left rest) q
+    value-is : (v : Option ℤ) → read_number due (next_of m).word ≡ v
+        → next_numbers due (length e - i) (count - i) m ≡ with_number (length e - i) v (next_of m).left rest
+    value-is v q = unrolled due (length e - i) count i m h ∙ ap (λ (u : Option ℤ). with_number (length e - i) u (next_of m).left rest) q
 
-    pub filling_faults : (why : Reason) → (read_number marks (next_of m).word ≡ None) × (faulted (next_of m).left Reason.NotNumber ≡ fault why)
-        → (s : Words) → IsFilled {A = Unit {0}} (next_numbers marks (length e) count l) e (Err why) s f
+    pub filling_faults : (why : Reason) → (read_number due (next_of m).word ≡ None) × (faulted (next_of m).left Reason.NotNumber ≡ fault why)
+        → (s : Words) → IsFilled {A = Unit {0}} (next_numbers due (length e) count l) e (Err why) s f
     filling_faults why q s =
-        let g : Filling (next_numbers marks (length e) count l) (record { numbers = []; left = faulted (next_of m).left Reason.NotNumber }) e f i =
+        let g : Filling (next_numbers due (length e) count l) (record { numbers = []; left = faulted (next_of m).left Reason.NotNumber }) e f i =
         rw (value-is None q.0 ∙ no_number (length e - i) (next_of m).left rest) at w in
         record { rest = sym q.1 ∙ g.rest; numbers = g.same }
 
-    module _ (z : ℤ) (q : read_number marks (next_of m).word ≡ Some z) where
-      pub filling_full : length f ≤ i → (s : Words) → IsFilled {A = Unit {0}} (next_numbers marks (length e) count l) e (Err Reason.TooLong) s f
+    module _ (z : ℤ) (q : read_number due (next_of m).word ≡ Some z) where
+      pub filling_full : length f ≤ i → (s : Words) → IsFilled {A = Unit {0}} (next_numbers due (length e) count l) e (Err Reason.TooLong) s f
       filling_full b s =
-          let g : Filling (next_numbers marks (length e) count l) (record { numbers = []; left = fault Reason.TooLong }) e f i =
+          let g : Filling (next_numbers due (length e) count l) (record { numbers = []; left = fault Reason.TooLong }) e f i =
           rw (value-is (Some z) q ∙ no_room (length e - i) z (next_of m).left rest (omega (arith, w.long))) at w in
           record { rest = g.rest; numbers = g.same }
 
       pub filling_goes : i < length f → (n : Left) → (next_of m).left ≡ n
-          → Filling (next_numbers marks (length e) count l) (next_numbers marks (length e - (i + 1)) (count - (i + 1)) n) e (set f i z) (i + 1)
+          → Filling (next_numbers due (length e) count l) (next_numbers due (length e - (i + 1)) (count - (i + 1)) n) e (set f i z) (i + 1)
       filling_goes b n r =
           let a : length e - (i + 1) ≡ length e - i - 1 = omega arith in
-          let v : Filling (next_numbers marks (length e) count l) (record { numbers = z ∷ rest.numbers; left = rest.left }) e f i =
+          let v : Filling (next_numbers due (length e) count l) (record { numbers = z ∷ rest.numbers; left = rest.left }) e f i =
           rw (value-is (Some z) q ∙ with-room (length e - i) z (next_of m).left rest (omega (arith, w.long))) at w in
           rw (a, ← r)
           (record {
@@ -162,27 +165,27 @@ module _ (marks : Bool) (count i : ℕ) (e f : List ℤ) (l m : Left)
 
 -- A list is its length and then its numbers.
 
-numbers-fault : (marks : Bool) (room n : ℕ) (e : Reason) → next_numbers marks room n (fault e) ≡ record { numbers = []; left = fault e }
+numbers-fault : (due : Listed) (room n : ℕ) (e : Reason) → next_numbers due room n (fault e) ≡ record { numbers = []; left = fault e }
 unfolding next_numbers next_of with_number faulted
-numbers-fault marks room zero e = refl
-numbers-fault marks room (suc n) e = rw (no-mark marks)
+numbers-fault due room zero e = refl
+numbers-fault due room (suc n) e = rw (no-mark due)
 
 list-fault-is : (marks : Bool) (room : ℕ) (e : Reason) → list_of marks room (fault e) ≡ record { numbers = []; left = fault e }
 unfolding list_of
 list-fault-is marks room e =
     let h : (field_of Kind.Natural (fault e)).left ≡ fault e = field_fault Kind.Natural (fault e) e refl in
-    rw h (numbers-fault marks room (field_of Kind.Natural (fault e)).value e)
+    rw h (numbers-fault (in_list marks) room (field_of Kind.Natural (fault e)).value e)
 
 pub list_fault : (marks : Bool) (l : Left) (e : List ℤ) (why : Reason) (s : Words) → (field_of Kind.Natural l).left ≡ fault why
     → IsFilled {A = Unit {0}} (list_of marks (length e) l) e (Err why) s e
 unfolding list_of
 list_fault marks l e why s q =
-    let g : next_numbers marks (length e) (field_of Kind.Natural l).value (field_of Kind.Natural l).left ≡ record { numbers = []; left = fault why } =
-    rw q (numbers-fault marks (length e) (field_of Kind.Natural l).value why) in
+    let g : next_numbers (in_list marks) (length e) (field_of Kind.Natural l).value (field_of Kind.Natural l).left ≡ record { numbers = []; left = fault why } =
+    rw q (numbers-fault (in_list marks) (length e) (field_of Kind.Natural l).value why) in
     rw g (record { rest = refl; numbers = refl })
 
 pub list_is : (marks : Bool) (room n : ℕ) (l m : Left) → n ≡ (field_of Kind.Natural l).value → m ≡ (field_of Kind.Natural l).left
-    → next_numbers marks room n m ≡ list_of marks room l
+    → next_numbers (in_list marks) room n m ≡ list_of marks room l
 unfolding list_of
 list_is marks room n l m e f = rw (e, f)
 
@@ -342,15 +345,15 @@ settle_fault room l e why h = rw h (record { request = refl; numbers = refl })
 module _ (l : Left) (p v n : ℕ) (ws : List (List ℕ)) (first : p ≡ (field_of Kind.Natural l).value)
     (second : v ≡ (field_of Kind.Month (field_of Kind.Natural l).left).value)
     (rest : more ws ≡ (field_of Kind.Month (field_of Kind.Natural l).left).left) (e g : List ℤ) (all : n ≡ length ws) (s : Words) where
-  pub settle_err : (why : Reason) → IsFilled {A = Unit {0}} (next_numbers false (length e) n (more ws)) e (Err why) s g
+  pub settle_err : (why : Reason) → IsFilled {A = Unit {0}} (next_numbers Listed.Figure (length e) n (more ws)) e (Err why) s g
       → ParsedIs (settle_of (length e) l) e (Request.Error why) g
   unfolding settle_of figures_of words_left
   settle_err why z =
-      let y : IsFilled {A = Unit {0}} (next_numbers false (length e) (length ws) (more ws)) e (Err why) s g = rw all at z in
+      let y : IsFilled {A = Unit {0}} (next_numbers Listed.Figure (length e) (length ws) (more ws)) e (Err why) s g = rw all at z in
       rw (← rest) (record { request = sym (closed_fault _ _ why (sym y.rest)); numbers = y.numbers })
 
-  pub settle_is : (r : Request) → IsFilled {A = Unit {0}} (next_numbers false (length e) n (more ws)) e (Ok (tt {0})) s g
-      → length (next_numbers false (length e) n (more ws)).numbers ≡ n → r ≡ closed (more (left s)) (Request.Settle p (month_numbered v) n)
+  pub settle_is : (r : Request) → IsFilled {A = Unit {0}} (next_numbers Listed.Figure (length e) n (more ws)) e (Ok (tt {0})) s g
+      → length (next_numbers Listed.Figure (length e) n (more ws)).numbers ≡ n → r ≡ closed (more (left s)) (Request.Settle p (month_numbered v) n)
       → ParsedIs (settle_of (length e) l) e r g
   unfolding settle_of figures_of words_left
   settle_is r z k h =

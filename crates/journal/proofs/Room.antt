@@ -3,7 +3,7 @@
 -- Assumes nothing.
 use Prim.Native.Nat.{ℕ, zero, suc, ◌+◌, ◌-◌, ◌≤◌}
 use mathlib.Core.Path.{◌≡◌, ap, ◌∙◌}
-use mathlib.Core.Bool.{Bool, false}
+use mathlib.Core.Bool.{Bool}
 use mathlib.Core.List.{List, [], ◌∷◌, ◌++◌}
 use native.Mathlib.Omega.{arith}
 use borrow.Author.Tests.{eqb-false, leb-true}
@@ -19,13 +19,14 @@ use Rattle.words.specs.Words.{words, place_in}
 use Rattle.words.specs.Hex.{hexadecimal, bytes_of_hex}
 use Rattle.journal.specs.Names.{read_number, call_names}
 use Rattle.journal.specs.Fields.{Left, more, fault, next_of, faulted, field_of, closed, file_of, checked_file, ended}
-use Rattle.journal.specs.Fields.{Numbers, with_number, next_numbers, figures_of, words_left, list_of, Lists, on_lists, lists_of}
+use Rattle.journal.specs.Fields.{Numbers, with_number, next_numbers, figures_of, words_left, in_list, list_of, Lists, on_lists, lists_of}
 use Rattle.journal.specs.Grammar.{Parsed, plain, are_marks, fresh_of, admit_of, lodge_of, release_of}
-use Rattle.journal.specs.Grammar.{settle_of, annual_of, advance_of, statement_of, delete_of, special_of, filed, batch_of, calls_of, named_call, words_of, parsed}
+use Rattle.journal.specs.Grammar.{settle_of, annual_of, advance_of, statement_of, delete_of, file_asked_of, releasable_of, special_of, filed, batch_of, calls_of, named_call, words_of, parsed}
 use Rattle.journal.specs.Steps.{ParsedIs}
 use Rattle.journal.specs.declared.Reason.{Reason}
 use Rattle.journal.specs.declared.Request.{Request}
 use Rattle.journal.specs.declared.fields.Kind.{Kind}
+use Rattle.journal.specs.declared.lists.Listed.{Listed}
 
 -- There is room.
 
@@ -36,16 +37,16 @@ with-fits room None l rest h = omega arith
 with-fits room (Some z) l rest h =
     split (eqb room 0) (λ t. rw t (omega arith)) (λ t. let n = eqb-false room 0 t in rw t (omega arith))
 
-numbers_fit : (marks : Bool) (room n : ℕ) (l : Left) → length (next_numbers marks room n l).numbers ≤ room
+numbers_fit : (due : Listed) (room n : ℕ) (l : Left) → length (next_numbers due room n l).numbers ≤ room
 unfolding next_numbers
-numbers_fit marks room zero l = omega arith
-numbers_fit marks room (suc n) l =
-    with-fits room (read_number marks (next_of l).word) (next_of l).left (next_numbers marks (room - 1) n (next_of l).left)
-    (numbers_fit marks (room - 1) n (next_of l).left)
+numbers_fit due room zero l = omega arith
+numbers_fit due room (suc n) l =
+    with-fits room (read_number due (next_of l).word) (next_of l).left (next_numbers due (room - 1) n (next_of l).left)
+    (numbers_fit due (room - 1) n (next_of l).left)
 
 pub list-fits : (marks : Bool) (room : ℕ) (l : Left) → length (list_of marks room l).numbers ≤ room
 unfolding list_of
-list-fits marks room l = numbers_fit marks room (field_of Kind.Natural l).value (field_of Kind.Natural l).left
+list-fits marks room l = numbers_fit (in_list marks) room (field_of Kind.Natural l).value (field_of Kind.Natural l).left
 
 on_fits : (room : ℕ) (a : Numbers) (b : Lists) → length a.numbers ≤ room → length b.numbers ≤ room - length a.numbers
     → length (on_lists a b).numbers ≤ room
@@ -76,7 +77,7 @@ unfolding Fits settle_of figures_of
 settle-fits room l =
     let p = field_of Kind.Natural l in
     let m = field_of Kind.Month p.left in
-    numbers_fit false room (words_left m.left) m.left
+    numbers_fit Listed.Figure room (words_left m.left) m.left
 
 special-fits : (room : ℕ) (l : Left) → Fits room (special_of room l)
 unfolding Fits special_of
@@ -114,7 +115,8 @@ call_fits room k l =
     & plain_fits room (release_of l) & settle-fits room l & plain_fits room (annual_of l) & plain_fits room (advance_of l)
     & plain_fits room (statement_of l) & plain_fits room (closed l Request.Calls) & special-fits room l
     & plain_fits room (closed l Request.Report) & batch-fits room l & plain_fits room (closed l Request.RoleRetired)
-    & plain_fits room (delete_of l) & tt)
+    & plain_fits room (delete_of l) & plain_fits room (file_asked_of l) & plain_fits room (releasable_of l)
+    & plain_fits room (closed l Request.Today) & tt)
 
 words-fit : (room : ℕ) (ws : List (List ℕ)) → Fits room (words_of room ws)
 unfolding words_of

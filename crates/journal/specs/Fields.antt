@@ -1,11 +1,12 @@
 -- The words of a line taken one by one, from the left to the right: the first fault is the line's.
 -- Assumes nothing.
-use Rattle.std.specs.Prelude.{ℕ, zero, suc, ◌-◌, Bool, false, cond, List, [], ◌∷◌, ◌++◌, eqb, leb, length, ℤ, Option, Some, None}
+use Rattle.std.specs.Prelude.{ℕ, zero, suc, ◌-◌, Bool, true, false, cond, List, [], ◌∷◌, ◌++◌, eqb, leb, length, ℤ, Option, Some, None}
 use Rattle.words.specs.Hex.{hexadecimal, bytes_of_hex}
 use Rattle.journal.specs.Names.{read_as, why_not, lodged_in, read_number}
 use Rattle.journal.specs.declared.Reason.{Reason}
 use Rattle.journal.specs.declared.Request.{Request}
 use Rattle.journal.specs.declared.fields.Kind.{Kind}
+use Rattle.journal.specs.declared.lists.Listed.{Listed}
 
 -- What is left of a line: words, or the fault that was met.
 pub data Left : Type 0 where
@@ -43,6 +44,12 @@ field_of k l = taken (read_as k (next_of l).word) (why_not k) (next_of l).left
 unfoldable pub lodged_field : Left → Taken
 lodged_field l = taken (lodged_in (next_of l).word) Reason.NotCashOrLetter (next_of l).left
 
+-- How many days an advance may open, and what is left: "`advance D` without a budget: as `advance D 29219`", all days behind day 0.
+unfoldable pub budget_of : Left → Taken
+budget_of (more []) = record { value = 29219; left = more [] }
+budget_of (more (w ∷ ws)) = field_of Kind.Natural (more (w ∷ ws))
+budget_of (fault e) = field_of Kind.Natural (fault e)
+
 -- A call whose words are all read: a word more is a fault.
 unfoldable pub closed : Left → Request → Request
 closed (more []) r = r
@@ -61,10 +68,10 @@ with_number room (Some z) l rest =
     cond (eqb room 0) (record { numbers = []; left = fault Reason.TooLong }) (record { numbers = z ∷ rest.numbers; left = rest.left })
 
 -- The next n numbers; those before a fault, if there is one.
-unfoldable pub next_numbers : Bool → ℕ → ℕ → Left → Numbers
-next_numbers marks room zero l = record { numbers = []; left = l }
-next_numbers marks room (suc n) l =
-    with_number room (read_number marks (next_of l).word) (next_of l).left (next_numbers marks (room - 1) n (next_of l).left)
+unfoldable pub next_numbers : Listed → ℕ → ℕ → Left → Numbers
+next_numbers due room zero l = record { numbers = []; left = l }
+next_numbers due room (suc n) l =
+    with_number room (read_number due (next_of l).word) (next_of l).left (next_numbers due (room - 1) n (next_of l).left)
 
 -- How many words are left.
 unfoldable pub words_left : Left → ℕ
@@ -73,11 +80,16 @@ words_left (fault e) = 0
 
 -- "FIGURE..": any number of figures, none included.
 unfoldable pub figures_of : ℕ → Left → Numbers
-figures_of room l = next_numbers false room (words_left l) l
+figures_of room l = next_numbers Listed.Figure room (words_left l) l
+
+-- What the numbers of a list of `special` are: marks (true), or others (false).
+abbrev pub in_list : Bool → Listed
+in_list true = Listed.Mark
+in_list false = Listed.Number
 
 -- "each LIST is its length and then its numbers".
 unfoldable pub list_of : Bool → ℕ → Left → Numbers
-list_of marks room l = next_numbers marks room (field_of Kind.Natural l).value (field_of Kind.Natural l).left
+list_of marks room l = next_numbers (in_list marks) room (field_of Kind.Natural l).value (field_of Kind.Natural l).left
 
 -- Lists one after the other: the length of each, and their numbers in a row.
 pub record Lists : Type 0 where

@@ -7,7 +7,7 @@ use Rattle.words.specs.Bytes.{control, some, uncommented}
 use Rattle.words.specs.Words.{words, place_in}
 use Rattle.words.specs.Hex.{bytes_of_hex}
 use Rattle.journal.specs.Names.{call_names}
-use Rattle.journal.specs.Fields.{Left, more, fault, field_of, lodged_field, closed, figures_of, lists_of, file_of, checked_file, ended}
+use Rattle.journal.specs.Fields.{Left, more, fault, field_of, lodged_field, budget_of, closed, figures_of, lists_of, file_of, checked_file, ended}
 use Rattle.journal.specs.declared.Reason.{Reason}
 use Rattle.journal.specs.declared.Request.{Request}
 use Rattle.journal.specs.declared.Lengths.{Lengths}
@@ -33,11 +33,11 @@ admit_of l =
 
 -- `lodge P POSITION cash AMOUNT` and `lodge P POSITION letter AMOUNT FIRST LAST`, from the amount on
 unfoldable pub cash_of : ℕ → ℕ → Left → Request
-cash_of p q l = let a = field_of Kind.Natural l in closed a.left (Request.LodgeCash p q a.value)
+cash_of p q l = let a = field_of Kind.Amount l in closed a.left (Request.LodgeCash p q a.value)
 
 unfoldable pub letter_of : ℕ → ℕ → Left → Request
 letter_of p q l =
-    let a = field_of Kind.Natural l in
+    let a = field_of Kind.Amount l in
     let f = field_of Kind.Day a.left in
     let t = field_of Kind.Day f.left in
     closed t.left (Request.LodgeLetter p q a.value (day_numbered f.value) (day_numbered t.value))
@@ -55,18 +55,18 @@ unfoldable pub release_of : Left → Request
 release_of l =
     let p = field_of Kind.Natural l in
     let q = field_of Kind.Natural p.left in
-    let a = field_of Kind.Natural q.left in
+    let a = field_of Kind.Amount q.left in
     closed a.left (Request.Release p.value q.value a.value)
 
 -- `annual P`
 unfoldable pub annual_of : Left → Request
 annual_of l = let p = field_of Kind.Natural l in closed p.left (Request.Annual p.value)
 
--- `advance T B`
+-- `advance T B`, or `advance T`
 unfoldable pub advance_of : Left → Request
 advance_of l =
     let t = field_of Kind.Day l in
-    let b = field_of Kind.Natural t.left in
+    let b = budget_of t.left in
     closed b.left (Request.Advance (day_numbered t.value) b.value)
 
 -- `statement P`
@@ -76,6 +76,17 @@ statement_of l = let p = field_of Kind.Natural l in closed p.left (Request.State
 -- `delete P`
 unfoldable pub delete_of : Left → Request
 delete_of l = let p = field_of Kind.Natural l in closed p.left (Request.Delete p.value)
+
+-- `file P`
+unfoldable pub file_asked_of : Left → Request
+file_asked_of l = let p = field_of Kind.Natural l in closed p.left (Request.File p.value)
+
+-- `releasable P POSITION`
+unfoldable pub releasable_of : Left → Request
+releasable_of l =
+    let p = field_of Kind.Natural l in
+    let q = field_of Kind.Natural p.left in
+    closed q.left (Request.Releasable p.value q.value)
 
 -- What a line is: a call, nothing or an error, and the numbers of its lists in a row or the bytes of its file; of an error, the numbers of
 -- lists before the fault.
@@ -137,8 +148,8 @@ filed (fault e) zs = plain (Request.Error e)
 unfoldable pub batch_of : ℕ → Left → Parsed
 batch_of room l = let f = file_of l in filed (ended (checked_file room f.word f.left)) (bytes_of_hex f.word)
 
--- The calls by their first word, in the order of their names; any other first word is no call. The last but one is paper 02, Ask 3: the line that ends
--- the first stretch of a journal, one word.
+-- The calls by their first word, in the order of their names; any other first word is no call. `role-retired` is paper 02, Ask 3: the line that
+-- ends the first stretch of a journal, one word. The last three are questions.
 unfoldable pub calls_of : ℕ → Left → List Parsed
 calls_of room l =
     plain (fresh_of l)
@@ -155,6 +166,9 @@ calls_of room l =
     ∷ batch_of room l
     ∷ plain (closed l Request.RoleRetired)
     ∷ plain (delete_of l)
+    ∷ plain (file_asked_of l)
+    ∷ plain (releasable_of l)
+    ∷ plain (closed l Request.Today)
     ∷ []
 
 unfoldable pub named_call : ℕ → ℕ → Left → Parsed

@@ -2,11 +2,11 @@
 ghost use Rattle.std.specs.Prelude.{◌≡◌};
 ghost use Rattle.words.specs.Words.{left};
 ghost use Rattle.journal.specs.Fields.{more};
-ghost use Rattle.journal.specs.Grammar.{fresh_of, admit_of, cash_of, letter_of, lodge_of, release_of, annual_of, advance_of, statement_of, delete_of};
+ghost use Rattle.journal.specs.Grammar.{fresh_of, admit_of, cash_of, letter_of, lodge_of, release_of, annual_of, advance_of, statement_of, delete_of, file_asked_of, releasable_of};
 ghost use Rattle.journal.specs.Grammar.{day_numbered, month_numbered};
 ghost use Rattle.journal.specs.Steps.{said};
 
-use crate::fields::{Kind, closed, take, take_word};
+use crate::fields::{Kind, closed, take, take_budget, take_word};
 use crate::plain::Call;
 use crate::{Reason, Request};
 use calendar::{Day, Month};
@@ -51,7 +51,7 @@ pub fn admit(words: &mut Words) -> Result<Call, Reason>
 fn cash(words: &mut Words, participant: u64, position: u64) -> Result<Call, Reason>
     ensures { said result ≡ cash_of participant position (more (left words.old)) }
 {
-    let amount = take(words, Kind::Natural)?;
+    let amount = take(words, Kind::Amount)?;
     closed(words, Request::LodgeCash(participant, position, amount))
 }
 
@@ -60,7 +60,7 @@ fn cash(words: &mut Words, participant: u64, position: u64) -> Result<Call, Reas
 fn letter(words: &mut Words, participant: u64, position: u64) -> Result<Call, Reason>
     ensures { said result ≡ letter_of participant position (more (left words.old)) }
 {
-    let amount = take(words, Kind::Natural)?;
+    let amount = take(words, Kind::Amount)?;
     let first = take(words, Kind::Day)?;
     let last = take(words, Kind::Day)?;
     closed(
@@ -93,7 +93,7 @@ pub fn release(words: &mut Words) -> Result<Call, Reason>
 {
     let participant = take(words, Kind::Natural)?;
     let position = take(words, Kind::Natural)?;
-    let amount = take(words, Kind::Natural)?;
+    let amount = take(words, Kind::Amount)?;
     closed(words, Request::Release(participant, position, amount))
 }
 
@@ -106,13 +106,13 @@ pub fn annual(words: &mut Words) -> Result<Call, Reason>
     closed(words, Request::Annual(participant))
 }
 
-// advance T B
-#[tactic(auto, using(crate::proofs::FieldLaws::closed_late, crate::proofs::FieldLaws::field_fault), unfolding(crate::specs::Grammar::advance_of, crate::specs::Fields::closed))]
+// advance T B, or advance T for as many days as there are
+#[tactic(auto, using(crate::proofs::FieldLaws::closed_late, crate::proofs::FieldLaws::budget_fault), unfolding(crate::specs::Grammar::advance_of, crate::specs::Fields::closed))]
 pub fn advance(words: &mut Words) -> Result<Call, Reason>
     ensures { said result ≡ advance_of (more (left words.old)) }
 {
     let day = take(words, Kind::Day)?;
-    let most = take(words, Kind::Natural)?;
+    let most = take_budget(words)?;
     closed(words, Request::Advance(day_of(day), most))
 }
 
@@ -134,4 +134,24 @@ pub fn delete(words: &mut Words) -> Result<Call, Reason>
 {
     let participant = take(words, Kind::Natural)?;
     closed(words, Request::Delete(participant))
+}
+
+// file P
+// Kept: the twin of `annual`, as `statement`.
+#[tactic(auto, using(crate::proofs::FieldLaws::closed_late, crate::proofs::FieldLaws::field_fault), unfolding(crate::specs::Grammar::file_asked_of, crate::specs::Fields::closed))]
+pub fn file(words: &mut Words) -> Result<Call, Reason>
+    ensures { said result ≡ file_asked_of (more (left words.old)) }
+{
+    let participant = take(words, Kind::Natural)?;
+    closed(words, Request::File(participant))
+}
+
+// releasable P POSITION
+#[tactic(auto, using(crate::proofs::FieldLaws::closed_late, crate::proofs::FieldLaws::field_fault), unfolding(crate::specs::Grammar::releasable_of, crate::specs::Fields::closed))]
+pub fn releasable(words: &mut Words) -> Result<Call, Reason>
+    ensures { said result ≡ releasable_of (more (left words.old)) }
+{
+    let participant = take(words, Kind::Natural)?;
+    let position = take(words, Kind::Natural)?;
+    closed(words, Request::Releasable(participant, position))
 }

@@ -2,19 +2,21 @@
 ghost use Rattle.std.specs.Prelude.{◌≡◌, false, IfOk, MatchResult, [], ◌∷◌};
 ghost use Rattle.words.specs.Words.{left};
 ghost use Rattle.journal.specs.Names.{role_of_word, read_as, why_not};
-ghost use Rattle.journal.specs.Fields.{more, field_of, closed as Fields·closed};
+ghost use Rattle.journal.specs.Fields.{more, field_of, budget_of, closed as Fields·closed};
 ghost use Rattle.journal.specs.Faults.{is_error};
 ghost use Rattle.journal.specs.Steps.{IsField, said};
 ghost use Rattle.journal.specs.declared.Reason.{Reason as Names·Reason};
 
 use crate::plain::Call;
 use crate::{Reason, Request};
-use words::{Words, day_in, month_in, natural_of, place_of};
+use calendar::LAST_DAY;
+use words::{Words, amount_of, day_in, month_in, natural_of, place_of};
 
 // What is due at a word's place.
 #[derive(Clone, Copy)]
 pub enum Kind {
     Natural,
+    Amount,
     Role,
     Day,
     Month,
@@ -40,6 +42,7 @@ impl Kind {
     {
         match self {
             Kind::Natural => natural_of(w),
+            Kind::Amount => amount_of(w),
             Kind::Role => role_in(w),
             Kind::Day => day_in(w),
             Kind::Month => month_in(w),
@@ -51,7 +54,7 @@ impl Kind {
         ensures { result ≡ why_not self }
     {
         match self {
-            Kind::Natural => Reason::NotNumber,
+            Kind::Natural | Kind::Amount => Reason::NotNumber,
             Kind::Role => Reason::NotRole,
             Kind::Day => Reason::NotDay,
             Kind::Month => Reason::NotMonth,
@@ -74,6 +77,16 @@ pub fn take(words: &mut Words, kind: Kind) -> Result<u64, Reason>
 {
     let word = take_word(words)?;
     kind.read(word).ok_or(kind.why_not())
+}
+
+// How many days an advance may open: the next word, or all that there are where no word is left.
+pub fn take_budget(words: &mut Words) -> Result<u64, Reason>
+    ensures { IsField (budget_of (more (left words.old))) result words.new }
+{
+    match words.next() {
+        Some(word) => Kind::Natural.read(word).ok_or(Reason::NotNumber),
+        None => Ok(LAST_DAY as u64),
+    }
 }
 
 // A call whose words are all read.

@@ -89,7 +89,7 @@ impl From<[usize; 7]> for Lengths {
 // What a line is: nothing, a call with its arguments, or an error. Participants come first, then positions, then amounts; a settlement has
 // the number of its figures, a special guarantee the lengths of its lists, and a batch the number of its file's bytes. `role-retired` is no
 // call to the book but ends the first stretch of a journal (paper 02, Ask 3), and has no arguments. `delete`
-// places a participant under deletion (Ask 4).
+// places a participant under deletion (Ask 4). `file`, `releasable` and `today` are questions.
 // Kept: counts of figures and bytes, which stand in a lent slice beside a request, since a line is read without a heap.
 // Kept: `Nothing` and `Error` are cases: `parsed`, `asked` and `printed` speak of any, and an Option of a Result would ask two more matches.
 #[derive(Clone, Copy, PartialEq, Eq)]
@@ -110,6 +110,9 @@ pub enum Request {
     RoleRetired,
     Delete(u64),
     Report,
+    File(u64),
+    Releasable(u64, u64),
+    Today,
     Error(Reason),
 }
 
@@ -148,6 +151,12 @@ fn call(name: &[u8], words: &mut Words, numbers: &mut [i64]) -> Result<Call, Rea
         closed(words, Request::RoleRetired)
     } else if name == b"delete".as_slice() {
         calls::delete(words)
+    } else if name == b"file".as_slice() {
+        calls::file(words)
+    } else if name == b"releasable".as_slice() {
+        calls::releasable(words)
+    } else if name == b"today".as_slice() {
+        closed(words, Request::Today)
     } else {
         Err(Reason::NoCall)
     }

@@ -16,8 +16,10 @@ use Rattle.laws.specs.Every.{every-cons}
 use Rattle.words.specs.Bytes.{blank, control, digit, each, same}
 use Rattle.words.specs.Words.{place_in}
 use Rattle.words.specs.Numerals.{natural, value_from, value, natural_of, unsigned_of, negative_of, signed_of}
+use Rattle.words.specs.Euros.{amount_of, held, negated, figure_of}
 use Rattle.words.specs.Dates.{day_in, month_in}
 use Rattle.journal.specs.Names.{role_names, role_of_word, read_number}
+use Rattle.journal.specs.declared.lists.Listed.{Listed}
 use Rattle.std.specs.Prelude.{Some}
 use Rattle.words.proofs.NumberLaws.{natural_each}
 use Rattle.words.proofs.WordLaws.{solid}
@@ -132,6 +134,10 @@ natural-back n h =
     let e : min n 18446744073709551615 ≡ n = omega arith in
     rw (decimal-natural n, decimal-value n, e)
 
+pub amount-back : (n : ℕ) → n ≤ 18446744073709551615 → amount_of (decimal n) ≡ Some n
+unfolding amount_of
+amount-back n h = rw (decimal-natural n) (natural-back n h)
+
 pub day-back : (n : ℕ) → n ≤ 18446744073709551615 → day_in (decimal n) ≡ Some n
 unfolding day_in
 day-back n h = rw (decimal-natural n) (natural-back n h)
@@ -197,11 +203,40 @@ unfolding integer
 signed_back (pos n) h = signed-digits (decimal n) (decimal-long n) (decimal-digits n) ∙ unsigned_back n h
 signed_back (negsuc n) h = signed-negative (decimal (suc n)) ∙ negative_back n h
 
-pub number-back : (marks : Bool) (z : ℤ) → Holds marks z → read_number marks (integer z) ≡ Some z
+-- a figure in cents
+figure-digits : (w : List ℕ) → 0 < length w → each digit w ≡ true → figure_of w ≡ held (amount_of w)
+unfolding figure_of each
+figure-digits [] h e = absurd (not-suc-le-zero h)
+figure-digits (b ∷ w) h e =
+    let r = digit-range b (and_left (digit b) (each digit w) e) in
+    let lo = r.0 in
+    rw (ne_eqb b 45 (λ q. omega arith))
+
+figure-negative : (w : List ℕ) → figure_of (45 ∷ w) ≡ negated (amount_of w)
+unfolding figure_of
+figure-negative w = refl
+
+pub figure_back : (z : ℤ) → mag z < 9223372036854775808 → figure_of (integer z) ≡ Some z
+unfolding integer
+figure_back (pos n) h =
+    let e : min n 9223372036854775807 ≡ n = omega arith in
+    figure-digits (decimal n) (decimal-long n) (decimal-digits n) ∙ rw (amount-back n (omega arith), e)
+figure_back (negsuc n) h =
+    let e : min (suc n) 9223372036854775808 ≡ suc n = omega arith in
+    figure-negative (decimal (suc n)) ∙ rw (amount-back (suc n) (omega arith), e)
+
+-- whether a number of a list is a mark
+abbrev pub is_mark : Listed → Bool
+is_mark Listed.Mark = true
+is_mark Listed.Number = false
+is_mark Listed.Figure = false
+
+pub number-back : (due : Listed) (z : ℤ) → Holds (is_mark due) z → read_number due (integer z) ≡ Some z
 unfolding read_number integer
-number-back false z h = signed_back z h
-number-back true (pos n) h = unsigned_back n h
-number-back true (negsuc n) h = absurd h
+number-back Listed.Number z h = signed_back z h
+number-back Listed.Figure z h = figure_back z h
+number-back Listed.Mark (pos n) h = unsigned_back n h
+number-back Listed.Mark (negsuc n) h = absurd h
 
 -- The digits of a tenth of a number written, and its last behind them; and a number of one digit.
 

@@ -2,7 +2,7 @@
 -- Assumes nothing.
 use Prim.Native.Nat.{ℕ, suc, ◌-◌, ◌≤◌, min}
 use mathlib.Core.Path.{◌≡◌, refl, sym, ap, ◌∙◌}
-use mathlib.Core.Bool.{Bool, false}
+use mathlib.Core.Bool.{Bool, true, false}
 use mathlib.Core.List.{List, [], ◌∷◌, ◌++◌, map, append-nil}
 use native.Mathlib.Omega.{arith}
 use borrow.Author.Tests.{ne_eqb}
@@ -13,16 +13,17 @@ use Rattle.laws.specs.Lists.{All}
 use Rattle.calendar.specs.declared.Day.{Day}
 use Rattle.calendar.specs.declared.Month.{Month}
 use Rattle.journal.specs.Names.{lodged_in, read_as, read_number}
-use Rattle.journal.specs.Fields.{Left, more, next_of, taken, field_of, lodged_field, closed}
-use Rattle.journal.specs.Fields.{Numbers, with_number, next_numbers, words_left, figures_of, list_of, on_lists, lists_of}
+use Rattle.journal.specs.Fields.{Left, more, next_of, taken, field_of, lodged_field, budget_of, closed}
+use Rattle.journal.specs.Fields.{Numbers, with_number, next_numbers, words_left, figures_of, in_list, list_of, on_lists, lists_of}
 use Rattle.journal.specs.Grammar.{day_numbered, month_numbered}
 use Rattle.std.specs.Prelude.{Some}
 use Rattle.journal.specs.declared.Request.{Request}
 use Rattle.journal.specs.declared.fields.Kind.{Kind}
+use Rattle.journal.specs.declared.lists.Listed.{Listed}
 use Rattle.printing.specs.Decimals.{decimal, integer}
 use Rattle.printing.specs.Lines.{Holds, Hold, list_words, cut}
 use Rattle.journal.specs.Grammar.{total}
-use Rattle.printing.proofs.DecimalLaws.{natural-back, day-back, month-back, role-back, number-back}
+use Rattle.printing.proofs.DecimalLaws.{natural-back, amount-back, day-back, month-back, role-back, is_mark, number-back}
 
 -- a word that is what is due
 pub field_back : (k : Kind) (w : List ℕ) (ws : List (List ℕ)) (n : ℕ) → read_as k w ≡ Some n
@@ -39,6 +40,15 @@ lodged_back w ws n h = rw h
 pub natural-field : (n : ℕ) (ws : List (List ℕ)) → n ≤ 18446744073709551615
     → field_of Kind.Natural (more (decimal n ∷ ws)) ≡ record { value = n; left = more ws }
 natural-field n ws h = field_back Kind.Natural (decimal n) ws n (natural-back n h)
+
+pub amount-field : (n : ℕ) (ws : List (List ℕ)) → n ≤ 18446744073709551615
+    → field_of Kind.Amount (more (decimal n ∷ ws)) ≡ record { value = n; left = more ws }
+amount-field n ws h = field_back Kind.Amount (decimal n) ws n (amount-back n h)
+
+pub budget-field : (n : ℕ) (ws : List (List ℕ)) → n ≤ 18446744073709551615
+    → budget_of (more (decimal n ∷ ws)) ≡ record { value = n; left = more ws }
+unfolding budget_of
+budget-field n ws h = natural-field n ws h
 
 pub role-field : (n : ℕ) (ws : List (List ℕ)) → n ≤ 18446744073709551615
     → field_of Kind.Role (more (decimal n ∷ ws)) ≡ record { value = n; left = more ws }
@@ -63,33 +73,33 @@ pub same-month : (m : Month) → m.0 ≤ 4294967295 → month_numbered m.0 ≡ m
 same-month m h = let e : min m.0 4294967295 ≡ m.0 = omega arith in rw e
 
 -- the numbers of a list
-number_more : (marks : Bool) (room n : ℕ) (z : ℤ) (ws : List (List ℕ)) (rest : Numbers) → Holds marks z → suc n ≤ room
-    → with_number room (read_number marks (integer z)) (more ws) rest ≡ record { numbers = z ∷ rest.numbers; left = rest.left }
+number_more : (due : Listed) (room n : ℕ) (z : ℤ) (ws : List (List ℕ)) (rest : Numbers) → Holds (is_mark due) z → suc n ≤ room
+    → with_number room (read_number due (integer z)) (more ws) rest ≡ record { numbers = z ∷ rest.numbers; left = rest.left }
 unfolding with_number
-number_more marks room n z ws rest h g = rw (number-back marks z h, ne_eqb room 0 (λ e. omega arith))
+number_more due room n z ws rest h g = rw (number-back due z h, ne_eqb room 0 (λ e. omega arith))
 
-numbers-next : (marks : Bool) (room n : ℕ) (w : List ℕ) (ws : List (List ℕ))
-    → next_numbers marks room (suc n) (more (w ∷ ws)) ≡ with_number room (read_number marks w) (more ws) (next_numbers marks (room - 1) n (more ws))
+numbers-next : (due : Listed) (room n : ℕ) (w : List ℕ) (ws : List (List ℕ))
+    → next_numbers due room (suc n) (more (w ∷ ws)) ≡ with_number room (read_number due w) (more ws) (next_numbers due (room - 1) n (more ws))
 unfolding next_numbers next_of
-numbers-next marks room n w ws = refl
+numbers-next due room n w ws = refl
 
-pub numbers-back : (marks : Bool) (room : ℕ) (zs : List ℤ) (ws : List (List ℕ)) → length zs ≤ room → All (Holds marks) zs
-    → next_numbers marks room (length zs) (more (map integer zs ++ ws)) ≡ record { numbers = zs; left = more ws }
+pub numbers-back : (due : Listed) (room : ℕ) (zs : List ℤ) (ws : List (List ℕ)) → length zs ≤ room → All (Holds (is_mark due)) zs
+    → next_numbers due room (length zs) (more (map integer zs ++ ws)) ≡ record { numbers = zs; left = more ws }
 unfolding next_numbers
-numbers-back marks room [] ws h a = refl
-numbers-back marks room (z ∷ zs) ws h a =
-    numbers-next marks room (length zs) (integer z) (map integer zs ++ ws)
-    ∙ number_more marks room (length zs) z (map integer zs ++ ws) (next_numbers marks (room - 1) (length zs) (more (map integer zs ++ ws))) a.0 h
-    ∙ ap (λ (x : Numbers). record { numbers = z ∷ x.numbers; left = x.left }) (numbers-back marks (room - 1) zs ws (omega arith) a.1)
+numbers-back due room [] ws h a = refl
+numbers-back due room (z ∷ zs) ws h a =
+    numbers-next due room (length zs) (integer z) (map integer zs ++ ws)
+    ∙ number_more due room (length zs) z (map integer zs ++ ws) (next_numbers due (room - 1) (length zs) (more (map integer zs ++ ws))) a.0 h
+    ∙ ap (λ (x : Numbers). record { numbers = z ∷ x.numbers; left = x.left }) (numbers-back due (room - 1) zs ws (omega arith) a.1)
 
 -- a settlement's figures
 pub figures-back : (room : ℕ) (zs : List ℤ) → length zs ≤ room → All (Holds false) zs
     → figures_of room (more (map integer zs)) ≡ record { numbers = zs; left = more [] }
 unfolding figures_of words_left
 figures-back room zs h a =
-    ap (λ (n : ℕ). next_numbers false room n (more (map integer zs))) (length-map zs integer)
-    ∙ ap (λ (ws : List (List ℕ)). next_numbers false room (length zs) (more ws)) (sym (append-nil (map integer zs)))
-    ∙ numbers-back false room zs [] h a
+    ap (λ (n : ℕ). next_numbers Listed.Figure room n (more (map integer zs))) (length-map zs integer)
+    ∙ ap (λ (ws : List (List ℕ)). next_numbers Listed.Figure room (length zs) (more ws)) (sym (append-nil (map integer zs)))
+    ∙ numbers-back Listed.Figure room zs [] h a
 
 -- the lists of a special guarantee
 pub flat : List (List ℤ) → List ℤ
@@ -100,10 +110,15 @@ pub lengths : List (List ℤ) → List ℕ
 lengths [] = []
 lengths (b ∷ bs) = length b ∷ lengths bs
 
+-- the numbers of a list of `special` fit as what they are
+in-list-held : (marks : Bool) (zs : List ℤ) → All (Holds marks) zs → All (Holds (is_mark (in_list marks))) zs
+in-list-held true zs h = h
+in-list-held false zs h = h
+
 list_back : (marks : Bool) (room : ℕ) (b : List ℤ) (ws : List (List ℕ)) → length b ≤ room → length b ≤ 18446744073709551615 → All (Holds marks) b
     → list_of marks room (more (decimal (length b) ∷ (map integer b ++ ws))) ≡ record { numbers = b; left = more ws }
 unfolding list_of
-list_back marks room b ws h g a = rw (natural-field (length b) (map integer b ++ ws) g) (numbers-back marks room b ws h a)
+list_back marks room b ws h g a = rw (natural-field (length b) (map integer b ++ ws) g) (numbers-back (in_list marks) room b ws h (in-list-held marks b a))
 
 lists-next : (m : Bool) (ms : List Bool) (room : ℕ) (l : Left) (x : Numbers) → list_of m room l ≡ x
     → lists_of (m ∷ ms) room l ≡ on_lists x (lists_of ms (room - length x.numbers) x.left)

@@ -5,4 +5,6 @@ pub mod FieldsBack
 pub mod RoundTrip
 pub mod OutLaws
 pub mod LineLaws
+pub mod ColumnLaws
 pub mod ParsedFits
+pub mod Examples

@@ -16,21 +16,24 @@ use Rattle.words.specs.Bytes.{control, some, uncommented}
 use Rattle.words.specs.Words.{words, place_in}
 use Rattle.words.specs.Hex.{bytes_of_hex}
 use Rattle.words.specs.Numerals.{natural, value, natural_of, unsigned_of, negative_of, signed_of}
+use Rattle.words.specs.Euros.{is_euros, euros_of, amount_of, held, negated, figure_of}
 use Rattle.std.specs.Prelude.{Option, Some, None}
 use Rattle.journal.specs.Names.{call_names, role_names, role_of_word, read_number, why_not}
-use Rattle.journal.specs.Fields.{Left, more, fault, next_of, taken, field_of, lodged_field, closed, file_of, checked_file, ended}
+use Rattle.journal.specs.Fields.{Left, more, fault, next_of, taken, field_of, lodged_field, budget_of, closed, file_of, checked_file, ended}
 use Rattle.journal.specs.Fields.{Numbers, with_number, next_numbers, words_left, figures_of, list_of, on_lists, lists_of}
 use Rattle.journal.specs.Grammar.{Parsed, plain, are_marks, lengths_of, day_numbered, month_numbered}
 use Rattle.journal.specs.Grammar.{fresh_of, admit_of, cash_of, letter_of, lodge_of, release_of, settle_of}
-use Rattle.journal.specs.Grammar.{annual_of, advance_of, statement_of, delete_of, special_of, filed, batch_of, calls_of, named_call}
+use Rattle.journal.specs.Grammar.{annual_of, advance_of, statement_of, delete_of, file_asked_of, releasable_of, special_of, filed, batch_of, calls_of, named_call}
 use Rattle.journal.specs.Grammar.{words_of, parsed}
 use Rattle.journal.specs.declared.Reason.{Reason}
 use Rattle.journal.specs.declared.Request.{Request}
 use Rattle.journal.specs.declared.fields.Kind.{Kind}
+use Rattle.journal.specs.declared.lists.Listed.{Listed}
 use Rattle.journal.proofs.Room.{◌&◌, parsed-fits}
 use Rattle.journal.proofs.Counts.{count_of, IsCall, seven-lengths, parsed-counted}
 use Rattle.journal.proofs.ListLaws.{lists-many}
 use Rattle.printing.specs.Lines.{cut, Natural64, Natural32, Holds, Hold, IsByte, Fitting, printed}
+use Rattle.printing.proofs.DecimalLaws.{is_mark}
 use Rattle.printing.proofs.HexLaws.{bytes-are}
 use Rattle.printing.proofs.RoundTrip.{round_trip}
 
@@ -43,6 +46,14 @@ Small None = Unit {0}
 natural-small : (w : List ℕ) → Small (natural_of w)
 unfolding natural_of Small
 natural-small w = split (natural w) (λ t. rw t (omega arith)) (λ t. rw t tt)
+
+euros-small : (w : List ℕ) → Small (euros_of w)
+unfolding euros_of Small
+euros-small w = split (is_euros w) (λ t. rw t (omega arith)) (λ t. rw t tt)
+
+amount-small : (w : List ℕ) → Small (amount_of w)
+unfolding amount_of
+amount-small w = split (natural w) (λ t. rw t (natural-small w)) (λ t. rw t (euros-small w))
 
 role-small : (w : List ℕ) → Small (role_of_word w)
 unfolding role_of_word Small
@@ -57,6 +68,16 @@ taken-small None e l h = omega arith
 field-natural : (l : Left) → Natural64 (field_of Kind.Natural l).value
 unfolding field_of
 field-natural l = taken-small (natural_of (next_of l).word) (why_not Kind.Natural) (next_of l).left (natural-small (next_of l).word)
+
+field-amount : (l : Left) → Natural64 (field_of Kind.Amount l).value
+unfolding field_of
+field-amount l = taken-small (amount_of (next_of l).word) (why_not Kind.Amount) (next_of l).left (amount-small (next_of l).word)
+
+field-budget : (l : Left) → Natural64 (budget_of l).value
+unfolding budget_of
+field-budget (more []) = omega arith
+field-budget (more (w ∷ ws)) = field-natural (more (w ∷ ws))
+field-budget (fault e) = field-natural (fault e)
 
 field-role : (l : Left) → Natural64 (field_of Kind.Role l).value
 unfolding field_of
@@ -93,10 +114,26 @@ unfolding signed_of Held
 signed-held [] = tt
 signed-held (b ∷ w) = split (eqb b 45) (λ t. rw t (negative-held w)) (λ t. rw t (unsigned-held false (b ∷ w)))
 
-read_held : (m : Bool) (w : List ℕ) → Held m (read_number m w)
+held-held : (x : Option ℕ) → Held false (held x)
+unfolding Held
+held-held (Some n) = omega arith
+held-held None = tt
+
+negated-held : (x : Option ℕ) → Held false (negated x)
+unfolding Held
+negated-held (Some n) = negative-holds (min n 9223372036854775808) (omega arith)
+negated-held None = tt
+
+figure-held : (w : List ℕ) → Held false (figure_of w)
+unfolding figure_of Held
+figure-held [] = tt
+figure-held (b ∷ w) = split (eqb b 45) (λ t. rw t (negated-held (amount_of w))) (λ t. rw t (held-held (amount_of (b ∷ w))))
+
+read_held : (k : Listed) (w : List ℕ) → Held (is_mark k) (read_number k w)
 unfolding read_number
-read_held true w = unsigned-held true w
-read_held false w = signed-held w
+read_held Listed.Mark w = unsigned-held true w
+read_held Listed.Number w = signed-held w
+read_held Listed.Figure w = figure-held w
 
 with-held : (m : Bool) (room : ℕ) (x : Option ℤ) (l : Left) (rest : Numbers) → Held m x → All (Holds m) rest.numbers
     → All (Holds m) (with_number room x l rest).numbers
@@ -104,20 +141,21 @@ unfolding with_number Held
 with-held m room (Some z) l rest h a = split (eqb room 0) (λ t. rw t tt) (λ t. rw t (h, a))
 with-held m room None l rest h a = tt
 
-numbers-held : (m : Bool) (room n : ℕ) (l : Left) → All (Holds m) (next_numbers m room n l).numbers
+numbers-held : (k : Listed) (room n : ℕ) (l : Left) → All (Holds (is_mark k)) (next_numbers k room n l).numbers
 unfolding next_numbers
-numbers-held m room zero l = tt
-numbers-held m room (suc n) l =
-    with-held m room (read_number m (next_of l).word) (next_of l).left (next_numbers m (room - 1) n (next_of l).left) (read_held m (next_of l).word)
-    (numbers-held m (room - 1) n (next_of l).left)
+numbers-held k room zero l = tt
+numbers-held k room (suc n) l =
+    with-held (is_mark k) room (read_number k (next_of l).word) (next_of l).left (next_numbers k (room - 1) n (next_of l).left)
+    (read_held k (next_of l).word) (numbers-held k (room - 1) n (next_of l).left)
 
 figures-held : (room : ℕ) (l : Left) → All (Holds false) (figures_of room l).numbers
 unfolding figures_of
-figures-held room l = numbers-held false room (words_left l) l
+figures-held room l = numbers-held Listed.Figure room (words_left l) l
 
 list_held : (m : Bool) (room : ℕ) (l : Left) → All (Holds m) (list_of m room l).numbers
 unfolding list_of
-list_held m room l = numbers-held m room (field_of Kind.Natural l).value (field_of Kind.Natural l).left
+list_held true room l = numbers-held Listed.Mark room (field_of Kind.Natural l).value (field_of Kind.Natural l).left
+list_held false room l = numbers-held Listed.Number room (field_of Kind.Natural l).value (field_of Kind.Natural l).left
 
 -- A list before others is cut off again.
 cut-first : (a b : List ℤ) (ks : List ℕ) → cut (length a ∷ ks) (a ++ b) ≡ a ∷ cut ks b
@@ -165,16 +203,16 @@ admit-fits l =
 cash-fits : (p q : ℕ) (l : Left) → Natural64 p → Natural64 q → Fits (plain (cash_of p q l))
 unfolding cash_of
 cash-fits p q l h k =
-    let a = field_of Kind.Natural l in plain_fits a.left (Request.LodgeCash p q a.value) (h, k, field-natural l, refl)
+    let a = field_of Kind.Amount l in plain_fits a.left (Request.LodgeCash p q a.value) (h, k, field-amount l, refl)
 
 letter-fits : (p q : ℕ) (l : Left) → Natural64 p → Natural64 q → Fits (plain (letter_of p q l))
 unfolding letter_of
 letter-fits p q l h k =
-    let a = field_of Kind.Natural l in
+    let a = field_of Kind.Amount l in
     let f = field_of Kind.Day a.left in
     let t = field_of Kind.Day f.left in
     plain_fits t.left (Request.LodgeLetter p q a.value (day_numbered f.value) (day_numbered t.value))
-    (h, k, field-natural l, day-small f.value, day-small t.value, refl)
+    (h, k, field-amount l, day-small f.value, day-small t.value, refl)
 
 lodge-fits : (l : Left) → Fits (plain (lodge_of l))
 unfolding lodge_of
@@ -191,9 +229,9 @@ unfolding release_of
 release-fits l =
     let p = field_of Kind.Natural l in
     let q = field_of Kind.Natural p.left in
-    let a = field_of Kind.Natural q.left in
+    let a = field_of Kind.Amount q.left in
     plain_fits a.left (Request.Release p.value q.value a.value)
-    (field-natural l, field-natural p.left, field-natural q.left, refl)
+    (field-natural l, field-natural p.left, field-amount q.left, refl)
 
 annual-fits : (l : Left) → Fits (plain (annual_of l))
 unfolding annual_of
@@ -203,8 +241,8 @@ advance-fits : (l : Left) → Fits (plain (advance_of l))
 unfolding advance_of
 advance-fits l =
     let t = field_of Kind.Day l in
-    let b = field_of Kind.Natural t.left in
-    plain_fits b.left (Request.Advance (day_numbered t.value) b.value) (day-small t.value, field-natural t.left, refl)
+    let b = budget_of t.left in
+    plain_fits b.left (Request.Advance (day_numbered t.value) b.value) (day-small t.value, field-budget t.left, refl)
 
 statement-fits : (l : Left) → Fits (plain (statement_of l))
 unfolding statement_of
@@ -213,6 +251,17 @@ statement-fits l = let p = field_of Kind.Natural l in plain_fits p.left (Request
 delete-fits : (l : Left) → Fits (plain (delete_of l))
 unfolding delete_of
 delete-fits l = let p = field_of Kind.Natural l in plain_fits p.left (Request.Delete p.value) (field-natural l, refl)
+
+file-asked-fits : (l : Left) → Fits (plain (file_asked_of l))
+unfolding file_asked_of
+file-asked-fits l = let p = field_of Kind.Natural l in plain_fits p.left (Request.File p.value) (field-natural l, refl)
+
+releasable-fits : (l : Left) → Fits (plain (releasable_of l))
+unfolding releasable_of
+releasable-fits l =
+    let p = field_of Kind.Natural l in
+    let q = field_of Kind.Natural p.left in
+    plain_fits q.left (Request.Releasable p.value q.value) (field-natural l, field-natural p.left, refl)
 
 settle-fits : (room : ℕ) (l : Left) → Fits (settle_of room l)
 unfolding settle_of
@@ -251,7 +300,8 @@ call_fits room k l =
     all-default Fits (calls_of room l) k (plain (Request.Error Reason.NoCall)) no-call-fits
     (fresh-fits l & admit-fits l & lodge-fits l & release-fits l & settle-fits room l & annual-fits l & advance-fits l
     & statement-fits l & plain_fits l Request.Calls refl & special-fits room l & plain_fits l Request.Report refl
-    & batch-fits room l & plain_fits l Request.RoleRetired refl & delete-fits l & tt)
+    & batch-fits room l & plain_fits l Request.RoleRetired refl & delete-fits l & file-asked-fits l & releasable-fits l
+    & plain_fits l Request.Today refl & tt)
 
 words-fitting : (room : ℕ) (ws : List (List ℕ)) → Fits (words_of room ws)
 unfolding words_of Fits

@@ -22,7 +22,7 @@ use Rattle.words.specs.Hex.{hexadecimal, bytes_of_hex}
 use Rattle.journal.specs.Names.{call_names, lodged_names, lodged_in}
 use Rattle.journal.specs.Fields.{more, closed, file_of, checked_file, ended}
 use Rattle.journal.specs.Grammar.{plain, are_marks, fresh_of, admit_of, cash_of, letter_of, lodge_of, release_of, settle_of}
-use Rattle.journal.specs.Grammar.{length_list, total, annual_of, advance_of, statement_of, delete_of, special_of, filed, batch_of, calls_of, named_call}
+use Rattle.journal.specs.Grammar.{length_list, total, annual_of, advance_of, statement_of, delete_of, file_asked_of, releasable_of, special_of, filed, batch_of, calls_of, named_call}
 use Rattle.journal.specs.Grammar.{words_of, parsed}
 use Rattle.std.specs.Prelude.{Some}
 use Rattle.journal.specs.declared.Request.{Request}
@@ -35,7 +35,7 @@ use Rattle.printing.specs.Lines.{call_words, list_words, cut, printed, Natural64
 use Rattle.printing.proofs.PlainWords.{word_byte, IsWord, uncommented-line, no-control, joined_line, joined_words}
 use Rattle.printing.proofs.DecimalLaws.{decimal-word, integer-word}
 use Rattle.printing.proofs.HexLaws.{file-words, hex-hexadecimal, bytes_back}
-use Rattle.printing.proofs.FieldsBack.{lodged_back, natural-field, role-field, day-field, month-field, closed-back}
+use Rattle.printing.proofs.FieldsBack.{lodged_back, natural-field, amount-field, budget-field, role-field, day-field, month-field, closed-back}
 use Rattle.printing.proofs.FieldsBack.{same-day, same-month, figures-back, lists_back, cut-flat, cut-lengths}
 
 -- A line of words that a line can hold is parsed by those words.
@@ -78,6 +78,9 @@ call-words (Request.Batch n) zs = word "batch" tt refl & file-words (take n zs)
 call-words Request.RoleRetired zs = word "role-retired" tt refl & tt
 call-words (Request.Delete p) zs = word "delete" tt refl & decimal-word p & tt
 call-words Request.Report zs = word "report" tt refl & tt
+call-words (Request.File p) zs = word "file" tt refl & decimal-word p & tt
+call-words (Request.Releasable p q) zs = word "releasable" tt refl & decimal-word p & decimal-word q & tt
+call-words Request.Today zs = word "today" tt refl & tt
 call-words (Request.Error e) zs = tt
 
 -- The first word of a line decides which call it is.
@@ -115,14 +118,14 @@ admit-back p r h g = rw (natural-field p (decimal r ∷ []) h, role-field r [] g
 
 cash-back : (p q a : ℕ) → Natural64 a → cash_of p q (more (decimal a ∷ [])) ≡ Request.LodgeCash p q a
 unfolding cash_of
-cash-back p q a h = rw (natural-field a [] h) (closed-back (Request.LodgeCash p q a))
+cash-back p q a h = rw (amount-field a [] h) (closed-back (Request.LodgeCash p q a))
 
 letter-back : (p q a : ℕ) (f l : Day) → Natural64 a → Natural32 f.0 → Natural32 l.0
     → letter_of p q (more (decimal a ∷ decimal f.0 ∷ decimal l.0 ∷ [])) ≡ Request.LodgeLetter p q a f l
 unfolding letter_of
 letter-back p q a f l h g k =
     rw (
-      natural-field a (decimal f.0 ∷ decimal l.0 ∷ []) h,
+      amount-field a (decimal f.0 ∷ decimal l.0 ∷ []) h,
       day-field f.0 (decimal l.0 ∷ []) g,
       day-field l.0 [] k,
       same-day f g,
@@ -153,7 +156,7 @@ release-back : (p q a : ℕ) → Natural64 p → Natural64 q → Natural64 a
     → release_of (more (decimal p ∷ decimal q ∷ decimal a ∷ [])) ≡ Request.Release p q a
 unfolding release_of
 release-back p q a h g k =
-    rw (natural-field p (decimal q ∷ decimal a ∷ []) h, natural-field q (decimal a ∷ []) g, natural-field a [] k)
+    rw (natural-field p (decimal q ∷ decimal a ∷ []) h, natural-field q (decimal a ∷ []) g, amount-field a [] k)
     (closed-back (Request.Release p q a))
 
 delete-back : (p : ℕ) → Natural64 p → delete_of (more (decimal p ∷ [])) ≡ Request.Delete p
@@ -167,11 +170,19 @@ annual-back p h = rw (natural-field p [] h) (closed-back (Request.Annual p))
 advance-back : (t : Day) (b : ℕ) → Natural32 t.0 → Natural64 b → advance_of (more (decimal t.0 ∷ decimal b ∷ [])) ≡ Request.Advance t b
 unfolding advance_of
 advance-back t b h g =
-    rw (day-field t.0 (decimal b ∷ []) h, natural-field b [] g, same-day t h) (closed-back (Request.Advance t b))
+    rw (day-field t.0 (decimal b ∷ []) h, budget-field b [] g, same-day t h) (closed-back (Request.Advance t b))
 
 statement-back : (p : ℕ) → Natural64 p → statement_of (more (decimal p ∷ [])) ≡ Request.Statement p
 unfolding statement_of
 statement-back p h = rw (natural-field p [] h) (closed-back (Request.Statement p))
+
+file-asked-back : (p : ℕ) → Natural64 p → file_asked_of (more (decimal p ∷ [])) ≡ Request.File p
+unfolding file_asked_of
+file-asked-back p h = rw (natural-field p [] h) (closed-back (Request.File p))
+
+releasable-back : (p q : ℕ) → Natural64 p → Natural64 q → releasable_of (more (decimal p ∷ decimal q ∷ [])) ≡ Request.Releasable p q
+unfolding releasable_of
+releasable-back p q h g = rw (natural-field p (decimal q ∷ []) h, natural-field q [] g) (closed-back (Request.Releasable p q))
 
 settle-back : (room p : ℕ) (m : Month) (n : ℕ) (zs : List ℤ) → Natural64 p → Natural32 m.0 → n ≡ length zs
     → All (Holds false) zs → length zs ≤ room
@@ -250,6 +261,10 @@ words_back room (Request.Batch n) zs f h = at_name room 11 tt (hex_words (take n
 words_back room Request.RoleRetired zs f h = rw f (at_name room 12 tt [] ∙ ap plain (closed-back Request.RoleRetired))
 words_back room (Request.Delete p) zs f h = rw f.1 (at_name room 13 tt (decimal p ∷ []) ∙ ap plain (delete-back p f.0))
 words_back room Request.Report zs f h = rw f (at_name room 10 tt [] ∙ ap plain (closed-back Request.Report))
+words_back room (Request.File p) zs f h = rw f.1 (at_name room 14 tt (decimal p ∷ []) ∙ ap plain (file-asked-back p f.0))
+words_back room (Request.Releasable p q) zs f h =
+    rw f.2 (at_name room 15 tt (decimal p ∷ decimal q ∷ []) ∙ ap plain (releasable-back p q f.0 f.1))
+words_back room Request.Today zs f h = rw f (at_name room 16 tt [] ∙ ap plain (closed-back Request.Today))
 words_back room (Request.Error e) zs f h = absurd f
 
 -- Printing a call and parsing it again gives the call.

@@ -4,6 +4,7 @@ use Rattle.std.specs.Prelude.{cond, ℕ, List, [], ◌∷◌}
 use Rattle.words.specs.Text.{text}
 use Rattle.journal.specs.declared.Reason.{Reason}
 use Rattle.printing.specs.Decimals.{decimal, integer, joined}
+use Rattle.printing.specs.Dates.{date_text}
 use Rattle.printing.specs.declared.Answer.{Answer}
 
 -- "REASON is a few words for people".
@@ -23,7 +24,7 @@ reason_text Reason.FreshLater = text "fresh is not the first call"
 reason_text Reason.NoNewline = text "line without newline, not taken"
 reason_text Reason.ReadOnly = text "only questions, the journal is read"
 
--- The words of an answer.
+-- The words of an answer; "`releasable CENTS`" and "`today DAY DATE`".
 unfoldable pub answer_words : Answer → List (List ℕ)
 answer_words Answer.Done = text "done" ∷ []
 answer_words (Answer.Refused n) = text "refused" ∷ decimal n ∷ []
@@ -36,6 +37,8 @@ answer_words (Answer.Statement f c s d m n) =
     text "statement" ∷ decimal f ∷ decimal c ∷ decimal s ∷ decimal d ∷ decimal m ∷ decimal n ∷ []
 answer_words (Answer.Calls n) = text "calls" ∷ decimal n ∷ []
 answer_words (Answer.Special c) = text "special" ∷ decimal c ∷ []
+answer_words (Answer.Releasable c) = text "releasable" ∷ decimal c ∷ []
+answer_words (Answer.Today d) = text "today" ∷ decimal d.0 ∷ date_text d.0 ∷ []
 answer_words (Answer.Batch n) = text "batch" ∷ decimal n ∷ []
 answer_words (Answer.RefusedPair n i) = text "refused" ∷ decimal n ∷ decimal i ∷ []
 answer_words (Answer.Deletion a c) = text "deletion" ∷ decimal a ∷ decimal (cond c 1 0) ∷ []

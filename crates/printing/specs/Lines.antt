@@ -39,6 +39,9 @@ call_words (Request.Batch n) zs = text "batch" ∷ hex_words (take n zs)
 call_words Request.RoleRetired zs = text "role-retired" ∷ []
 call_words (Request.Delete p) zs = text "delete" ∷ decimal p ∷ []
 call_words Request.Report zs = text "report" ∷ []
+call_words (Request.File p) zs = text "file" ∷ decimal p ∷ []
+call_words (Request.Releasable p q) zs = text "releasable" ∷ decimal p ∷ decimal q ∷ []
+call_words Request.Today zs = text "today" ∷ []
 call_words (Request.Error e) zs = []
 
 -- A call as a line.
@@ -89,4 +92,7 @@ Fitting (Request.Batch n) zs = (n ≡ length zs) × All IsByte zs
 Fitting Request.RoleRetired zs = zs ≡ []
 Fitting (Request.Delete p) zs = Natural64 p × (zs ≡ [])
 Fitting Request.Report zs = zs ≡ []
+Fitting (Request.File p) zs = Natural64 p × (zs ≡ [])
+Fitting (Request.Releasable p q) zs = Natural64 p × Natural64 q × (zs ≡ [])
+Fitting Request.Today zs = zs ≡ []
 Fitting (Request.Error e) zs = ⊥

@@ -4,9 +4,12 @@ ghost use Rattle.words.specs.Text.{text};
 ghost use Rattle.printing.specs.Decimals.{decimal, joined};
 ghost use Rattle.printing.specs.Written.{followed};
 ghost use Rattle.printing.specs.Answers.{reason_text, answer_line};
+ghost use Rattle.printing.specs.Dates.{date_text};
 
 use crate::Answer;
+use crate::dates::OnDate;
 use crate::lent::{Out, Puts};
+use calendar::Day;
 use journal::Reason;
 
 // A few words on what is wrong with a line.
@@ -41,6 +44,14 @@ fn put_error(out: &mut Out, line: u64, why: Reason)
     out.spaced(why)
 }
 
+// today DAY DATE
+fn put_today(out: &mut Out, day: Day)
+    ensures { out.new ≡ followed out.old (joined (text "today" ∷ decimal day.0 ∷ date_text day.0 ∷ [])) }
+{
+    out.words(b"today", &[day.0 as u64]);
+    out.spaced(OnDate { day })
+}
+
 // An answer as its line.
 impl Puts for Answer {
     ghost text = { answer_line };
@@ -58,6 +69,8 @@ impl Puts for Answer {
             Answer::Statement(f, c, s, d, m, n) => out.words(b"statement", &[f, c, s, d, m, n]),
             Answer::Calls(n) => out.words(b"calls", &[n]),
             Answer::Special(cents) => out.words(b"special", &[cents]),
+            Answer::Releasable(cents) => out.words(b"releasable", &[cents]),
+            Answer::Today(day) => put_today(out, day),
             Answer::Batch(n) => out.words(b"batch", &[n]),
             Answer::RefusedPair(n, i) => out.words(b"refused", &[n as u64, i]),
             Answer::Deletion(amount, called) => {

@@ -112,6 +112,9 @@ impl<'a> Puts for CallLine<'a> {
             Request::RoleRetired => out.text(b"role-retired"),
             Request::Delete(p) => out.words(b"delete", &[p]),
             Request::Report => out.text(b"report"),
+            Request::File(p) => out.words(b"file", &[p]),
+            Request::Releasable(p, q) => out.words(b"releasable", &[p, q]),
+            Request::Today => out.text(b"today"),
         }
     }
 }

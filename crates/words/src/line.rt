@@ -21,7 +21,7 @@ fn is_control(b: u8) -> bool
 }
 
 // Where a line's comment begins, if it has one.
-fn comment_in(line: &[u8]) -> Option<usize>
+pub(crate) fn comment_in(line: &[u8]) -> Option<usize>
     ensures { result ≡ position (λ b. b == 35) line.now }
 {
     line.iter().position(|b| *b == b'#')
@@ -44,7 +44,7 @@ pub fn has_control(s: &[u8]) -> bool
 }
 
 // How many blanks a text begins with.
-fn blanks(s: &[u8]) -> usize
+pub(crate) fn blanks(s: &[u8]) -> usize
     ensures { result ≡ blanks_in s.now }
 {
     s.iter().take_while(|b| is_blank(**b)).count()

@@ -44,7 +44,7 @@ pub fn natural_of(w: &[u8]) -> Option<u64>
 
 // A natural number as a signed one, or the largest.
 #[tactic(auto, using(crate::proofs::NumberLaws::held_signed))]
-fn held_signed(n: u64) -> i64
+pub fn held_signed(n: u64) -> i64
     ensures { result ≡ pos (min n 9223372036854775807) }
 {
     0i64.saturating_add_unsigned(n)
@@ -52,7 +52,7 @@ fn held_signed(n: u64) -> i64
 
 // A natural number's negative, or the least.
 #[tactic(auto, using(crate::proofs::NumberLaws::held_negative))]
-fn negated(n: u64) -> i64
+pub fn negated(n: u64) -> i64
     ensures { result ≡ neg_ℤ (pos (min n 9223372036854775808)) }
 {
     0i64.saturating_sub_unsigned(n)

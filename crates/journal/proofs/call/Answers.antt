@@ -197,9 +197,75 @@ returns-then-eq-14 c =
     (here _ _ _ _ (c.eq-else-eq-13.ensures ∙ ap (pointwise eqb c.args.name.now) c.as_slice-else-eq-13.ensures) c.if-eq-14.true))))))))))))))
     (plain_is _ _ _ c.delete.ensures)
 
-pub returns-else-eq-14 : goal.returns-else-eq-14
+pub returns-then-eq-15 : goal.returns-then-eq-15
+unfolding named_call calls_of call_names
+returns-then-eq-15 c =
+    call_at 14 _ _ _ _ _
+    (later _ _ _ _ _ (c.eq.ensures ∙ ap (pointwise eqb c.args.name.now) c.as_slice.ensures) c.if-eq.false
+    (later _ _ _ _ _ (c.eq-else-eq.ensures ∙ ap (pointwise eqb c.args.name.now) c.as_slice-else-eq.ensures) c.if-eq-2.false
+    (later _ _ _ _ _ (c.eq-else-eq-2.ensures ∙ ap (pointwise eqb c.args.name.now) c.as_slice-else-eq-2.ensures) c.if-eq-3.false
+    (later _ _ _ _ _ (c.eq-else-eq-3.ensures ∙ ap (pointwise eqb c.args.name.now) c.as_slice-else-eq-3.ensures) c.if-eq-4.false
+    (later _ _ _ _ _ (c.eq-else-eq-4.ensures ∙ ap (pointwise eqb c.args.name.now) c.as_slice-else-eq-4.ensures) c.if-eq-5.false
+    (later _ _ _ _ _ (c.eq-else-eq-5.ensures ∙ ap (pointwise eqb c.args.name.now) c.as_slice-else-eq-5.ensures) c.if-eq-6.false
+    (later _ _ _ _ _ (c.eq-else-eq-6.ensures ∙ ap (pointwise eqb c.args.name.now) c.as_slice-else-eq-6.ensures) c.if-eq-7.false
+    (later _ _ _ _ _ (c.eq-else-eq-7.ensures ∙ ap (pointwise eqb c.args.name.now) c.as_slice-else-eq-7.ensures) c.if-eq-8.false
+    (later _ _ _ _ _ (c.eq-else-eq-8.ensures ∙ ap (pointwise eqb c.args.name.now) c.as_slice-else-eq-8.ensures) c.if-eq-9.false
+    (later _ _ _ _ _ (c.eq-else-eq-9.ensures ∙ ap (pointwise eqb c.args.name.now) c.as_slice-else-eq-9.ensures) c.if-eq-10.false
+    (later _ _ _ _ _ (c.eq-else-eq-10.ensures ∙ ap (pointwise eqb c.args.name.now) c.as_slice-else-eq-10.ensures) c.if-eq-11.false
+    (later _ _ _ _ _ (c.eq-else-eq-11.ensures ∙ ap (pointwise eqb c.args.name.now) c.as_slice-else-eq-11.ensures) c.if-eq-12.false
+    (later _ _ _ _ _ (c.eq-else-eq-12.ensures ∙ ap (pointwise eqb c.args.name.now) c.as_slice-else-eq-12.ensures) c.if-eq-13.false
+    (later _ _ _ _ _ (c.eq-else-eq-13.ensures ∙ ap (pointwise eqb c.args.name.now) c.as_slice-else-eq-13.ensures) c.if-eq-14.false
+    (here _ _ _ _ (c.eq-else-eq-14.ensures ∙ ap (pointwise eqb c.args.name.now) c.as_slice-else-eq-14.ensures) c.if-eq-15.true)))))))))))))))
+    (plain_is _ _ _ c.file.ensures)
+
+pub returns-then-eq-16 : goal.returns-then-eq-16
+unfolding named_call calls_of call_names
+returns-then-eq-16 c =
+    call_at 15 _ _ _ _ _
+    (later _ _ _ _ _ (c.eq.ensures ∙ ap (pointwise eqb c.args.name.now) c.as_slice.ensures) c.if-eq.false
+    (later _ _ _ _ _ (c.eq-else-eq.ensures ∙ ap (pointwise eqb c.args.name.now) c.as_slice-else-eq.ensures) c.if-eq-2.false
+    (later _ _ _ _ _ (c.eq-else-eq-2.ensures ∙ ap (pointwise eqb c.args.name.now) c.as_slice-else-eq-2.ensures) c.if-eq-3.false
+    (later _ _ _ _ _ (c.eq-else-eq-3.ensures ∙ ap (pointwise eqb c.args.name.now) c.as_slice-else-eq-3.ensures) c.if-eq-4.false
+    (later _ _ _ _ _ (c.eq-else-eq-4.ensures ∙ ap (pointwise eqb c.args.name.now) c.as_slice-else-eq-4.ensures) c.if-eq-5.false
+    (later _ _ _ _ _ (c.eq-else-eq-5.ensures ∙ ap (pointwise eqb c.args.name.now) c.as_slice-else-eq-5.ensures) c.if-eq-6.false
+    (later _ _ _ _ _ (c.eq-else-eq-6.ensures ∙ ap (pointwise eqb c.args.name.now) c.as_slice-else-eq-6.ensures) c.if-eq-7.false
+    (later _ _ _ _ _ (c.eq-else-eq-7.ensures ∙ ap (pointwise eqb c.args.name.now) c.as_slice-else-eq-7.ensures) c.if-eq-8.false
+    (later _ _ _ _ _ (c.eq-else-eq-8.ensures ∙ ap (pointwise eqb c.args.name.now) c.as_slice-else-eq-8.ensures) c.if-eq-9.false
+    (later _ _ _ _ _ (c.eq-else-eq-9.ensures ∙ ap (pointwise eqb c.args.name.now) c.as_slice-else-eq-9.ensures) c.if-eq-10.false
+    (later _ _ _ _ _ (c.eq-else-eq-10.ensures ∙ ap (pointwise eqb c.args.name.now) c.as_slice-else-eq-10.ensures) c.if-eq-11.false
+    (later _ _ _ _ _ (c.eq-else-eq-11.ensures ∙ ap (pointwise eqb c.args.name.now) c.as_slice-else-eq-11.ensures) c.if-eq-12.false
+    (later _ _ _ _ _ (c.eq-else-eq-12.ensures ∙ ap (pointwise eqb c.args.name.now) c.as_slice-else-eq-12.ensures) c.if-eq-13.false
+    (later _ _ _ _ _ (c.eq-else-eq-13.ensures ∙ ap (pointwise eqb c.args.name.now) c.as_slice-else-eq-13.ensures) c.if-eq-14.false
+    (later _ _ _ _ _ (c.eq-else-eq-14.ensures ∙ ap (pointwise eqb c.args.name.now) c.as_slice-else-eq-14.ensures) c.if-eq-15.false
+    (here _ _ _ _ (c.eq-else-eq-15.ensures ∙ ap (pointwise eqb c.args.name.now) c.as_slice-else-eq-15.ensures) c.if-eq-16.true))))))))))))))))
+    (plain_is _ _ _ c.releasable.ensures)
+
+pub returns-then-eq-17 : goal.returns-then-eq-17
+unfolding named_call calls_of call_names
+returns-then-eq-17 c =
+    call_at 16 _ _ _ _ _
+    (later _ _ _ _ _ (c.eq.ensures ∙ ap (pointwise eqb c.args.name.now) c.as_slice.ensures) c.if-eq.false
+    (later _ _ _ _ _ (c.eq-else-eq.ensures ∙ ap (pointwise eqb c.args.name.now) c.as_slice-else-eq.ensures) c.if-eq-2.false
+    (later _ _ _ _ _ (c.eq-else-eq-2.ensures ∙ ap (pointwise eqb c.args.name.now) c.as_slice-else-eq-2.ensures) c.if-eq-3.false
+    (later _ _ _ _ _ (c.eq-else-eq-3.ensures ∙ ap (pointwise eqb c.args.name.now) c.as_slice-else-eq-3.ensures) c.if-eq-4.false
+    (later _ _ _ _ _ (c.eq-else-eq-4.ensures ∙ ap (pointwise eqb c.args.name.now) c.as_slice-else-eq-4.ensures) c.if-eq-5.false
+    (later _ _ _ _ _ (c.eq-else-eq-5.ensures ∙ ap (pointwise eqb c.args.name.now) c.as_slice-else-eq-5.ensures) c.if-eq-6.false
+    (later _ _ _ _ _ (c.eq-else-eq-6.ensures ∙ ap (pointwise eqb c.args.name.now) c.as_slice-else-eq-6.ensures) c.if-eq-7.false
+    (later _ _ _ _ _ (c.eq-else-eq-7.ensures ∙ ap (pointwise eqb c.args.name.now) c.as_slice-else-eq-7.ensures) c.if-eq-8.false
+    (later _ _ _ _ _ (c.eq-else-eq-8.ensures ∙ ap (pointwise eqb c.args.name.now) c.as_slice-else-eq-8.ensures) c.if-eq-9.false
+    (later _ _ _ _ _ (c.eq-else-eq-9.ensures ∙ ap (pointwise eqb c.args.name.now) c.as_slice-else-eq-9.ensures) c.if-eq-10.false
+    (later _ _ _ _ _ (c.eq-else-eq-10.ensures ∙ ap (pointwise eqb c.args.name.now) c.as_slice-else-eq-10.ensures) c.if-eq-11.false
+    (later _ _ _ _ _ (c.eq-else-eq-11.ensures ∙ ap (pointwise eqb c.args.name.now) c.as_slice-else-eq-11.ensures) c.if-eq-12.false
+    (later _ _ _ _ _ (c.eq-else-eq-12.ensures ∙ ap (pointwise eqb c.args.name.now) c.as_slice-else-eq-12.ensures) c.if-eq-13.false
+    (later _ _ _ _ _ (c.eq-else-eq-13.ensures ∙ ap (pointwise eqb c.args.name.now) c.as_slice-else-eq-13.ensures) c.if-eq-14.false
+    (later _ _ _ _ _ (c.eq-else-eq-14.ensures ∙ ap (pointwise eqb c.args.name.now) c.as_slice-else-eq-14.ensures) c.if-eq-15.false
+    (later _ _ _ _ _ (c.eq-else-eq-15.ensures ∙ ap (pointwise eqb c.args.name.now) c.as_slice-else-eq-15.ensures) c.if-eq-16.false
+    (here _ _ _ _ (c.eq-else-eq-16.ensures ∙ ap (pointwise eqb c.args.name.now) c.as_slice-else-eq-16.ensures) c.if-eq-17.true)))))))))))))))))
+    (plain_is _ _ _ c.closed-then-eq-17.ensures.whole)
+
+pub returns-else-eq-17 : goal.returns-else-eq-17
 unfolding call_names
-returns-else-eq-14 c =
+returns-else-eq-17 c =
     no_call _ _ _
     (later _ _ _ _ _ (c.eq.ensures ∙ ap (pointwise eqb c.args.name.now) c.as_slice.ensures) c.if-eq.false
     (later _ _ _ _ _ (c.eq-else-eq.ensures ∙ ap (pointwise eqb c.args.name.now) c.as_slice-else-eq.ensures) c.if-eq-2.false
@@ -215,4 +281,7 @@ returns-else-eq-14 c =
     (later _ _ _ _ _ (c.eq-else-eq-11.ensures ∙ ap (pointwise eqb c.args.name.now) c.as_slice-else-eq-11.ensures) c.if-eq-12.false
     (later _ _ _ _ _ (c.eq-else-eq-12.ensures ∙ ap (pointwise eqb c.args.name.now) c.as_slice-else-eq-12.ensures) c.if-eq-13.false
     (later _ _ _ _ _ (c.eq-else-eq-13.ensures ∙ ap (pointwise eqb c.args.name.now) c.as_slice-else-eq-13.ensures) c.if-eq-14.false
-    (no_more _)))))))))))))))
+    (later _ _ _ _ _ (c.eq-else-eq-14.ensures ∙ ap (pointwise eqb c.args.name.now) c.as_slice-else-eq-14.ensures) c.if-eq-15.false
+    (later _ _ _ _ _ (c.eq-else-eq-15.ensures ∙ ap (pointwise eqb c.args.name.now) c.as_slice-else-eq-15.ensures) c.if-eq-16.false
+    (later _ _ _ _ _ (c.eq-else-eq-16.ensures ∙ ap (pointwise eqb c.args.name.now) c.as_slice-else-eq-16.ensures) c.if-eq-17.false
+    (no_more _))))))))))))))))))

@@ -8,5 +8,5 @@ use Rattle.journal.proofs.lists.fill.Given as goal
 
 abbrev pub invariant-loop-i : goal.invariant-loop-i
 invariant-loop-i l =
-    Filling (next_numbers l.marks (length l.fn.numbers) l.count (more (left l.fn.words)))
-    (next_numbers l.marks (length l.fn.numbers - l.i) (l.count - l.i) (more (left l.words))) l.fn.numbers l.numbers l.i
+    Filling (next_numbers l.due (length l.fn.numbers) l.count (more (left l.fn.words)))
+    (next_numbers l.due (length l.fn.numbers - l.i) (l.count - l.i) (more (left l.words))) l.fn.numbers l.numbers l.i
