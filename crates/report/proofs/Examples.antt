@@ -8,8 +8,8 @@ use Rattle.file.specs.Answer.{stated, decide}
 use Rattle.book.specs.Account.{fresh_book, file_at, if_numbered, if_admitted, answer}
 use Rattle.journal.specs.Names.{role_names}
 use Rattle.printing.specs.Decimals.{numeral, decimal, spaced, joined}
-use Rattle.report.specs.Columns.{padded, digits, fixed}
-use Rattle.report.specs.Dates.{dated_text, date_text}
+use Rattle.printing.specs.Columns.{padded, digits, fixed}
+use Rattle.printing.specs.Dates.{dated_text, date_text}
 use Rattle.report.specs.Table.{in_columns, table_line, heading, role_text, line_of, row, rows, admitted_below, admitted_count, title_line, report_text}
 
 -- Amounts and charges: a whole number, less than a whole, a tenth with its zero, nothing.

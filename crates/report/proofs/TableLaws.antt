@@ -25,7 +25,7 @@ use Rattle.journal.specs.Names.{role_names}
 use Rattle.printing.specs.Decimals.{decimal, spaced, joined}
 use Rattle.printing.specs.Written.{Sheet, followed}
 use Rattle.printing.specs.WrittenLaws.{followed_none, followed_twice, joined_one, joined_more}
-use Rattle.report.specs.Dates.{date_text}
+use Rattle.printing.specs.Dates.{date_text}
 use Rattle.report.specs.Table.{role_text, line_of, row, rows, admitted_below, admitted_count, title_line}
 
 -- How many participants are admitted.

@@ -1,3 +1,3 @@
-pub mod Columns
-pub mod Dates
 pub mod Table
+pub mod FileText
+pub mod Csv

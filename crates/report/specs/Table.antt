@@ -9,8 +9,8 @@ use Rattle.book.specs.Account.{answer, file_at}
 use Rattle.book.specs.Call.{statement}
 use Rattle.journal.specs.Names.{role_names}
 use Rattle.printing.specs.Decimals.{decimal, joined}
-use Rattle.report.specs.Columns.{padded, fixed}
-use Rattle.report.specs.Dates.{date_text}
+use Rattle.printing.specs.Columns.{padded, fixed}
+use Rattle.printing.specs.Dates.{date_text}
 
 -- The widths of the columns: participant, role, firm amount, cover, shortfall, days charged, accrued charge.
 abbrev pub widths : List ℕ

@@ -1,4 +1,4 @@
-// The report: a table of all admitted participants, for people.
+// The report, a table of all admitted participants, for people and as comma-separated values; and the file of one participant.
 #![tactic(auto)]
 
 ghost use Rattle.std.specs.Prelude.{◌≡◌};
@@ -7,14 +7,20 @@ ghost use Rattle.layout.specs.WellFormed.{WellFormed};
 ghost use Rattle.printing.specs.Written.{followed};
 ghost use Rattle.report.specs.Table.{title_line, heading, report_text};
 
-use date::OnDate;
-use printing::Out;
+pub use csv::put_report_csv;
+pub use file_text::put_file;
+use printing::{OnDate, Out};
+pub use rows::role_name;
 use rows::{admitted_count, put_rows};
 use std::marker::Model;
 
-mod columns; // columns.rt: texts and numbers in columns
-mod date; // date.rt: a day as people write it
+mod csv; // csv.rt: the report as comma-separated values
+mod file_text; // file_text.rt: the file of a participant
+mod lines; // lines.rt: a line of a file, behind its label
+mod months; // months.rt: the lines of the recorded months
+mod positions; // positions.rt: the lines of the positions and of the open calls
 mod rows; // rows.rt: the lines of the table
+mod signed; // signed.rt: amounts that may be below zero
 
 // The words of a book that is well formed.
 // Kept: beside book's BookWords, which has an array of its own: these words are lent, and one type for both would take a trait of what holds words.
@@ -46,7 +52,7 @@ fn put_title(out: &mut Out, book: &BookWords)
 }
 
 // The names of the columns.
-#[tactic(auto, unfolding(crate::specs::Table::heading, crate::specs::Table::table_line, crate::specs::Table::in_columns, crate::specs::Columns::padded, printing::specs::Decimals::joined, printing::specs::Decimals::spaced))]
+#[tactic(auto, unfolding(crate::specs::Table::heading, crate::specs::Table::table_line, crate::specs::Table::in_columns, printing::specs::Columns::padded, printing::specs::Decimals::joined, printing::specs::Decimals::spaced))]
 fn put_heading(out: &mut Out)
     ensures { out.new ≡ followed out.old heading }
 {

@@ -6,9 +6,8 @@ ghost use Rattle.printing.specs.Written.{followed};
 ghost use Rattle.report.specs.Table.{role_text, line_of, row, rows, admitted_count};
 
 use crate::BookWords;
-use crate::columns::{Column, Fixed};
 use file::Statement;
-use printing::Out;
+use printing::{Column, Fixed, Out};
 
 // The names of the roles, by their numbers.
 // Kept: the names of `journal`'s ROLES again: there they are one text, which is searched for a name, and has no name by its number.
@@ -23,14 +22,14 @@ const ROLE_NAMES: [&[u8]; 6] = [
 
 // A role's name; nothing for a number that is no role.
 #[tactic(auto, using(crate::proofs::TableLaws::no_role), unfolding(crate::specs::Table::role_text, journal::specs::Names::role_names))]
-fn role_name(role: u64) -> &'static [u8]
+pub fn role_name(role: u64) -> &'static [u8]
     ensures { result.now ≡ role_text role }
 {
     ROLE_NAMES.get(role as usize).copied().unwrap_or(b"")
 }
 
 // An amount of cents in the column of euros.
-fn euros(cents: u64) -> Column<Fixed<2>>
+pub fn euros(cents: u64) -> Column<Fixed<2>>
     ensures { result ≡ record { width = 17; holds = record { parts = cents } } }
 {
     Column {

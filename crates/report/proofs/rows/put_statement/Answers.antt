@@ -1,7 +1,7 @@
 -- `report::rows::put_statement` meets its contract: the seven columns and the end of the line.
 -- Assumes nothing.
 use Rattle.printing.specs.Decimals.{decimal}
-use Rattle.report.specs.Columns.{padded, fixed}
+use Rattle.printing.specs.Columns.{padded, fixed}
 use Rattle.report.specs.Table.{role_text, line_of, table_line, in_columns}
 use Rattle.report.proofs.TableLaws.{seven_columns}
 use Rattle.report.proofs.rows.put_statement.Goals as goal

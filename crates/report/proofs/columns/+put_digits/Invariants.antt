@@ -1,6 +1,0 @@
--- The measure of `report::columns::put_digits` is how many digits are asked for: those before the last are those of a tenth.
--- Assumes nothing.
-use Rattle.report.proofs.columns.+put_digits.Given as goal
-
-abbrev pub decreases-put_digits : goal.decreases-put_digits
-decreases-put_digits l = l.count
