@@ -1,0 +1,5 @@
+mod Greatest
+mod Left
+mod Held
+mod Books
+mod Examples

@@ -1,0 +1,2 @@
+pub mod Releasable
+pub mod Examples
