@@ -1,0 +1,5 @@
+pub mod Items
+pub mod ByBook
+pub mod State
+pub mod Lines
+pub mod Printed
