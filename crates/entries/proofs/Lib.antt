@@ -1,0 +1,4 @@
+pub mod EntryLaws
+pub mod LineLaws
+pub mod FileLaws
+pub mod Examples

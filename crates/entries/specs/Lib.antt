@@ -1,0 +1,5 @@
+pub mod Months
+pub mod Entries
+pub mod Lines
+pub mod Openings
+pub mod Calls
