@@ -1,0 +1,9 @@
+pub mod Extracting
+pub mod Extract
+pub mod FigureLaws
+pub mod PartLaws
+pub mod SessionLaws
+pub mod LineLaws
+pub mod LineBack
+pub mod Examples
+pub mod TitleLaws

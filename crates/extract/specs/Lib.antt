@@ -1,0 +1,3 @@
+pub mod Extract
+pub mod Lines
+pub mod Asks
