@@ -1,0 +1,4 @@
+pub mod Scale
+pub mod Marks
+pub mod Ticks
+pub mod Picture
