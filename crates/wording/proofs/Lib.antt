@@ -1,0 +1,3 @@
+pub mod WordingLaws
+pub mod WordLaws
+pub mod Examples

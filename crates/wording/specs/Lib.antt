@@ -1,0 +1,2 @@
+pub mod WrongWord
+pub mod Wording
