@@ -25,7 +25,7 @@ use Rattle.book.proofs.History.Life.{given, given-first}
 use Rattle.journal.specs.declared.Request.{Request}
 use Rattle.printing.specs.declared.Answer.{Answer}
 use Rattle.answering.specs.Shown.{shown}
-use Rattle.answering.specs.Asked.{Asked, call, fresh, guarantee, nothing, role_retired, fault}
+use Rattle.answering.specs.Asked.{Asked, call, fresh, guarantee, nothing, role_retired, file_asked, releasable_asked, today_asked, fault}
 use Rattle.answering.specs.Asked.{asked, answer_to, book_after}
 use Rattle.answering.specs.Kept.{takes}
 use Rattle.answering.specs.InWords.{AnsweredWords}
@@ -54,6 +54,9 @@ reached-after rule b (fresh d) r =
 reached-after rule b (guarantee x) r = r
 reached-after rule b nothing r = r
 reached-after rule b role_retired r = r
+reached-after rule b (file_asked p) r = r
+reached-after rule b (releasable_asked p k) r = r
+reached-after rule b today_asked r = r
 reached-after rule b (fault e) r = r
 
 -- A line that leaves well-formed words.

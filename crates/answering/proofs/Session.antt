@@ -31,7 +31,7 @@ use Rattle.book.specs.Account.{admits_retired, unless_retired}
 use Rattle.book.proofs.History.Life.{life}
 use Rattle.book.proofs.History.Lift.{decided}
 use Rattle.answering.specs.Shown.{shown}
-use Rattle.answering.specs.Asked.{Asked, call, fresh, guarantee, nothing, role_retired, fault, answer_to, book_after}
+use Rattle.answering.specs.Asked.{Asked, call, fresh, guarantee, nothing, role_retired, file_asked, releasable_asked, today_asked, fault, answer_to, book_after}
 use Rattle.answering.specs.Kept.{takes}
 use Rattle.answering.specs.Session.{rule_behind, book_of, Since, history_of, since_with, since, events_since, Session}
 
@@ -88,6 +88,9 @@ leads (guarantee x ∷ before) = leads before
 leads (nothing ∷ before) = leads before
 leads (role_retired ∷ before) =
     record { within = (leads before).within; book = (leads before).book; first = λ old. absurd (not-old old) }
+leads (file_asked p ∷ before) = leads before
+leads (releasable_asked p k ∷ before) = leads before
+leads (today_asked ∷ before) = leads before
 leads (fault e ∷ before) = leads before
 
 -- The claim about a whole session, for every list of lines.
@@ -184,4 +187,7 @@ not_taken rule b n (fresh d) h = rw (untaken (fresh_answer d) h (fresh-untold d)
 not_taken rule b n (guarantee x) h = refl
 not_taken rule b n nothing h = refl
 not_taken rule b n role_retired h = refl
+not_taken rule b n (file_asked p) h = refl
+not_taken rule b n (releasable_asked p k) h = refl
+not_taken rule b n today_asked h = refl
 not_taken rule b n (fault e) h = refl

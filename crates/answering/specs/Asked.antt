@@ -10,11 +10,12 @@ use Rattle.book.specs.Call.{Call, on, admit, lodge, release, settle, annual_run,
 use Rattle.book.specs.Rule.{Rule}
 use Rattle.book.specs.Account.{fresh_answer, fresh_book, answer, step}
 use Rattle.book.specs.Reached.{ReachedUnder}
+use Rattle.inquiry.specs.Releasable.{releasable_in}
 use Rattle.journal.specs.declared.Reason.{Reason}
 use Rattle.journal.specs.declared.Request.{Request}
 use Rattle.journal.specs.declared.Lengths.{Lengths}
 use Rattle.printing.specs.declared.Answer.{Answer}
-use Rattle.answering.specs.Shown.{shown, guarantee_shown}
+use Rattle.answering.specs.Shown.{shown, file_shown, releasable_shown, guarantee_shown}
 
 -- What a line asks.
 pub data Asked : Type 0 where
@@ -28,6 +29,10 @@ pub data Asked : Type 0 where
   nothing : Asked
   -- paper 02, Ask 3: the end of the first stretch of a journal
   role_retired : Asked
+  -- three questions: a participant's file, what may be released at a position of a participant's, and the book's today
+  file_asked : (participant : ℕ) → Asked
+  releasable_asked : (participant position : ℕ) → Asked
+  today_asked : Asked
   -- no call
   fault : Reason → Asked
 
@@ -80,6 +85,9 @@ asked (Request.Batch n) zs = call (batch (batch_bytes n zs))
 asked Request.RoleRetired zs = role_retired
 asked (Request.Delete p) zs = call (on p delete)
 asked Request.Report zs = nothing
+asked (Request.File p) zs = file_asked p
+asked (Request.Releasable p k) zs = releasable_asked p k
+asked Request.Today zs = today_asked
 asked (Request.Error e) zs = fault e
 
 -- What is answered to line number n on book b, its call being made under a rule.
@@ -89,15 +97,22 @@ answer_to rule b n (fresh d) = shown (fresh_answer d)
 answer_to rule b n (guarantee x) = guarantee_shown x
 answer_to rule b n nothing = Answer.Nothing
 answer_to rule b n role_retired = Answer.Nothing
+answer_to rule b n (file_asked p) = file_shown (shown (answer rule b (statement p)))
+answer_to rule b n (releasable_asked p k) = releasable_shown (releasable_in b p k)
+answer_to rule b n today_asked = Answer.Today b.today
 answer_to rule b n (fault e) = Answer.Error n e
 
--- The book that a line leaves: "`fresh` begins a new one", unless it is refused; "a line that is no call: the book is as before".
+-- The book that a line leaves: "`fresh` begins a new one", unless it is refused; "a line that is no call: the book is as before", and so it is
+-- behind a question.
 abbrev pub book_after : Rule → Book → Asked → Book
 book_after rule b (call c) = step rule b c
 book_after rule b (fresh d) = cond (accepted (fresh_answer d)) (fresh_book d) b
 book_after rule b (guarantee x) = b
 book_after rule b nothing = b
 book_after rule b role_retired = b
+book_after rule b (file_asked p) = b
+book_after rule b (releasable_asked p k) = b
+book_after rule b today_asked = b
 book_after rule b (fault e) = b
 
 -- What line number n gives on book b under a rule: the answer x and the book b' that it leaves.

@@ -1,6 +1,7 @@
 -- 'Two ways to run it': what a kept journal takes.
 -- Assumes nothing.
 use Rattle.std.specs.Prelude.{ℕ, min, Bool, true, false, cond, ◌&&◌, List, [], ◌∷◌, ◌++◌, ltb, length, take, ℤ}
+use Rattle.words.specs.Comments.{commented}
 use Rattle.journal.specs.Grammar.{length_list, total}
 use Rattle.journal.specs.declared.Reason.{Reason}
 use Rattle.journal.specs.declared.Request.{Request}
@@ -63,9 +64,10 @@ numbers_in (Request.Special n) most = min (total (length_list n)) most
 numbers_in (Request.Batch n) most = min n most
 numbers_in r most = 0
 
--- A call as a line of the journal, in its numeric form, with its newline.
-unfoldable pub kept_line : Request → List ℤ → List ℕ
-kept_line r zs = printed r (take (numbers_in r (length zs)) zs) ++ (10 ∷ [])
+-- A call as a line of the journal, in its numeric form, with a reference behind it and its newline. "A comment behind an accepted call is kept in the
+-- journal behind the call's numeric form."
+unfoldable pub kept_line : Request → List ℤ → (reference : List ℕ) → List ℕ
+kept_line r zs reference = printed r (take (numbers_in r (length zs)) zs) ++ commented reference ++ (10 ∷ [])
 
 -- That line, with its newline.
 abbrev pub retired_line : List ℕ

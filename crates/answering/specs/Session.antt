@@ -10,7 +10,7 @@ use Rattle.book.specs.Reading.Events.{Event}
 use Rattle.book.specs.Reading.Decisions.{decision, events_of}
 use Rattle.book.specs.Life.{Life}
 use Rattle.answering.specs.Shown.{shown}
-use Rattle.answering.specs.Asked.{Asked, call, fresh, guarantee, nothing, role_retired, fault, answer_to, book_after}
+use Rattle.answering.specs.Asked.{Asked, call, fresh, guarantee, nothing, role_retired, file_asked, releasable_asked, today_asked, fault, answer_to, book_after}
 
 -- Paper 02, Ask 3: the rule that the next line's call is made under. Lines begin as a journal does, with a first stretch, which lasts until the line that
 -- ends it; what is typed stands behind that line.
@@ -21,6 +21,9 @@ rule_behind (fresh d ∷ before) = rule_behind before
 rule_behind (guarantee x ∷ before) = rule_behind before
 rule_behind (nothing ∷ before) = rule_behind before
 rule_behind (role_retired ∷ before) = new_rule
+rule_behind (file_asked p ∷ before) = rule_behind before
+rule_behind (releasable_asked p k ∷ before) = rule_behind before
+rule_behind (today_asked ∷ before) = rule_behind before
 rule_behind (fault e ∷ before) = rule_behind before
 
 -- The book that lines lead to: "Before any `fresh` line the book is the fresh book of day 0".
@@ -50,6 +53,9 @@ since (fresh d ∷ before) = cond (ltb 29219 d) (since before) (record { start =
 since (guarantee x ∷ before) = since before
 since (nothing ∷ before) = since before
 since (role_retired ∷ before) = since before
+since (file_asked p ∷ before) = since before
+since (releasable_asked p k ∷ before) = since before
+since (today_asked ∷ before) = since before
 since (fault e ∷ before) = since before
 
 -- The events of the history that lines make.

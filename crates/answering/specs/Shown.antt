@@ -24,6 +24,16 @@ shown (Said.batched n) = Answer.Batch n
 shown (Said.refused_pair n i) = Answer.RefusedPair n i
 shown (Said.deletion a calls) = Answer.Deletion a calls
 
+-- "`file P`: refused 1, 2": the refusal of the participant's statement; else nothing, since the file is shown as the report is.
+abbrev pub file_shown : Answer → Answer
+file_shown (Answer.Refused n) = Answer.Refused n
+file_shown a = Answer.Nothing
+
+-- "`releasable CENTS`: the most that `release P POSITION ..` would be accepted for now, 0 if none; refused 1, 2, 5".
+abbrev pub releasable_shown : Result ℕ Refusal → Answer
+releasable_shown (Ok cents) = Answer.Releasable cents
+releasable_shown (Err r) = Answer.Refused (number_of r)
+
 -- "special CENTS", or the number of the refusal.
 abbrev pub guarantee_shown : Result ℕ Refusal → Answer
 guarantee_shown (Ok cents) = Answer.Special cents

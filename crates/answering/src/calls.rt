@@ -6,6 +6,7 @@ ghost use Rattle.answering.specs.InWords.{AnsweredWords};
 
 use crate::batches::load_file;
 use crate::guarantee::guarantee;
+use crate::questions::{asked_file, releasable};
 use crate::shown::{Shown, given};
 use calendar::{Day, LAST_DAY};
 use file::Position;
@@ -58,6 +59,9 @@ pub fn apply(book: &mut [u64], request: Request, numbers: &[i64], line: u64) -> 
             )
         },
         Request::Delete(p) => book::delete(book, p).shown(),
+        Request::File(p) => asked_file(book, p),
+        Request::Releasable(p, position) => releasable(book, p, position),
+        Request::Today => Answer::Today(book::today(book)),
         Request::Error(why) => Answer::Error(line, why),
     }
 }

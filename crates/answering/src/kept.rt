@@ -2,6 +2,7 @@
 ghost use Rattle.std.specs.Prelude.{◌≡◌, ◌+◌, ◌-◌, ◌^◌, min};
 ghost use Rattle.std.specs.List.{fold};
 ghost use Rattle.journal.specs.Grammar.{length_list, total};
+ghost use Rattle.words.specs.Comments.{commented};
 ghost use Rattle.printing.specs.Written.{followed};
 ghost use Rattle.answering.specs.Kept.{takes, refuses, changes, is_fresh, is_role_retired, fresh_first, numbers_in, kept_line};
 
@@ -106,15 +107,28 @@ fn number_count(request: Request, most: usize) -> usize
     }
 }
 
-// Writes the line of a kept call: its numeric form and a newline.
+// A reference as it stands behind a call; nothing where there is none.
+#[tactic(auto, using(crate::proofs::KeptLaws::commented_none, crate::proofs::KeptLaws::commented_some))]
+fn put_commented(out: &mut Out, reference: &[u8])
+    ensures { out.new ≡ followed out.old (commented reference.now) }
+{
+    if !reference.is_empty() {
+        out.text(b" # ");
+        out.text(reference)
+    }
+}
+
+// Writes the line of a kept call: its numeric form, its reference and a newline.
 // Kept: a request and its row apart: the row is the whole lent slice, while `CallLine` holds the request's own numbers alone.
-#[tactic(auto, unfolding(crate::specs::Kept::kept_line))]
-pub fn put_kept(out: &mut Out, request: Request, numbers: &[i64])
-    ensures { out.new ≡ followed out.old (kept_line request numbers.now) }
+#[tactic(auto, using(printing::specs::WrittenLaws::followed_twice), unfolding(crate::specs::Kept::kept_line))]
+pub fn put_kept(out: &mut Out, request: Request, numbers: &[i64], reference: &[u8])
+    ensures { out.new ≡ followed out.old (kept_line request numbers.now reference.now) }
 {
     let n = number_count(request, numbers.len());
-    out.line(CallLine {
+    out.put(CallLine {
         request,
         numbers: &numbers[..n],
-    })
+    });
+    put_commented(out, reference);
+    out.byte(b'\n')
 }

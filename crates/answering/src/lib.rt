@@ -5,6 +5,7 @@ mod shown; // shown.rt: the answers of the book's calls as answers of the journa
 mod rows; // rows.rt: what a rule makes of numbers in a row
 mod guarantee; // guarantee.rt: the special guarantee of lists in a row
 mod batches; // batches.rt: a batch whose bytes stand as numbers in a row
+mod questions; // questions.rt: the questions that are none of the papers' calls
 mod calls; // calls.rt: the application of one call
 mod kept; // kept.rt: what a kept journal takes
 mod requests; // requests.rt: the request that a line of an input is

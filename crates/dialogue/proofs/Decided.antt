@@ -3,11 +3,14 @@
 use Rattle.std.proofs.Common.{◌≡◌, ℕ, Bool, true, false, cond, not, ◌&&◌, List, [], ◌∷◌, ◌++◌, ℤ, sym, refl, ap, ◌∙◌}
 use Rattle.layout.specs.Book.{Book}
 use Rattle.book.specs.Rule.{Rule, old_rule, new_rule}
+use Rattle.book.specs.Call.{statement}
+use Rattle.inquiry.specs.Releasable.{releasable_in}
 use Rattle.journal.specs.Grammar.{parsed}
 use Rattle.journal.specs.declared.Request.{Request}
 use Rattle.printing.specs.declared.Answer.{Answer}
-use Rattle.answering.specs.Asked.{Asked, call, fresh, guarantee, nothing, role_retired, fault, asked, answer_to, book_after}
+use Rattle.answering.specs.Asked.{Asked, call, fresh, guarantee, nothing, role_retired, file_asked, releasable_asked, today_asked, fault, asked, answer_to, book_after}
 use Rattle.answering.specs.Kept.{takes, refuses, is_role_retired}
+use Rattle.answering.specs.Shown.{file_shown, releasable_shown}
 use Rattle.answering.specs.Session.{rule_behind, book_of, events_since}
 use Rattle.answering.proofs.Session.{session}
 use Rattle.dialogue.specs.declared.Way.{Way}
@@ -17,6 +20,11 @@ use Rattle.dialogue.specs.Said.{said, tabled}
 use Rattle.dialogue.specs.Turns.{State, next, ends_stretch, ends_at, further, answer_of, is_kept, after, bytes_of, ended, all_bytes}
 use Rattle.dialogue.specs.Decided.{Led, decided_answer, read_book, decided_to, decided_of, decided_place, decided_bytes}
 
+-- The book is that of the readings.
+decided-book : (lines : List Asked) → book_of lines ≡ read_book lines
+unfolding events_since
+decided-book lines = (session lines).book ∙ (session lines).life.kept
+
 -- An answer is the decided one.
 decided-answer : (seen : List Asked) (n : ℕ) (a : Asked) → answer_to (rule_behind seen) (book_of seen) n a ≡ decided_answer seen n a
 decided-answer seen n (call c) = (session seen).answered n c
@@ -24,12 +32,10 @@ decided-answer seen n (fresh d) = refl
 decided-answer seen n (guarantee x) = refl
 decided-answer seen n nothing = refl
 decided-answer seen n role_retired = refl
+decided-answer seen n (file_asked p) = ap file_shown ((session seen).answered n (statement p))
+decided-answer seen n (releasable_asked p k) = ap (λ (b : Book). releasable_shown (releasable_in b p k)) (decided-book seen)
+decided-answer seen n today_asked = ap (λ (b : Book). Answer.Today b.today) (decided-book seen)
 decided-answer seen n (fault e) = refl
-
--- The book is that of the readings.
-decided-book : (lines : List Asked) → book_of lines ≡ read_book lines
-unfolding events_since
-decided-book lines = (session lines).book ∙ (session lines).life.kept
 
 book-more : (seen : List Asked) (a : Asked) → book_of (a ∷ seen) ≡ book_after (rule_behind seen) (book_of seen) a
 unfolding book_of
@@ -88,8 +94,8 @@ module _ (way : Way) (room : ℕ) (s : State) (l : List ℕ) (seen : List Asked)
   decided-of =
       let r = request_of way room s.place l in
       let a = asks way room s.place l in
-      ap (λ (z : Answer). said z ++ tabled r (book_after (rule_at way s.place) s.book a)) decided-to
-      ∙ ap (λ (b : Book). said (decided_to way room s.place seen l) ++ tabled r b) (sym after-book ∙ decided-book (a ∷ seen))
+      ap (λ (z : Answer). said way.words z (text_of s.place.line l) ++ tabled way.csv r (book_after (rule_at way s.place) s.book a)) decided-to
+      ∙ ap (λ (b : Book). said way.words (decided_to way room s.place seen l) (text_of s.place.line l) ++ tabled way.csv r b) (sym after-book ∙ decided-book (a ∷ seen))
 
   pub decided-place : (after way room s l).place ≡ decided_place way room s.place seen l
   unfolding after is_kept ends_at decided_place

@@ -14,6 +14,7 @@ use Rattle.dialogue.specs.Decided.{Led}
 use Rattle.dialogue.specs.Dialogue.{Dialogue}
 use Rattle.dialogue.proofs.DecidedWhole.{stream-led, decided-whole}
 use Rattle.dialogue.proofs.Journal.{journal-whole, replayed}
+use Rattle.dialogue.proofs.References.{lines-plain, asks-alone}
 use Rattle.dialogue.proofs.RetiredRole.{stream-rule, stream-nobody}
 use Rattle.dialogue.proofs.LastLine.{last-journal, last-book}
 use Rattle.dialogue.proofs.Streams.{cut-anywhere}
@@ -27,8 +28,9 @@ dialogue most way room s seen input enough small e =
       answers = decided-whole most way room s seen input e;
       session = session (stream_asks most way room s seen (lines_in input));
       book = (stream-led most way room s (lines_in input) seen e).book;
-      whole = journal-whole most way room s (lines_in input);
-      replayed = λ keeps t b. replayed most way room enough small keeps s t (lines_in input) b;
+      whole = journal-whole most way room s (lines_in input) (lines-plain input);
+      replayed = λ keeps t b. replayed most way room enough small keeps s t (lines_in input) (lines-plain input) b;
+      comments = λ p before l. asks-alone way room p before l;
       last = last-journal most way room (stream_after most way room s (lines_in input)) (rest_in input);
       left = λ keeps. last-book most way room (stream_after most way room s (lines_in input)) (rest_in input) keeps;
       retired = λ rule. stream-nobody most way room s (lines_in input) rule;

@@ -4,6 +4,7 @@ use Rattle.std.proofs.Common.{◌≡◌, ℕ, ◌≤◌, Bool, true, false, cond
 use mathlib.Core.Bool.{and-true, and-false}
 use borrow.Author.Tests.{lt-leb}
 use Rattle.laws.specs.Cases.{split, cond-true, cond-false}
+use Rattle.laws.specs.Lists.{All}
 use Rattle.book.specs.Rule.{Rule, old_rule, new_rule}
 use Rattle.journal.specs.declared.Request.{Request}
 use Rattle.printing.specs.Decimals.{spaced, joined}
@@ -14,13 +15,14 @@ use Rattle.answering.proofs.Session.{not_taken}
 use Rattle.dialogue.specs.declared.Way.{Way}
 use Rattle.dialogue.specs.Split.{lines_in, rest_in}
 use Rattle.dialogue.specs.Asks.{request_of, asks, rule_at}
-use Rattle.dialogue.specs.Turns.{State, next, counted, ends_at, answer_of, is_kept, after, numeric, journal_of, ended}
+use Rattle.dialogue.specs.Turns.{State, next, counted, ends_at, answer_of, is_kept, after, kept_text, journal_of, ended}
 use Rattle.dialogue.specs.Whole.{state_before, stream_after, stream_journal}
 use Rattle.dialogue.specs.Dialogue.{replaying, Begins, Replayed}
 use Rattle.dialogue.proofs.CompleteLines.{Plain, line_first, rest-first}
 use Rattle.dialogue.proofs.SplitLaws.{lines-behind, rest-behind}
-use Rattle.dialogue.proofs.KeptForm.{printed-plain, numeric-plain}
-use Rattle.dialogue.proofs.KeptAgain.{numeric-short, kept-no-mark, book-again, count-again, none-refused, mark-stays, line-again}
+use Rattle.dialogue.proofs.KeptForm.{printed-plain}
+use Rattle.dialogue.proofs.References.{kept-plain}
+use Rattle.dialogue.proofs.KeptAgain.{kept-text-short, kept-no-mark, book-again, count-again, none-refused, mark-stays, line-again}
 use Rattle.dialogue.proofs.KeptAgain.{retired_text, mark-book, mark-kept, mark-refused, mark-ends, mark-journal}
 use Rattle.dialogue.proofs.Streams.{ended-state, ended-kept, on-state, on-kept, state-append, kept_append}
 
@@ -33,24 +35,24 @@ line-or-none true k p = rest-first k [] p
 line-or-none false k p = refl
 
 -- Those of one line.
-one-whole : (way : Way) (room : ℕ) (s : State) (l : List ℕ) → rest_in (journal_of way room s l) ≡ []
+one-whole : (way : Way) (room : ℕ) (s : State) (l : List ℕ) → Plain l → rest_in (journal_of way room s l) ≡ []
 unfolding journal_of
-one-whole way room s l =
-    rest-behind (cond (way.keeps && ends_at way room s l) retired_line []) (cond (is_kept way room s l) (numeric room s.place.line l ++ (10 ∷ [])) [])
+one-whole way room s l plain =
+    rest-behind (cond (way.keeps && ends_at way room s l) retired_line []) (cond (is_kept way room s l) (kept_text room s.place.line l ++ (10 ∷ [])) [])
     (line-or-none (way.keeps && ends_at way room s l) retired_text (printed-plain Request.RoleRetired []))
-    ∙ line-or-none (is_kept way room s l) (numeric room s.place.line l) (numeric-plain room s.place.line l)
+    ∙ line-or-none (is_kept way room s l) (kept_text room s.place.line l) (kept-plain room s.place.line l plain)
 
-pub journal-whole : (most : ℕ) (way : Way) (room : ℕ) (s : State) (ls : List (List ℕ)) → rest_in (stream_journal most way room s ls) ≡ []
+pub journal-whole : (most : ℕ) (way : Way) (room : ℕ) (s : State) (ls : List (List ℕ)) → All Plain ls → rest_in (stream_journal most way room s ls) ≡ []
 unfolding stream_journal rest_in
-journal-whole most way room s [] = refl
-journal-whole most way room s (l ∷ ls) =
+journal-whole most way room s [] plain = refl
+journal-whole most way room s (l ∷ ls) plain =
     let s₁ = state_before most s l in
     let t = after way room s₁ l in
     split (ended way s.place) (λ e. ap rest_in (ended-kept most way room s (l ∷ ls) e))
     (λ e.
     ap rest_in (on-kept most way room s l ls e)
-    ∙ rest-behind (journal_of way room s₁ l) (stream_journal most way room t ls) (one-whole way room s₁ l)
-    ∙ journal-whole most way room t ls)
+    ∙ rest-behind (journal_of way room s₁ l) (stream_journal most way room t ls) (one-whole way room s₁ l plain.0)
+    ∙ journal-whole most way room t ls plain.1)
 
 -- ---- replayed
 
@@ -58,13 +60,13 @@ journal-whole most way room s (l ∷ ls) =
 journal-parts : (most : ℕ) (way : Way) (room : ℕ) (s : State) (l : List ℕ) (ls : List (List ℕ)) → ended way s.place ≡ false
     → stream_journal most way room s (l ∷ ls)
     ≡ cond (way.keeps && ends_at way room (state_before most s l) l) retired_line []
-    ++ (cond (is_kept way room (state_before most s l) l) (numeric room s.place.line l ++ (10 ∷ [])) []
+    ++ (cond (is_kept way room (state_before most s l) l) (kept_text room s.place.line l ++ (10 ∷ [])) []
     ++ stream_journal most way room (after way room (state_before most s l) l) ls)
 unfolding journal_of
 journal-parts most way room s l ls e =
     on-kept most way room s l ls e
     ∙ append_assoc (cond (way.keeps && ends_at way room (state_before most s l) l) retired_line [])
-    (cond (is_kept way room (state_before most s l) l) (numeric room s.place.line l ++ (10 ∷ [])) [])
+    (cond (is_kept way room (state_before most s l) l) (kept_text room s.place.line l ++ (10 ∷ [])) [])
     (stream_journal most way room (after way room (state_before most s l) l) ls)
 
 module _ (most : ℕ) (way : Way) (room : ℕ) (enough : 20480 ≤ most) (small : room ≤ 18446744073709551615) (keeps : way.keeps ≡ true) where
@@ -193,7 +195,7 @@ module _ (most : ℕ) (way : Way) (room : ℕ) (enough : 20480 ≤ most) (small 
         ))
 
     abbrev line : List ℕ
-    line = numeric room s.place.line l
+    line = kept_text room s.place.line l
 
     -- The kept line is taken again under the rule that it was taken under.
     same-rule : (u : State) → Between u → is_kept way room s₁ l ≡ true → rule_at replaying u.place ≡ rule_at way s.place
@@ -229,19 +231,19 @@ module _ (most : ℕ) (way : Way) (room : ℕ) (enough : 20480 ≤ most) (small 
           early = x.early;
         }
 
-    line_step : (u : State) → Between u
+    line_step : (u : State) → Between u → Plain l
         → (v : State) × Passes u (cond (is_kept way room s₁ l) (line ++ (10 ∷ [])) []) v × Begins (after way room s₁ l) v
     unfolding after
-    line_step u x =
+    line_step u x plain =
         split (is_kept way room s₁ l)
         (λ e.
         let u₁ = state_before most u line in
-        let short : u₁.place.long ≡ false = lt-leb most (length line) (omega (arith, numeric-short way room s₁ l small e)) in
+        let short : u₁.place.long ≡ false = lt-leb most (length line) (omega (arith, kept-text-short way room s₁ l small e)) in
         let rule = same-rule u x e in (
           after replaying room u₁ line,
           passes-by u (after replaying room u₁ line) (cond (is_kept way room s₁ l) (line ++ (10 ∷ [])) []) (line ++ (10 ∷ []))
               (cond-true (is_kept way room s₁ l) (line ++ (10 ∷ [])) [] e)
-              (one_passes u line x.refused (numeric-plain room s.place.line l)
+              (one_passes u line x.refused (kept-plain room s.place.line l plain)
               (line-again way room s₁ u₁ l small e x.book x.kept short rule)),
           record {
             book = book-again way room s₁ u₁ l small e x.book x.kept short rule;
@@ -257,10 +259,10 @@ module _ (most : ℕ) (way : Way) (room : ℕ) (enough : 20480 ≤ most) (small 
           left_alone u x e,
         ))
 
-  again : (s t : State) (ls : List (List ℕ)) → Begins s t → Again t (stream_journal most way room s ls) (stream_after most way room s ls)
+  again : (s t : State) (ls : List (List ℕ)) → All Plain ls → Begins s t → Again t (stream_journal most way room s ls) (stream_after most way room s ls)
   unfolding stream_after stream_journal
-  again s t [] b = none-again s t b
-  again s t (l ∷ ls) b =
+  again s t [] plain b = none-again s t b
+  again s t (l ∷ ls) plain b =
       let s₁ = state_before most s l in
       let next-state = after way room s₁ l in
       let end = stream_after most way room s (l ∷ ls) in
@@ -268,23 +270,23 @@ module _ (most : ℕ) (way : Way) (room : ℕ) (enough : 20480 ≤ most) (small 
       let j = stream_journal most way room s (l ∷ ls) in
       let j₁ = stream_journal most way room next-state ls in
       let first = mark-step s t l b in
-      let second = line_step s t l b first.0 first.2 in
+      let second = line_step s t l b first.0 first.2 plain.0 in
       split (ended way s.place)
       (λ e. again_by t end s j [] (ended-kept most way room s (l ∷ ls) e) (ended-state most way room s (l ∷ ls) e) (none-again s t b))
       (λ e.
       again_by t end end₁ j
       (cond (way.keeps && ends_at way room s₁ l) retired_line []
-      ++ (cond (is_kept way room s₁ l) (numeric room s.place.line l ++ (10 ∷ [])) [] ++ j₁))
+      ++ (cond (is_kept way room s₁ l) (kept_text room s.place.line l ++ (10 ∷ [])) [] ++ j₁))
       (journal-parts most way room s l ls e)
       (on-state most way room s l ls e)
       (passes_then t first.0 end₁ _ _ first.1
-      (passes_then first.0 second.0 end₁ _ _ second.1 (again next-state second.0 ls second.2))))
+      (passes_then first.0 second.0 end₁ _ _ second.1 (again next-state second.0 ls plain.1 second.2))))
 
   -- "no complete line is ever lost or repeated", of bytes: for every input.
-  pub replayed : (s t : State) (ls : List (List ℕ)) → Begins s t
+  pub replayed : (s t : State) (ls : List (List ℕ)) → All Plain ls → Begins s t
       → Replayed most room t (stream_journal most way room s ls) (stream_after most way room s ls)
-  replayed s t ls b =
-      let w = again s t ls b in
+  replayed s t ls plain b =
+      let w = again s t ls plain b in
       record {
         book = w.agree.book;
         kept = w.agree.kept;

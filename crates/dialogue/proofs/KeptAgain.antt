@@ -1,10 +1,12 @@
 -- A kept line taken again in its numeric form, as a journal is replayed: it asks the same, is kept again and is not refused.
 -- Assumes nothing.
-use Rattle.std.proofs.Common.{◌≡◌, ℕ, ◌≤◌, Bool, true, false, cond, not, ◌&&◌, List, [], ◌∷◌, ◌++◌, length, ℤ, sym, refl, ap, ◌∙◌, subst, append-nil, arith}
+use Rattle.std.proofs.Common.{◌≡◌, ℕ, ◌≤◌, Bool, true, false, cond, not, ◌&&◌, List, [], ◌∷◌, ◌++◌, length, ℤ, sym, refl, ap, ◌∙◌, subst, append-nil, arith, length-append}
 use mathlib.Core.Bool.{and-true, and-false}
 use Rattle.laws.specs.Cases.{and_right, cond-true}
 use Rattle.layout.specs.Book.{Book}
 use Rattle.book.specs.Rule.{Rule}
+use Rattle.words.specs.Comments.{reference_of, commented}
+use Rattle.words.proofs.ReferenceLaws.{reference-again}
 use Rattle.journal.specs.Grammar.{Parsed, parsed}
 use Rattle.journal.specs.declared.Reason.{Reason}
 use Rattle.journal.specs.declared.Request.{Request}
@@ -13,17 +15,18 @@ use Rattle.printing.specs.declared.Answer.{Answer}
 use Rattle.printing.specs.Lines.{printed}
 use Rattle.printing.proofs.ParsedFits.{parsed-fitting, parsed-again}
 use Rattle.printing.proofs.RoundTrip.{round_trip}
-use Rattle.answering.specs.Asked.{Asked, call, fresh, guarantee, nothing, role_retired, fault, asked, answer_to, book_after}
+use Rattle.answering.specs.Asked.{Asked, call, fresh, guarantee, nothing, role_retired, file_asked, releasable_asked, today_asked, fault, asked, answer_to, book_after}
 use Rattle.answering.specs.Kept.{takes, refuses, is_role_retired, fresh_first, retired_line}
 use Rattle.answering.specs.Lines.{line_request}
 use Rattle.answering.proofs.ParsedLines.{call-is-parsed}
 use Rattle.dialogue.specs.declared.Way.{Way}
 use Rattle.dialogue.specs.declared.Place.{Place}
 use Rattle.dialogue.specs.Asks.{text_of, held_back, request_of, asks, rule_at}
-use Rattle.dialogue.specs.Turns.{State, next, counted, ends_at, answer_of, is_kept, after, numeric, journal_of}
+use Rattle.dialogue.specs.Turns.{State, next, counted, ends_at, answer_of, is_kept, after, numeric, kept_text, journal_of}
 use Rattle.dialogue.specs.Dialogue.{replaying}
 use Rattle.dialogue.proofs.AskLaws.{held-call}
 use Rattle.dialogue.proofs.KeptForm.{printed-text}
+use Rattle.dialogue.proofs.References.{reference-short, printed-bare, parsed-commented, behind-text}
 use Rattle.dialogue.proofs.KeptLengths.{kept-short}
 use Rattle.dialogue.proofs.LineLaws.{is_call}
 
@@ -36,6 +39,9 @@ takes-any rule b n m (fresh d) = refl
 takes-any rule b n m (guarantee x) = refl
 takes-any rule b n m nothing = refl
 takes-any rule b n m role_retired = refl
+takes-any rule b n m (file_asked p) = refl
+takes-any rule b n m (releasable_asked p k) = refl
+takes-any rule b n m today_asked = refl
 takes-any rule b n m (fault e) = refl
 
 -- What is taken is not the mark.
@@ -56,6 +62,8 @@ unrefused (Answer.Opened d) h = refl
 unrefused (Answer.Statement f c s d m n) h = refl
 unrefused (Answer.Calls n) h = refl
 unrefused (Answer.Special c) h = refl
+unrefused (Answer.Releasable c) h = refl
+unrefused (Answer.Today d) h = refl
 unrefused (Answer.Batch n) h = refl
 unrefused (Answer.RefusedPair n i) h = sym h
 unrefused (Answer.Deletion a c) h = refl
@@ -111,11 +119,14 @@ kept-is way room s l e =
 
 module _ (room : ℕ) (text : List ℕ) (h : room ≤ 18446744073709551615) (c : IsCall (parsed room text).request) where
   abbrev form : List ℕ
-  form = printed (parsed room text).request (parsed room text).numbers
+  form = printed (parsed room text).request (parsed room text).numbers ++ commented (reference_of text)
 
   read_again : (before : ℕ) → parsed room (text_of before form) ≡ parsed room text
   read_again before =
-      ap (parsed room) (printed-text before (parsed room text).request (parsed room text).numbers) ∙ parsed-again room text h c
+      ap (parsed room) (behind-text before (parsed room text).request (parsed room text).numbers (reference_of text))
+      ∙ parsed-commented room (printed (parsed room text).request (parsed room text).numbers) (reference_of text)
+      (printed-bare (parsed room text).request (parsed room text).numbers)
+      ∙ parsed-again room text h c
 
   asks-again : (p : Place) → p.long ≡ false → fresh_first p.kept (parsed room text).request ≡ (parsed room text).request
       → asks replaying room p form ≡ asked (parsed room text).request (parsed room text).numbers
@@ -138,23 +149,36 @@ module _ (room : ℕ) (text : List ℕ) (h : room ≤ 18446744073709551615) (c :
       ∙ ap (λ (x : Parsed). fresh_first p.kept x.request) (read_again p.line)
       ∙ first
 
-  form-again : (before : ℕ) → numeric room before form ≡ form
-  unfolding numeric
-  form-again before = ap (λ (x : Parsed). printed x.request x.numbers) (read_again before)
+  reference-kept : (before : ℕ) → reference_of (text_of before form) ≡ reference_of text
+  reference-kept before =
+      ap reference_of (behind-text before (parsed room text).request (parsed room text).numbers (reference_of text))
+      ∙ reference-again (printed (parsed room text).request (parsed room text).numbers) text
+      (printed-bare (parsed room text).request (parsed room text).numbers)
+
+  form-again : (before : ℕ) → kept_text room before form ≡ form
+  unfolding kept_text numeric
+  form-again before =
+      ap (λ (x : Parsed). printed x.request x.numbers ++ commented (reference_of (text_of before form))) (read_again before)
+      ∙ ap (λ (r : List ℕ). printed (parsed room text).request (parsed room text).numbers ++ commented r) (reference-kept before)
 
   form-short : (rule : Rule) (b : Book) (n : ℕ) → takes (answer_to rule b n (asked (parsed room text).request (parsed room text).numbers)) ≡ true
-      → length form ≤ 20000
+      → length form ≤ 20003
   form-short rule b n t =
       let r = (parsed room text).request in
       let zs = (parsed room text).numbers in
-      kept-short rule b n r zs (parsed-fitting room text h c) (parsed-counted room text c) t
+      omega (
+        arith,
+        length-append (printed r zs) (commented (reference_of text)),
+        reference-short text,
+        kept-short rule b n r zs (parsed-fitting room text h c) (parsed-counted room text c) t,
+      )
 
 -- ---- taken again
 
-pub numeric-short : (way : Way) (room : ℕ) (s : State) (l : List ℕ) → room ≤ 18446744073709551615 → is_kept way room s l ≡ true
-    → length (numeric room s.place.line l) ≤ 20000
-unfolding numeric
-numeric-short way room s l h e =
+pub kept-text-short : (way : Way) (room : ℕ) (s : State) (l : List ℕ) → room ≤ 18446744073709551615 → is_kept way room s l ≡ true
+    → length (kept_text room s.place.line l) ≤ 20003
+unfolding kept_text numeric
+kept-text-short way room s l h e =
     let k = kept-is way room s l e in
     form-short room (text_of s.place.line l) h k.call (rule_at way s.place) s.book (next s.place.line) k.taken
 
@@ -170,10 +194,10 @@ module _ (way : Way) (room : ℕ) (s t : State) (l : List ℕ) (h : room ≤ 184
     (same-book : t.book ≡ s.book) (same_kept : t.place.kept ≡ s.place.kept) (short : t.place.long ≡ false)
     (same-rule : rule_at replaying t.place ≡ rule_at way s.place) where
   abbrev line : List ℕ
-  line = numeric room s.place.line l
+  line = kept_text room s.place.line l
 
   same-asks : asks replaying room t.place line ≡ asks way room s.place l
-  unfolding numeric
+  unfolding kept_text numeric
   same-asks =
       let text = text_of s.place.line l in
       let k = kept-is way room s l kept in
@@ -200,7 +224,7 @@ module _ (way : Way) (room : ℕ) (s t : State) (l : List ℕ) (h : room ≤ 184
 
   -- It is not the mark there either.
   unmarked-line : ends_at replaying room t line ≡ false
-  unfolding ends_at numeric
+  unfolding ends_at kept_text numeric
   unmarked-line =
       let text = text_of s.place.line l in
       let k = kept-is way room s l kept in
@@ -232,11 +256,11 @@ module _ (way : Way) (room : ℕ) (s t : State) (l : List ℕ) (h : room ≤ 184
   mark-stays = ap (λ (z : Bool). t.place.early && not z) unmarked-line ∙ and-true t.place.early
 
   pub line-again : journal_of replaying room t line ≡ line ++ (10 ∷ [])
-  unfolding journal_of numeric
+  unfolding journal_of kept_text numeric
   line-again =
-      let k = cond (is_kept replaying room t line) (numeric room t.place.line line ++ (10 ∷ [])) [] in
+      let k = cond (is_kept replaying room t line) (kept_text room t.place.line line ++ (10 ∷ [])) [] in
       ap (λ (z : Bool). cond z retired_line [] ++ k) unmarked-line
-      ∙ cond-true (is_kept replaying room t line) (numeric room t.place.line line ++ (10 ∷ [])) [] kept_again
+      ∙ cond-true (is_kept replaying room t line) (kept_text room t.place.line line ++ (10 ∷ [])) [] kept_again
       ∙ ap (λ (z : List ℕ). z ++ (10 ∷ [])) (form-again room (text_of s.place.line l) h (kept-is way room s l kept).call t.place.line)
 
 -- ---- the mark taken again
@@ -297,7 +321,7 @@ module _ (room : ℕ) (t : State) (short : t.place.long ≡ false) where
   pub mark-journal : t.place.early ≡ true → journal_of replaying room t retired_text ≡ retired_line
   unfolding journal_of
   mark-journal e =
-      ap (λ (z : Bool). cond z retired_line [] ++ cond (is_kept replaying room t retired_text) (numeric room t.place.line retired_text ++ (10 ∷ [])) [])
+      ap (λ (z : Bool). cond z retired_line [] ++ cond (is_kept replaying room t retired_text) (kept_text room t.place.line retired_text ++ (10 ∷ [])) [])
       (mark-marks ∙ e)
-      ∙ ap (λ (z : Bool). retired_line ++ cond z (numeric room t.place.line retired_text ++ (10 ∷ [])) []) mark-unkept
+      ∙ ap (λ (z : Bool). retired_line ++ cond z (kept_text room t.place.line retired_text ++ (10 ∷ [])) []) mark-unkept
       ∙ append-nil retired_line

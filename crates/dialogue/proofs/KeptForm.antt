@@ -1,17 +1,15 @@
--- The numeric form of a line: it has no newline and no byte order mark.
+-- The numeric form of a call: it has no newline and no byte order mark.
 -- Assumes nothing.
 use Rattle.std.proofs.Common.{◌≡◌, ℕ, true, false, eqb, List, [], ◌∷◌, get_or, ℤ, refl, eqb-true}
 use mathlib.Core.Bool.{and-false}
 use Rattle.laws.specs.Cases.{split, clash, and_left, and_right}
 use Rattle.words.specs.Bytes.{each, control, blank}
-use Rattle.journal.specs.Grammar.{parsed}
 use Rattle.journal.specs.declared.Request.{Request}
 use Rattle.printing.specs.Decimals.{joined}
 use Rattle.printing.specs.Lines.{call_words, printed}
 use Rattle.printing.proofs.PlainWords.{line_byte, joined_line}
 use Rattle.printing.proofs.RoundTrip.{call-words}
 use Rattle.dialogue.specs.Asks.{mark_length, text_of}
-use Rattle.dialogue.specs.Turns.{numeric}
 use Rattle.dialogue.proofs.CompleteLines.{Plain}
 
 -- ---- no newline
@@ -29,19 +27,15 @@ pub printed-plain : (r : Request) (zs : List ℤ) → Plain (printed r zs)
 unfolding printed
 printed-plain r zs = plain-line (joined (call_words r zs)) (joined_line (call_words r zs) (call-words r zs))
 
-pub numeric-plain : (room before : ℕ) (l : List ℕ) → Plain (numeric room before l)
-unfolding numeric
-numeric-plain room before l = printed-plain (parsed room (text_of before l)).request (parsed room (text_of before l)).numbers
-
 -- ---- no byte order mark
 
 -- Its first byte, if any, is that of a name.
-first_byte : (r : Request) (zs : List ℤ) → eqb (get_or (printed r zs) 0 0) 239 ≡ false
+pub first_byte : (r : Request) (zs : List ℤ) → eqb (get_or (printed r zs) 0 0) 239 ≡ false
 unfolding printed joined call_words
 first_byte Request.Nothing zs = refl
 first_byte r zs = refl
 
-unmarked : (before : ℕ) (l : List ℕ) → eqb (get_or l 0 0) 239 ≡ false → text_of before l ≡ l
+pub unmarked : (before : ℕ) (l : List ℕ) → eqb (get_or l 0 0) 239 ≡ false → text_of before l ≡ l
 unfolding text_of mark_length
 unmarked before l e = rw (e, and-false (eqb before 0)) refl
 

@@ -99,6 +99,8 @@ printed-short (Request.Statement p) zs f = simp length-append (omega (arith, nat
 printed-short (Request.Special n) zs f = simp length-append (omega (arith, lists-short are_marks (length_list n) zs f.2 f.0))
 printed-short (Request.Batch n) zs f = file-short n zs
 printed-short (Request.Delete p) zs f = simp length-append (omega (arith, natural p f.0))
+printed-short (Request.File p) zs f = simp length-append (omega (arith, natural p f.0))
+printed-short (Request.Releasable p q) zs f = simp length-append (omega (arith, natural p f.0, natural q f.1))
 printed-short (Request.Error e) zs f = absurd f
 printed-short r zs f = omega arith
 
@@ -133,7 +135,7 @@ batch-few rule b n zs e h =
 
 -- A kept call has room: at most 16 figures of a settlement or 8,836 bytes of a batch are printed.
 pub kept-short : (rule : Rule) (b : Book) (k : ℕ) (r : Request) (zs : List ℤ) → Fitting r zs → count_of r ≡ length zs
-    → takes (answer_to rule b k (asked r zs)) ≡ true → length (printed r zs) ≤ 20000
+    → takes (answer_to rule b k (asked r zs)) ≡ true → length (printed r zs) ≤ 19000
 kept-short rule b k (Request.Settle p m n) zs f e h =
     let x : accepted (answer rule b (on p (settle m.0 (take n zs)))) ≡ true =
     taken-accepted (answer rule b (on p (settle m.0 (take n zs)))) h in

@@ -7,6 +7,7 @@ use Rattle.dialogue.specs.Whole.{stream_after, stream_journal}
 use Rattle.dialogue.specs.Dialogue.{replaying, Begins, Replayed}
 use Rattle.dialogue.specs.KeptLife.{Sitting, reopened, sittings_journal, sittings_end, AllKeep, KeptLife}
 use Rattle.dialogue.proofs.Journal.{journal-whole, replayed}
+use Rattle.dialogue.proofs.References.{lines-plain}
 use Rattle.dialogue.proofs.SplitLaws.{lines-behind, rest-behind}
 use Rattle.dialogue.proofs.Streams.{state-append, kept_append}
 
@@ -48,8 +49,8 @@ module _ (most room : ℕ) where
   kept-life enough small s t b (x ∷ xs) k =
       let j = stream_journal most x.way room s (lines_in x.input) in
       let end = stream_after most x.way room s (lines_in x.input) in
-      let whole : rest_in j ≡ [] = journal-whole most x.way room s (lines_in x.input) in
-      let one : Replayed most room t j end = replayed most x.way room enough small k.0 s t (lines_in x.input) b in
+      let whole : rest_in j ≡ [] = journal-whole most x.way room s (lines_in x.input) (lines-plain x.input) in
+      let one : Replayed most room t j end = replayed most x.way room enough small k.0 s t (lines_in x.input) (lines-plain x.input) b in
       let u = stream_after most replaying room t (lines_in j) in
       let rest = kept-life enough small (reopened end) u (begins-then t end (reopened end) j one refl refl refl) xs k.1 in
       record {

@@ -9,7 +9,7 @@ use Rattle.journal.specs.declared.Reason.{Reason}
 use Rattle.journal.specs.declared.Request.{Request}
 use Rattle.dialogue.specs.declared.Way.{Way}
 use Rattle.dialogue.specs.Asks.{text_of, held_back, request_of, asks, rule_at}
-use Rattle.dialogue.specs.Turns.{State, next, ends_at, answer_of, is_kept, after, numeric, journal_of, ended}
+use Rattle.dialogue.specs.Turns.{State, next, ends_at, answer_of, is_kept, after, kept_text, journal_of, ended}
 use Rattle.dialogue.specs.Whole.{state_before, stream_after, stream_journal, last_line, last_way}
 use Rattle.dialogue.proofs.Streams.{ended-state, ended-kept, on-state, on-kept}
 
@@ -62,7 +62,7 @@ module _ (most : ℕ) (way : Way) (room : ℕ) (s : State) where
   last-journal [] = refl
   last-journal (b ∷ r) =
       let t = state_before most s (b ∷ r) in
-      let k = numeric room s.place.line (b ∷ r) ++ (10 ∷ []) in
+      let k = kept_text room s.place.line (b ∷ r) ++ (10 ∷ []) in
       split (ended (last_way way) s.place) (λ e. ended-kept most (last_way way) room s ((b ∷ r) ∷ []) e)
       (λ e.
       on-kept most (last_way way) room s (b ∷ r) [] e ∙ append-nil (journal_of (last_way way) room t (b ∷ r))

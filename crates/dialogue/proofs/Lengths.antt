@@ -3,12 +3,17 @@
 use Rattle.std.proofs.Common.{ℕ, zero, suc, ◌+◌, ◌*◌, ◌/◌, ◌%◌, ◌<◌, ◌≤◌, true, false, ltb, [], ◌∷◌, length, ℤ, pos, negsuc, arith, length-append, ltb-false, ltb-true}
 use lib.Signed.{mag}
 use Rattle.laws.specs.Cases.{split}
+use Rattle.calendar.specs.Dates.{date_of}
+use Rattle.calendar.specs.declared.date.Date.{Date}
+use Rattle.std.specs.Prelude.{Option, Some, None}
 use Rattle.journal.specs.declared.Reason.{Reason}
 use Rattle.printing.specs.declared.Answer.{Answer}
 use Rattle.printing.specs.Decimals.{decimal, integer, spaced, joined}
 use Rattle.printing.specs.WrittenLaws.{decimal_step, decimal-small}
+use Rattle.printing.specs.Dates.{dated_text, date_text}
 use Rattle.printing.specs.Answers.{reason_text, answer_words, answer_line}
-use Rattle.dialogue.specs.Said.{Small, SmallNumbers, said}
+use Rattle.printing.proofs.ColumnLaws.{digits-count}
+use Rattle.dialogue.specs.Said.{Small, SmallNumbers}
 
 -- ten to the power of k
 abbrev tens : ℕ → ℕ
@@ -36,9 +41,18 @@ reason-short : (e : Reason) → length (reason_text e) ≤ 41
 reason-short Reason.ControlByte = omega arith
 reason-short e = omega arith
 
--- Every answer with its newline has at most 136 bytes.
-pub said_short : (a : Answer) → SmallNumbers a → length (said a) ≤ 136
-unfolding said answer_line answer_words joined spaced
+dated-short : (d : Option Date) → length (dated_text d) ≤ 10
+dated-short (Some x) =
+    simp length-append (omega (arith, digits-count 4 x.year, digits-count 2 x.month, digits-count 2 x.day))
+dated-short None = omega arith
+
+day-short : (d : ℕ) → length (date_text d) ≤ 10
+unfolding date_text
+day-short d = dated-short (date_of d)
+
+-- Every answer without its newline has at most 135 bytes.
+pub said_short : (a : Answer) → SmallNumbers a → length (answer_line a) ≤ 135
+unfolding answer_line answer_words joined spaced
 said_short Answer.Nothing h = omega arith
 said_short Answer.Done h = omega arith
 said_short (Answer.Refused n) h = simp length-append (omega (arith, number_short n h))
@@ -54,6 +68,8 @@ said_short (Answer.Statement f c s d m n) h =
     (arith, number_short f h.0, number_short c h.1, number_short s h.2, number_short d h.3, number_short m h.4, number_short n h.5))
 said_short (Answer.Calls n) h = simp length-append (omega (arith, number_short n h))
 said_short (Answer.Special c) h = simp length-append (omega (arith, number_short c h))
+said_short (Answer.Releasable c) h = simp length-append (omega (arith, number_short c h))
+said_short (Answer.Today d) h = simp length-append (omega (arith, number_short d.0 h, day-short d.0))
 said_short (Answer.Batch n) h = simp length-append (omega (arith, number_short n h))
 said_short (Answer.RefusedPair n i) h = simp length-append (omega (arith, number_short n h.0, number_short i h.1))
 said_short (Answer.Deletion a true) h = simp length-append (omega (arith, number_short a h, number_short 1 (omega arith)))

@@ -4,6 +4,8 @@ pub mod Lengths
 pub mod ReportLength
 pub mod BatchLength
 pub mod KeptLengths
+pub mod WordingLength
+pub mod SaidLaws
 pub mod LineLaws
 pub mod Decided
 pub mod TurnLaws
@@ -13,9 +15,11 @@ pub mod LongLine
 pub mod Parts
 pub mod DecidedWhole
 pub mod KeptForm
+pub mod References
 pub mod KeptAgain
 pub mod Journal
 pub mod LastLine
 pub mod KeptLife
 pub mod RetiredRole
 pub mod Dialogue
+pub mod PassLaws

@@ -16,7 +16,8 @@ use Rattle.printing.specs.Lines.{call_words, printed}
 use Rattle.printing.specs.Written.{Sheet, followed}
 use Rattle.printing.specs.WrittenLaws.{followed_twice}
 use Rattle.printing.proofs.ParsedFits.{parsed-fitting}
-use Rattle.report.specs.Table.{report_text}
+use Rattle.std.specs.Prelude.{Option, Some, None}
+use Rattle.report.proofs.FileTextLength.{file-text-short}
 use Rattle.answering.specs.Asked.{Asked, asked, answer_to, book_after}
 use Rattle.answering.specs.InWords.{AnsweredWords}
 use Rattle.answering.specs.Kept.{takes, refuses, kept_line, retired_line}
@@ -26,18 +27,32 @@ use Rattle.answering.proofs.ParsedLines.{parsed-own, call-is-parsed}
 use Rattle.dialogue.specs.declared.Way.{Way}
 use Rattle.dialogue.specs.declared.Place.{Place}
 use Rattle.dialogue.specs.Asks.{text_of, held_back, request_of, asks, rule_at, LineAsked}
-use Rattle.dialogue.specs.Said.{said, Said, wants_table, tabled, Tabled, Added}
-use Rattle.dialogue.specs.Turns.{next, ends_stretch, ends_at, further, answer_of, is_kept, after, bytes_of, numeric, journal_of}
+use Rattle.dialogue.specs.Said.{said, Said, wants_table, table_of, whose_file, file_for, tabled, Tabled, Added}
+use Rattle.dialogue.specs.Turns.{next, ends_stretch, ends_at, further, answer_of, is_kept, after, bytes_of, numeric, kept_text, journal_of}
 use Rattle.dialogue.specs.Answers.{state_of, Turned, LineTaken}
 use Rattle.dialogue.proofs.AskLaws.{held-call}
 use Rattle.dialogue.proofs.KeptLengths.{kept-short}
 use Rattle.dialogue.proofs.ReportLength.{report-short}
+use Rattle.dialogue.proofs.References.{reference-short}
+use Rattle.report.proofs.CsvLength.{report-csv-short}
+use Rattle.words.specs.Comments.{reference_of, commented}
 
--- The table, and nothing in its place, are short.
-pub tabled_short : (request : Request) (l : List ℕ) → WellFormed l → length (tabled request (book_of_words l)) ≤ 15000
+-- The table is short.
+table-short : (csv : Bool) (l : List ℕ) → WellFormed l → length (table_of csv (book_of_words l)) ≤ 15000
+table-short true l w = report-csv-short l w
+table-short false l w = report-short l w
+
+-- A file is short.
+file-short : (whose : Option ℕ) (l : List ℕ) → WellFormed l → length (file_for whose (book_of_words l)) ≤ 15000
+file-short (Some p) l w = omega (arith, file-text-short l p w)
+file-short None l w = omega arith
+
+-- The table, a file, and nothing in their place, are short.
+pub tabled_short : (csv : Bool) (request : Request) (l : List ℕ) → WellFormed l → length (tabled csv request (book_of_words l)) ≤ 15000
 unfolding tabled
-tabled_short request l w =
-    by-test (wants_table request) (report_text (book_of_words l)) [] (λ (t : List ℕ). length t ≤ 15000) (λ e. report-short l w) (λ e. omega arith)
+tabled_short csv request l w =
+    by-test (wants_table request) (table_of csv (book_of_words l)) (file_for (whose_file request) (book_of_words l)) (λ (t : List ℕ). length t ≤ 15000)
+    (λ e. table-short csv l w) (λ e. file-short (whose_file request) l w)
 
 -- ---- the call that is kept
 
@@ -69,17 +84,17 @@ line-call : (long : Bool) (kept : ℕ) (l : List ℕ) (zs ys : List ℤ) (q : Re
 line-call true kept l zs ys q c x = long-call kept l zs ys q c x
 line-call false kept l zs ys q c x = short-call kept l zs ys q c x
 
--- What is printed of it is the line's numeric form.
-kept-printed : (l : List ℕ) (room : ℕ) (q : Request) (ys : List ℤ) → KeptCall l room q ys
-    → kept_line q ys ≡ printed (parsed room l).request (parsed room l).numbers ++ (10 ∷ [])
+-- What is printed of it is the line's numeric form, and a reference stands behind that.
+kept-printed : (l : List ℕ) (room : ℕ) (q : Request) (ys : List ℤ) (r : List ℕ) → KeptCall l room q ys
+    → kept_line q ys r ≡ printed (parsed room l).request (parsed room l).numbers ++ commented r ++ (10 ∷ [])
 unfolding kept_line
-kept-printed l room q ys k =
-    ap (λ (z : Request). printed z (own z ys) ++ (10 ∷ [])) k.same
-    ∙ ap (λ (zs : List ℤ). printed (parsed room l).request zs ++ (10 ∷ [])) k.mine
+kept-printed l room q ys r k =
+    ap (λ (z : Request). printed z (own z ys) ++ commented r ++ (10 ∷ [])) k.same
+    ∙ ap (λ (zs : List ℤ). printed (parsed room l).request zs ++ commented r ++ (10 ∷ [])) k.mine
 
 -- It has room.
 room-kept : (rule : Rule) (b : Book) (n : ℕ) (l : List ℕ) (room : ℕ) (q : Request) (ys : List ℤ) → room ≤ 18446744073709551615 → KeptCall l room q ys
-    → takes (answer_to rule b n (asked q ys)) ≡ true → length (printed (parsed room l).request (parsed room l).numbers) ≤ 20000
+    → takes (answer_to rule b n (asked q ys)) ≡ true → length (printed (parsed room l).request (parsed room l).numbers) ≤ 19000
 room-kept rule b n l room q ys h k t =
     let r = (parsed room l).request in
     let zs = (parsed room l).numbers in
@@ -137,22 +152,28 @@ module _ (way : Way) (p : Place) (l : List ℕ) (zs ys : List ℤ) (request : Re
         (ap takes (sym given.given.answered) ∙ and_right way.keeps (takes answer) (sym kept ∙ h)))
 
     -- its own line
-    own_line : cond t (kept_line request ys) []
-        ≡ cond (is_kept way (length zs) (state_of words p) l) (numeric (length zs) p.line l ++ (10 ∷ [])) []
-    unfolding numeric
+    own_line : cond t (kept_line request ys (reference_of (text_of p.line l))) []
+        ≡ cond (is_kept way (length zs) (state_of words p) l) (kept_text (length zs) p.line l ++ (10 ∷ [])) []
+    unfolding kept_text numeric
     own_line =
         split t
-        (λ h. rw (kept_line_lem, h) (kept-printed (text_of p.line l) (length zs) request ys (taken-call h)))
+        (λ h. rw (kept_line_lem, h) (kept-printed (text_of p.line l) (length zs) request ys (reference_of (text_of p.line l)) (taken-call h)))
         (λ h. rw (kept_line_lem, h) refl)
 
-    own-few : length zs ≤ 18446744073709551615 → length (cond t (kept_line request ys) []) ≤ 20001
+    own-few : length zs ≤ 18446744073709551615 → length (cond t (kept_line request ys (reference_of (text_of p.line l))) []) ≤ 20004
     own-few long =
         split t
         (λ h.
-        rw (h, kept-printed (text_of p.line l) (length zs) request ys (taken-call h))
+        rw (h, kept-printed (text_of p.line l) (length zs) request ys (reference_of (text_of p.line l)) (taken-call h))
         (omega (
           arith,
-          length-append (printed (parsed (length zs) (text_of p.line l)).request (parsed (length zs) (text_of p.line l)).numbers) (10 ∷ []),
+          length-append
+              (printed (parsed (length zs) (text_of p.line l)).request (parsed (length zs) (text_of p.line l)).numbers
+              ++ commented (reference_of (text_of p.line l)))
+              (10 ∷ []),
+          length-append (printed (parsed (length zs) (text_of p.line l)).request (parsed (length zs) (text_of p.line l)).numbers)
+              (commented (reference_of (text_of p.line l))),
+          reference-short (text_of p.line l),
           room-kept rule (book_of_words words) number (text_of p.line l) (length zs) request ys long (taken-call h)
               (ap takes (sym given.given.answered) ∙ and_right way.keeps (takes answer) (sym kept ∙ h)),
         )))
@@ -177,10 +198,10 @@ module _ (way : Way) (p : Place) (l : List ℕ) (zs ys : List ℤ) (request : Re
           ∙ ap (further p (is_kept way (length zs) (state_of words p) l) (refuses (answer_of way (length zs) (state_of words p) l))) (sym marked-line) in
           λ i. record { book = left-book i; place = f i }
 
-      journal-line : cond (way.keeps && v) retired_line [] ++ cond t (kept_line request ys) [] ≡ journal_of way (length zs) (state_of words p) l
+      journal-line : cond (way.keeps && v) retired_line [] ++ cond t (kept_line request ys (reference_of (text_of p.line l))) [] ≡ journal_of way (length zs) (state_of words p) l
       unfolding journal_of
       journal-line =
-          ap (λ (z : Bool). cond (way.keeps && z) retired_line [] ++ cond t (kept_line request ys) []) (sym marked-line)
+          ap (λ (z : Bool). cond (way.keeps && z) retired_line [] ++ cond t (kept_line request ys (reference_of (text_of p.line l))) []) (sym marked-line)
           ∙ ap (λ (z : List ℕ). cond (way.keeps && ends_at way (length zs) (state_of words p) l) retired_line [] ++ z) own_line
 
       journal-few : length zs ≤ 18446744073709551615 → length (journal_of way (length zs) (state_of words p) l) ≤ 20480
@@ -188,30 +209,29 @@ module _ (way : Way) (p : Place) (l : List ℕ) (zs ys : List ℤ) (request : Re
           rw (← journal-line)
           (omega (
             arith,
-            length-append (cond (way.keeps && v) retired_line []) (cond t (kept_line request ys) []),
+            length-append (cond (way.keeps && v) retired_line []) (cond t (kept_line request ys (reference_of (text_of p.line l))) []),
             own-few long,
             mark-few (way.keeps && v),
           ))
 
-pub added : (request : Request) (answer : Answer) (kept marked : Bool) (ys : List ℤ) (words : List ℕ) (j i k e f g : Sheet)
-    → i ≡ followed j (cond marked (kept_line Request.RoleRetired ys) []) → k ≡ followed i (cond kept (kept_line request ys) []) → Said answer e f
-    → Tabled request (book_of_words words) f g → Added request answer kept marked ys words j e k g
-unfolding kept_line
-added request answer kept marked ys words j i k e f g v w c d =
+pub added : (way : Way) (line : List ℕ) (request : Request) (answer : Answer) (kept marked : Bool) (ys : List ℤ) (words : List ℕ) (j i k e f g : Sheet)
+    → i ≡ followed j (cond marked retired_line []) → k ≡ followed i (cond kept (kept_line request ys (reference_of line)) []) → Said way.words answer line e f
+    → Tabled way.csv request (book_of_words words) f g → Added way line request answer kept marked ys words j e k g
+added way line request answer kept marked ys words j i k e f g v w c d =
     record {
-      journal = w ∙ ap (λ (z : Sheet). followed z (cond kept (kept_line request ys) [])) v
-          ∙ followed_twice j (cond marked retired_line []) (cond kept (kept_line request ys) []);
-      bytes = d.put ∙ ap (λ (z : Sheet). followed z (tabled request (book_of_words words))) c.put
-          ∙ followed_twice e (said answer) (tabled request (book_of_words words));
-      most = omega (arith, length-append (said answer) (tabled request (book_of_words words)), c.most, d.most);
+      journal = w ∙ ap (λ (z : Sheet). followed z (cond kept (kept_line request ys (reference_of line)) [])) v
+          ∙ followed_twice j (cond marked retired_line []) (cond kept (kept_line request ys (reference_of line)) []);
+      bytes = d.put ∙ ap (λ (z : Sheet). followed z (tabled way.csv request (book_of_words words))) c.put
+          ∙ followed_twice e (said way.words answer line) (tabled way.csv request (book_of_words words));
+      most = omega (arith, length-append (said way.words answer line) (tabled way.csv request (book_of_words words)), c.most, d.most);
     }
 
 -- What a line leaves, by the tests of the code.
-pub turned : (way : Way) (p q : Place) (request : Request) (answer : Answer) (ys : List ℤ) (words : List ℕ) (t t₁ u v : Bool) (j e k f : Sheet)
+pub turned : (way : Way) (p q : Place) (line : List ℕ) (request : Request) (answer : Answer) (ys : List ℤ) (words : List ℕ) (t t₁ u v : Bool) (j e k f : Sheet)
     → t₁ ≡ takes answer → t ≡ (way.keeps && t₁) → v ≡ ends_stretch way p request t
-    → Added request answer t (way.keeps && v) ys words j e k f → u ≡ refuses answer → q ≡ further p t u v
-    → Turned way p request answer ys words j e q k f
-turned way p q request answer ys words t t₁ u v j e k f h₁ h ends c w d =
+    → Added way line request answer t (way.keeps && v) ys words j e k f → u ≡ refuses answer → q ≡ further p t u v
+    → Turned way p line request answer ys words j e q k f
+turned way p q line request answer ys words t t₁ u v j e k f h₁ h ends c w d =
     record {
       kept = t;
       whether = h ∙ ap (λ (z : Bool). way.keeps && z) h₁;
@@ -219,12 +239,14 @@ turned way p q request answer ys words t t₁ u v j e k f h₁ h ends c w d =
       place = d ∙ ap (λ (z : Bool). further p t z v) w ∙ ap (further p t (refuses answer)) ends;
     }
 
-pub line_taken : (way : Way) (p q : Place) (l : List ℕ) (zs ys : List ℤ) (request : Request) (answer : Answer) (words m : List ℕ)
+pub line_taken : (way : Way) (p q : Place) (l text : List ℕ) (zs ys : List ℤ) (request : Request) (answer : Answer) (words m : List ℕ)
     (number : ℕ) (j e k f : Sheet) → LineAsked way p l zs request ys → number ≡ next p.line
-    → AnsweredWords (rule_at way p) words number (asked request ys) answer m → Turned way p request answer ys m j e q k f
+    → AnsweredWords (rule_at way p) words number (asked request ys) answer m → text ≡ text_of p.line l → Turned way p text request answer ys m j e q k f
     → length zs ≤ 18446744073709551615 → LineTaken way (length zs) words p l j e m q k f
 unfolding bytes_of
-line_taken way p q l zs ys request answer words m number j e k f is n given turn long =
+line_taken way p q l text zs ys request answer words m number j e k f is n given same taken long =
+    let turn : Turned way p (text_of p.line l) request answer ys m j e q k f =
+    subst (λ (z : List ℕ). Turned way p z request answer ys m j e q k f) same taken in
     let t = turn.kept in
     let kept = turn.whether in
     let v = ends_stretch way p request t in

@@ -24,10 +24,10 @@ use Rattle.file.specs.Admit.{no_file}
 use Rattle.book.proofs.Functions.SoundBook.{sound-file}
 use Rattle.journal.specs.Names.{role_names}
 use Rattle.printing.specs.Decimals.{decimal, spaced, joined}
-use Rattle.report.specs.Columns.{padded, digits, fixed}
-use Rattle.report.specs.Dates.{dated_text, date_text}
+use Rattle.printing.specs.Columns.{padded, digits, fixed}
+use Rattle.printing.specs.Dates.{dated_text, date_text}
 use Rattle.report.specs.Table.{in_columns, table_line, heading, role_text, line_of, row, rows, admitted_below, admitted_count, title_line, report_text}
-use Rattle.report.proofs.ColumnLaws.{digits-count}
+use Rattle.printing.proofs.ColumnLaws.{digits-count}
 use Rattle.report.proofs.TableLaws.{below-small}
 use Rattle.dialogue.specs.Said.{Small}
 use Rattle.dialogue.proofs.Lengths.{number_short}

@@ -8,7 +8,7 @@ use Rattle.book.specs.Rule.{Rule, old_rule, new_rule}
 use Rattle.book.specs.Account.{fresh_answer, fresh_book}
 use Rattle.book.specs.Retired.{NoneGetsIt}
 use Rattle.book.proofs.History.Retired.{nobody, nobody-then, none-gets-it, fresh-nobody}
-use Rattle.answering.specs.Asked.{Asked, call, fresh, guarantee, nothing, role_retired, fault, book_after}
+use Rattle.answering.specs.Asked.{Asked, call, fresh, guarantee, nothing, role_retired, file_asked, releasable_asked, today_asked, fault, book_after}
 use Rattle.dialogue.specs.declared.Way.{Way}
 use Rattle.dialogue.specs.Asks.{asks, rule_at}
 use Rattle.dialogue.specs.Turns.{State, ends_at, after, ended}
@@ -22,6 +22,9 @@ asked-nobody b (fresh d) =
 asked-nobody b (guarantee x) = nobody b
 asked-nobody b nothing = nobody b
 asked-nobody b role_retired = nobody b
+asked-nobody b (file_asked p) = nobody b
+asked-nobody b (releasable_asked p k) = nobody b
+asked-nobody b today_asked = nobody b
 asked-nobody b (fault e) = nobody b
 
 -- The rule stays the new one: the first stretch does not begin again.

@@ -30,12 +30,12 @@ state_of words p = record { book = book_of_words words; place = p }
 abbrev pub space : Sheet → ℕ
 space s = length s.written + s.room
 
--- A line with a request and an answer, on the words that it left: what it adds, and the place q behind it.
-pub record Turned (way : Way) (p : Place) (request : Request) (answer : Answer) (numbers : List ℤ) (words : List ℕ) (j e : Sheet) (q : Place)
+-- A line's text with its request and answer, on the words that it left: what it adds, and the place q behind it.
+pub record Turned (way : Way) (p : Place) (line : List ℕ) (request : Request) (answer : Answer) (numbers : List ℤ) (words : List ℕ) (j e : Sheet) (q : Place)
     (k f : Sheet) : Type 0 where
   pub kept : Bool
   pub whether : kept ≡ (way.keeps && takes answer)
-  pub added : Added request answer kept (way.keeps && ends_stretch way p request kept) numbers words j e k f
+  pub added : Added way line request answer kept (way.keeps && ends_stretch way p request kept) numbers words j e k f
   pub place : q ≡ further p kept (refuses answer) (ends_stretch way p request kept)
 
 -- One line taken: the words m and the place q that it leaves, the journal's sheet, which was j and is k, and the answers', which was e and is f.

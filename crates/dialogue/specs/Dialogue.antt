@@ -7,14 +7,15 @@ use Rattle.answering.specs.Asked.{Asked}
 use Rattle.answering.specs.Session.{book_of, Session}
 use Rattle.dialogue.specs.declared.Way.{Way}
 use Rattle.dialogue.specs.Split.{lines_in, rest_in}
-use Rattle.dialogue.specs.Asks.{rule_at}
-use Rattle.dialogue.specs.Turns.{State}
+use Rattle.dialogue.specs.declared.Place.{Place}
+use Rattle.dialogue.specs.Asks.{asks, rule_at}
+use Rattle.dialogue.specs.Turns.{State, numeric, kept_text}
 use Rattle.dialogue.specs.Whole.{stream_after, stream_bytes, stream_journal, stream_asks, last_line, last_way, whole_bytes, whole_decided}
 
 -- How a journal is replayed: as the kept way takes an input, up to the first line that is refused or an error, its first stretch by the old
 -- admission rule.
 abbrev pub replaying : Way
-replaying = record { keeps = true; reads = false; torn = false; bails = true; gathers = true; replays = true }
+replaying = record { keeps = true; reads = false; torn = false; bails = true; gathers = true; replays = true; words = false; csv = false }
 
 -- A state t from which a journal may be replayed that was begun at state s: the same book, as many calls kept, no line refused, and the first
 -- stretch lasting or not.
@@ -55,6 +56,8 @@ pub record Dialogue (most : ℕ) (way : Way) (room : ℕ) (s : State) (seen : Li
   pub whole : rest_in (stream_journal most way room s (lines_in input)) ≡ []
   pub replayed : way.keeps ≡ true → (t : State) → Begins s t
       → Replayed most room t (stream_journal most way room s (lines_in input)) (stream_after most way room s (lines_in input))
+  -- "A comment .. means nothing to the book": the kept line with it asks what the call's numeric form asks alone
+  pub comments : (p : Place) (before : ℕ) (l : List ℕ) → asks way room p (kept_text room before l) ≡ asks way room p (numeric room before l)
   pub last : stream_journal most (last_way way) room (stream_after most way room s (lines_in input)) (last_line (rest_in input)) ≡ []
   pub left : way.keeps ≡ true
       → (stream_after most (last_way way) room (stream_after most way room s (lines_in input)) (last_line (rest_in input))).book

@@ -7,3 +7,4 @@ pub mod Answers
 pub mod Whole
 pub mod Dialogue
 pub mod KeptLife
+pub mod Passes

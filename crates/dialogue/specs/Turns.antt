@@ -2,6 +2,7 @@
 -- Assumes nothing.
 use Rattle.std.specs.Prelude.{ℕ, ◌+◌, ◌%◌, ◌^◌, Bool, false, cond, not, ◌&&◌, List, [], ◌∷◌, ◌++◌, nat_lt}
 use Rattle.layout.specs.Book.{Book}
+use Rattle.words.specs.Comments.{reference_of, commented}
 use Rattle.journal.specs.Grammar.{parsed}
 use Rattle.journal.specs.declared.Request.{Request}
 use Rattle.printing.specs.declared.Answer.{Answer}
@@ -65,16 +66,21 @@ after way room s l =
 -- The bytes that it adds to the answers: "an answer line, a report, nothing for an empty line", nor for `role-retired`.
 unfoldable pub bytes_of : Way → ℕ → State → List ℕ → List ℕ
 bytes_of way room s l =
-    said (answer_of way room s l) ++ tabled (request_of way room s.place l) (book_after (rule_at way s.place) s.book (asks way room s.place l))
+    said way.words (answer_of way room s l) (text_of s.place.line l)
+    ++ tabled way.csv (request_of way room s.place l) (book_after (rule_at way s.place) s.book (asks way room s.place l))
 
--- The call of a line in its numeric form, without its newline.
+-- The call of a line in its numeric form.
 unfoldable pub numeric : ℕ → ℕ → List ℕ → List ℕ
 numeric room before l = printed (parsed room (text_of before l)).request (parsed room (text_of before l)).numbers
+
+-- What is kept of a line, without its newline: "a comment behind an accepted call is kept in the journal behind the call's numeric form".
+unfoldable pub kept_text : ℕ → ℕ → List ℕ → List ℕ
+kept_text room before l = numeric room before l ++ commented (reference_of (text_of before l))
 
 -- The bytes that it adds to the journal: `role-retired` where it ends the first stretch, and its line where it is kept.
 unfoldable pub journal_of : Way → ℕ → State → List ℕ → List ℕ
 journal_of way room s l =
-    cond (way.keeps && ends_at way room s l) retired_line [] ++ cond (is_kept way room s l) (numeric room s.place.line l ++ (10 ∷ [])) []
+    cond (way.keeps && ends_at way room s l) retired_line [] ++ cond (is_kept way room s l) (kept_text room s.place.line l ++ (10 ∷ [])) []
 
 -- Whether the lines have ended before their end: behind the first refusal or error, where that is the last.
 unfoldable pub ended : Way → Place → Bool

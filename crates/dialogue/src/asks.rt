@@ -11,7 +11,7 @@ const MARK: &[u8] = b"\xEF\xBB\xBF";
 
 // The text of a line: behind a byte order mark, if it is the first line.
 #[tactic(auto, using(crate::proofs::AskLaws::mark_test), unfolding(crate::specs::Asks::text_of, crate::specs::Asks::mark_length))]
-fn text_of(line: &[u8], before: u64) -> &[u8]
+pub(crate) fn text_of(line: &[u8], before: u64) -> &[u8]
     ensures { result.now ≡ text_of before line.now }
 {
     match line.strip_prefix(MARK) {

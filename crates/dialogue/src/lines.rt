@@ -7,7 +7,7 @@ ghost use Rattle.answering.specs.InWords.{AnsweredWords};
 ghost use Rattle.dialogue.specs.Asks.{rule_at};
 ghost use Rattle.dialogue.specs.Answers.{space, state_of, Turned, LineTaken, NextLine, Answers};
 
-use crate::asks::ask;
+use crate::asks::{ask, text_of};
 use crate::said::Turn;
 use crate::{Place, Progress, Way};
 use answering::{apply, apply_by_old_rule, is_kept, is_refusal};
@@ -36,7 +36,7 @@ fn next_line(way: Way, place: Place, rest: &[u8], journal: &Out, out: &Out) -> O
 // The answer to a request, made on the book: by the old admission rule in the first stretch of a journal that is replayed, else by the new one.
 // Kept: here and below the words are asked to be a book, since `book`'s calls, which C makes too, take lent words and ask the same.
 // Kept: a request and its row apart, here and below: the row is the whole lent slice, while `CallLine` holds the request's own numbers alone.
-fn apply_at(
+pub(crate) fn apply_at(
     way: Way,
     place: Place,
     book: &mut [u64],
@@ -58,12 +58,12 @@ impl<'a> Turn<'a> {
     // What the line leaves: its bytes for the journal and for the answers behind those that are there, and the next place.
     fn put(self, way: Way, place: Place, journal: &mut Out, out: &mut Out) -> Place
         requires { WellFormed self.book.now }
-        ensures { Turned way place self.entry.request self.entry.answer self.entry.numbers.now self.entry.book.now journal.old out.old result
+        ensures { Turned way place self.entry.text.now self.entry.request self.entry.answer self.entry.numbers.now self.entry.book.now journal.old out.old result
             journal.new out.new }
     {
         let taken = way.keeps && is_kept(self.answer);
         let ends = way.ends_stretch(place, self.request, taken);
-        self.put_added(taken, way.keeps && ends, journal, out);
+        self.put_added(way, taken, way.keeps && ends, journal, out);
         place.further(taken, is_refusal(self.answer), ends)
     }
 }
@@ -93,6 +93,7 @@ pub fn answer_line(
         place.line.wrapping_add(1),
     );
     let turn = Turn {
+        text: text_of(line, place.line),
         request,
         numbers,
         answer,

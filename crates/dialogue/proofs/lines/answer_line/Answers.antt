@@ -9,4 +9,4 @@ pub returns : goal.returns
 unfolding next
 returns c =
     let fits : length c.args.numbers.now ≤ 18446744073709551615 = omega (arith, c.well_formed) in
-    line_taken _ _ _ _ _ _ _ _ _ _ _ _ _ _ _ c.ask-request.ensures refl c.apply_at-answer.ensures c.put.ensures fits
+    line_taken _ _ _ _ _ _ _ _ _ _ _ _ _ _ _ _ c.ask-request.ensures refl c.apply_at-answer.ensures c.text_of.ensures c.put.ensures fits
