@@ -24,7 +24,10 @@ use Rattle.dialogue.specs.declared.Way.{Way}
 use Rattle.dialogue.specs.Split.{lines_in}
 use Rattle.dialogue.specs.Asks.{text_of, held_back, request_of, asks, rule_at}
 use Rattle.dialogue.specs.Said.{said, tabled}
-use Rattle.dialogue.specs.Turns.{State, next, ends_at, answer_of, is_kept, after, bytes_of, numeric, journal_of, after_all, all_bytes, all_journal}
+use Rattle.words.specs.Comments.{reference_of, commented}
+use Rattle.words.proofs.ReferenceLaws.{reference-none}
+use Rattle.dialogue.proofs.References.{printed-bare}
+use Rattle.dialogue.specs.Turns.{State, next, ends_at, answer_of, is_kept, after, bytes_of, numeric, kept_text, journal_of, after_all, all_bytes, all_journal}
 use Rattle.dialogue.proofs.CompleteLines.{line_first}
 use Rattle.dialogue.proofs.KeptForm.{printed-plain, printed-text}
 use Rattle.storage.specs.declared.kept.Journal.{Journal}
@@ -63,12 +66,14 @@ module _ (bytes : List ℕ) (e f : List ℤ) (h : length bytes ≤ length e) (w 
       ∙ ap (take (length (map pos bytes))) in-front
       ∙ take-append_seam (map pos bytes) (drop (0 + length (map pos bytes)) e)
 
-  kept-is : kept_line (Request.Batch (length bytes)) f ≡ batch_line bytes
-  unfolding kept_line batch_line batch_text
-  kept-is = ap (λ (zs : List ℤ). printed (Request.Batch (length bytes)) zs ++ (10 ∷ [])) front-is
+  kept-is : kept_line (Request.Batch (length bytes)) f [] ≡ batch_line bytes
+  unfolding kept_line batch_line batch_text commented
+  kept-is =
+      ap (λ (zs : List ℤ). printed (Request.Batch (length bytes)) zs ++ [] ++ (10 ∷ [])) front-is
+      ∙ ap (λ (t : List ℕ). t ++ (10 ∷ [])) (append-nil (printed (Request.Batch (length bytes)) (map pos bytes)))
 
-  pub line-put : (n : ℕ) (d g : Sheet) → n ≡ length bytes → g ≡ followed d (kept_line (Request.Batch n) f) → g ≡ followed d (batch_line bytes)
-  line-put n d g m x = x ∙ ap (followed d) (ap (λ (k : ℕ). kept_line (Request.Batch k) f) m ∙ kept-is)
+  pub line-put : (n : ℕ) (d g : Sheet) → n ≡ length bytes → g ≡ followed d (kept_line (Request.Batch n) f []) → g ≡ followed d (batch_line bytes)
+  line-put n d g m x = x ∙ ap (followed d) (ap (λ (k : ℕ). kept_line (Request.Batch k) f []) m ∙ kept-is)
 
 -- ---- its length, and that it is one line
 
@@ -151,9 +156,23 @@ module _ (way : Way) (room : ℕ) (s : State) (bytes : List ℕ) (a : AreBytes b
       ap (λ (rule : Rule). answer_to rule s.book (next s.place.line) (asks way room s.place line)) new-rule
       ∙ ap (answer_to new_rule s.book (next s.place.line)) asks-batch
 
-  numeric-is : numeric room s.place.line line ≡ line
-  unfolding numeric batch_text
-  numeric-is = ap (λ (x : Parsed). printed x.request x.numbers) read_back
+  text-is : text_of s.place.line line ≡ line
+  unfolding batch_text
+  text-is = printed-text s.place.line (Request.Batch (length bytes)) (map pos bytes)
+
+  -- it has no comment
+  no-reference : reference_of (text_of s.place.line line) ≡ []
+  unfolding batch_text
+  no-reference =
+      ap reference_of text-is
+      ∙ reference-none (printed (Request.Batch (length bytes)) (map pos bytes)) (printed-bare (Request.Batch (length bytes)) (map pos bytes))
+
+  kept-text-is : kept_text room s.place.line line ≡ line
+  unfolding kept_text numeric batch_text commented
+  kept-text-is =
+      ap (λ (x : Parsed). printed x.request x.numbers ++ commented (reference_of (text_of s.place.line line))) read_back
+      ∙ ap (λ (r : List ℕ). line ++ commented r) no-reference
+      ∙ append-nil line
 
   book-is : (after_all way room s (line ∷ [])).book ≡ book_after new_rule s.book (call (batch bytes))
   unfolding after_all after
@@ -161,15 +180,17 @@ module _ (way : Way) (room : ℕ) (s : State) (bytes : List ℕ) (a : AreBytes b
       rw m.on
       (ap (λ (rule : Rule). book_after rule s.book (asks way room s.place line)) new-rule ∙ ap (book_after new_rule s.book) asks-batch)
 
-  said-is : bytes_of way room s line ≡ said reply
+  said-is : bytes_of way room s line ≡ said way.words reply line
   unfolding bytes_of tabled
   said-is =
       let b = book_after (rule_at way s.place) s.book (asks way room s.place line) in
-      ap (λ (r : Request). said (answer_of way room s line) ++ tabled r b) request-is
-      ∙ append-nil (said (answer_of way room s line))
-      ∙ ap said answer-is
+      let text = text_of s.place.line line in
+      ap (λ (r : Request). said way.words (answer_of way room s line) text ++ tabled way.csv r b) request-is
+      ∙ append-nil (said way.words (answer_of way room s line) text)
+      ∙ ap (λ (a : Answer). said way.words a text) answer-is
+      ∙ ap (said way.words reply) text-is
 
-  bytes-are : all_bytes way room s (line ∷ []) ≡ said reply
+  bytes-are : all_bytes way room s (line ∷ []) ≡ said way.words reply line
   unfolding all_bytes
   bytes-are = rw m.on (append-nil (bytes_of way room s line) ∙ said-is)
 
@@ -179,7 +200,7 @@ module _ (way : Way) (room : ℕ) (s : State) (bytes : List ℕ) (a : AreBytes b
       let u = s.place.early in
       let k = way.keeps in
       let taken = takes (answer_of way room s line) in
-      ap (λ (l : List ℕ). cond (k && ends_at way room s line) retired_line [] ++ cond (k && taken) (l ++ (10 ∷ [])) []) numeric-is
+      ap (λ (l : List ℕ). cond (k && ends_at way room s line) retired_line [] ++ cond (k && taken) (l ++ (10 ∷ [])) []) kept-text-is
       ∙ ap
       (λ (t : Bool).
       cond (k && cond t (u && is_role_retired (request_of way room s.place line)) (u && (k && taken))) retired_line [] ++ cond (k && taken) (line ++ (10 ∷ [])) [])

@@ -44,7 +44,7 @@ pub record MayEnter (way : Way) (room : ℕ) (s : State) (bytes : List ℕ) : Ty
 pub record Loads (way : Way) (room : ℕ) (s : State) (bytes : List ℕ) : Type 0 where
   pub asked : asks way room s.place (batch_text bytes) ≡ call (batch bytes)
   pub book : (after_all way room s (batch_text bytes ∷ [])).book ≡ step new_rule s.book (batch bytes)
-  pub answered : all_bytes way room s (batch_text bytes ∷ []) ≡ said (shown (answer new_rule s.book (batch bytes)))
+  pub answered : all_bytes way room s (batch_text bytes ∷ []) ≡ said way.words (shown (answer new_rule s.book (batch bytes))) (batch_text bytes)
   pub journal : all_journal way room s (batch_text bytes ∷ [])
       ≡ cond (way.keeps && takes (shown (answer new_rule s.book (batch bytes)))) (cond s.place.early retired_line [] ++ batch_line bytes) []
 

@@ -90,7 +90,7 @@ impl<'a> Session<'a> {
 }
 
 // The place behind the last newline of a text, or 0.
-fn behind_newline(text: &[u8]) -> usize
+pub fn behind_newline(text: &[u8]) -> usize
     ensures within { result ≤ length text.now }
     ensures newline { 0 < result → slice_index text.now (result - 1) ≡ 10 }
     ensures behind { (k : ℕ) → result ≤ k → k < length text.now → slice_index text.now k ≢ 10 }

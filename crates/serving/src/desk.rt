@@ -76,4 +76,13 @@ impl<'a> Desk<'a> {
         self.journal = journal;
         self.bytes = 0;
     }
+
+    // The fresh book of day 0 again, before the first line; what is written of the answers stays.
+    pub fn restart(&mut self)
+        ensures begins { (self.new.place ≡ at_start 0 true) × (self.new.journal ≡ None) × (self.new.bytes ≡ 0) }
+        ensures book { BegunWords 0 (fresh_answer 0) self.new.book }
+    {
+        self.book = BookWords::fresh(Day(0));
+        self.begin(ways::at_start(0, true), None);
+    }
 }

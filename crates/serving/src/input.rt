@@ -32,7 +32,7 @@ fn behind(before: u64, used: usize) -> u64
 impl Buffer {
     // Moves the bytes from a place up to another to the front, where they stay unless the line that they begin is too long: it was before, or it
     // fills the buffer. Answers whether it is.
-    fn keep_rest(&mut self, long: bool, from: usize, to: usize) -> bool
+    pub fn keep_rest(&mut self, long: bool, from: usize, to: usize) -> bool
         requires { (from ≤ to) × (to ≤ length self.old.bytes) }
         ensures { RestKept long self.old.bytes from to result self.new.filled self.new.bytes }
     {
@@ -99,6 +99,13 @@ impl<'a> Session<'a> {
         Ok(())
     }
 
+    // Shows how far a journal is replayed, where that takes long.
+    fn show_progress(self, desk: &Desk) {
+        if self.way.replays {
+            self.handles.show_progress(self.rt, desk.bytes);
+        }
+    }
+
     // Reads an input to its end, part by part, and takes the complete lines of each part before it waits for more. What is left of a last line
     // without newline stands in the buffer.
     pub fn take_parts(self, desk: &mut Desk, buffer: &mut Buffer) -> Result<(), Stopped>
@@ -112,9 +119,11 @@ impl<'a> Session<'a> {
         for _ in 0..u64::MAX {
             let more = self.read_more(desk.place, buffer)?;
             if more == 0 {
+                self.handles.end_progress(self.rt);
                 return Ok(());
             }
             self.take_part(desk, buffer, more)?;
+            self.show_progress(desk);
         }
         Ok(())
     }

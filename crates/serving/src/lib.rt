@@ -8,10 +8,14 @@ ghost use Rattle.dialogue.specs.Answers.{state_of};
 ghost use Rattle.dialogue.specs.Dialogue.{replaying};
 ghost use Rattle.storage.specs.Kept.{Continued};
 ghost use Rattle.serving.specs.Replay.{Replayed};
+ghost use Rattle.serving.specs.Ways.{shown as ways_shown};
 
+mod accounts; // accounts.rt: the views of one participant in a journal
 mod buffers; // buffers.rt: a buffer between two reads, and the bytes of a file that is entered
+mod charts; // charts.rt: the layers of a picture of a journal
 mod delivery; // delivery.rt: what becomes of the bytes of lines
 mod desk; // desk.rt: the book, how far an input is taken on it, and room for what a line needs
+mod following; // following.rt: a journal read again for a view
 mod input; // input.rt: an input, read in parts
 mod load; // load.rt: a file entered as one batch
 mod options; // options.rt: the arguments
@@ -19,6 +23,7 @@ mod parts; // parts.rt: all complete lines of a part of an input
 mod replay; // replay.rt: the replay of a journal
 mod session; // session.rt: how lines are taken, and where their bytes go
 mod usage; // usage.rt: what is printed of the program itself
+mod viewing; // viewing.rt: what is shown of a journal in place of answers
 mod ways; // ways.rt: the ways to take the lines of an input
 
 use buffers::{Buffer, Entry};
@@ -58,6 +63,17 @@ impl<'a> Ledger<'a> {
         }
     }
 
+    // A way with words beside numbers and with tables for spreadsheets, where they are asked for.
+    fn shown(&self, way: Way) -> Way
+        ensures { result ≡ ways_shown self.now.options way }
+    {
+        Way {
+            words: self.options.words,
+            csv: self.options.csv,
+            ..way
+        }
+    }
+
     // Answers what is to be answered in a way that is no replay.
     fn answer(&mut self, handles: &Handles, way: Way, from: Sources)
         requires { way.replays ≡ false }
@@ -86,7 +102,7 @@ impl<'a> Ledger<'a> {
     // Answers standard input to its end, with no journal, and then a file's bytes where one is to be entered.
     fn answer_alone(&mut self, file: Option<Entry>) {
         let handles = Handles::of(b"");
-        let way = ways::filtering(self.options.bail);
+        let way = self.shown(ways::filtering(self.options.bail));
         let from = file.map_or(Sources::Input, Sources::Both);
         self.answer(&handles, way, from);
     }
@@ -102,6 +118,7 @@ impl<'a> Ledger<'a> {
     // Answers standard input to its end behind a replay, or in its place the file that is to be entered, and keeps the changes, or reads only.
     fn answer_behind(&mut self, handles: &Handles, file: Option<Entry>) {
         let way = ways::behind_replay(self.options.read, self.options.bail, self.options.batch);
+        let way = self.shown(way);
         let from = file.map_or(Sources::Input, Sources::File);
         self.answer(handles, way, from);
     }
@@ -113,7 +130,7 @@ impl<'a> Ledger<'a> {
             buffer.new.filled buffer.new.bytes self.old.desk.bytes self.new.desk.bytes) }
     {
         let session = self.session(handles, ways::replaying());
-        session.replay(&mut self.desk, buffer, !self.options.read)
+        session.replay(&mut self.desk, buffer, self.options.keeps())
     }
 
     // Replays the journal that was just opened to be kept, which is then ready to be appended to.
@@ -128,6 +145,7 @@ impl<'a> Ledger<'a> {
             buffer.new.filled buffer.new.bytes self.old.desk.bytes self.new.desk.bytes) }
         ensures continued { IfOk result (λ journal. Continued opened self.new.desk.bytes journal) }
     {
+        handles.watch_journal(self.rt);
         self.replay(handles, buffer)?;
         handles.continue_kept(self.rt, opened, self.desk.bytes)
     }
@@ -162,6 +180,7 @@ impl<'a> Ledger<'a> {
         if handles.open_journal(self.rt).is_err() {
             return;
         }
+        handles.watch_journal(self.rt);
         let done = self.replay(&handles, &mut Buffer::new());
         handles.close_journal();
         if done.is_ok() {
@@ -179,6 +198,9 @@ impl<'a> Ledger<'a> {
         }
         let mut buffer = io::buffer();
         match storage::argument(self.rt, place, &mut buffer) {
+            Ok(n) if self.options.view.is_view() => {
+                let _ = self.view(&buffer[..n]);
+            }
             Ok(n) if self.options.read => self.read(&buffer[..n]),
             Ok(n) => self.keep(&buffer[..n]),
             Err(error) => {
@@ -188,9 +210,14 @@ impl<'a> Ledger<'a> {
     }
 }
 
-// The ledger. The one book of the program is here, the fresh book of day 0 until a `fresh` line.
+// The ledger, as all of the program's arguments ask for it.
 pub fn run(rt: &HostRuntime) {
-    let options = options::asked_for(rt);
+    run_by(rt, 1, storage::argument_count(rt));
+}
+
+// The ledger, as the arguments from a place up to another ask for it. Its one book is here, the fresh book of day 0 until a `fresh` line.
+pub fn run_by(rt: &HostRuntime, from: usize, to: usize) {
+    let options = options::asked_for(rt, from, to);
     if options.is_wrong() {
         usage::put_usage(rt, Stream::Errors);
         return;
@@ -206,6 +233,7 @@ pub fn run(rt: &HostRuntime) {
     let mut kept = [0; 90112];
     let mut out = io::large_buffer();
     let desk = Desk::fresh(&mut kept, &mut out);
+    let options = options.on(storage::is_terminal(rt, Stream::Output));
     let mut ledger = Ledger::with(rt, options, desk);
     match options.name {
         Some(place) => ledger.with_journal(place),

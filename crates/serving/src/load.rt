@@ -30,7 +30,7 @@ fn put_line(out: &mut Out, bytes: &[u8], numbers: &mut [i64])
     ensures are_bytes { AreBytes bytes.now }
 {
     put_made(bytes, numbers, number);
-    put_kept(out, Request::Batch(bytes.len()), numbers)
+    put_kept(out, Request::Batch(bytes.len()), numbers, &[])
 }
 
 impl<'a> Session<'a> {

@@ -29,6 +29,8 @@ pub fn filtering(bails: bool) -> Way
         bails,
         gathers: true,
         replays: false,
+        words: false,
+        csv: false,
     }
 }
 
@@ -43,6 +45,8 @@ pub fn behind_replay(reads: bool, bails: bool, gathers: bool) -> Way
         bails,
         gathers,
         replays: false,
+        words: false,
+        csv: false,
     }
 }
 
@@ -57,5 +61,7 @@ pub fn replaying() -> Way
         bails: true,
         gathers: true,
         replays: true,
+        words: false,
+        csv: false,
     }
 }

@@ -6,17 +6,19 @@ ghost use Rattle.std.specs.Result.{result_ok};
 use crate::errors::EBADF;
 use crate::files::open_read;
 use crate::messages::{Stopped, Trouble, said};
+use crate::terminals::Watch;
 use crate::waiting::read_from;
 use std::fs::File;
 use std::io;
 use std::io::Error;
 
-// The journal's name, its file, and the file of its lock, which stays open as long as the program runs.
+// The journal's name, its file, the file of its lock, which stays open as long as the program runs, and the watch by which its replay is shown.
 #[derive(Drop)]
 pub struct Handles<'a> {
     pub name: &'a [u8],
     pub journal: Option<File>,
     pub lock: Option<File>,
+    watch: Option<Watch>,
 }
 
 // What is read: standard input, or the journal that is open.
@@ -37,6 +39,7 @@ impl<'a> Handles<'a> {
             name: journal,
             journal: None,
             lock: None,
+            watch: None,
         }
     }
 
@@ -85,6 +88,33 @@ impl<'a> Handles<'a> {
                 let mut file = self.journal_file()?;
                 read_from(rt, &mut file, buffer)
             }
+        }
+    }
+
+    // Begins to watch over the replay of the journal that is open.
+    pub fn watch_journal(&mut self, rt: &HostRuntime)
+        ensures journal { self.new.journal ≡ self.old.journal }
+        ensures lock { self.new.lock ≡ self.old.lock }
+    {
+        self.watch = match &self.journal {
+            Some(file) => Watch::begin(rt, file),
+            None => None,
+        };
+    }
+
+    // Shows how many bytes of the journal are taken, where its replay takes long: once or twice in 4 MiB, since a part has at most 64 KiB.
+    pub fn show_progress(&self, rt: &HostRuntime, taken: u64) {
+        if let Some(watch) = self.watch {
+            if (taken >> 16) % 64 == 0 {
+                watch.show(rt, self.name, taken);
+            }
+        }
+    }
+
+    // Takes away what was shown.
+    pub fn end_progress(&self, rt: &HostRuntime) {
+        if let Some(watch) = self.watch {
+            watch.end(rt);
         }
     }
 }

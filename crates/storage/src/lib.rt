@@ -9,6 +9,7 @@ mod kept; // kept.rt: the file of a kept journal
 mod known; // known.rt: what the system knows of a file
 mod locks; // locks.rt: the lock of a kept journal
 mod messages; // messages.rt: messages on standard error
+mod terminals; // terminals.rt: terminals, and long work shown on one
 mod texts; // texts.rt: texts put together, shown and read
 mod waiting; // waiting.rt: reads and writes that wait
 mod whole; // whole.rt: a whole file, read at once
@@ -19,5 +20,6 @@ pub use handles::{Handles, Input};
 pub use kept::{Journal, Opened};
 pub use known::Identity;
 pub use messages::{Stopped, about, about_line, are_streams_open, failed, show_dropped};
+pub use terminals::is_terminal;
 pub use waiting::{Stream, write_whole};
 pub use whole::read_whole;

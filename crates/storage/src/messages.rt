@@ -143,6 +143,13 @@ pub fn about(rt: &HostRuntime, name: &[u8], text: &[u8]) {
     say_line(rt, name, &[text]);
 }
 
+// How many of a file's bytes are done, on a line of a terminal that the next one is written over.
+pub fn progress(rt: &HostRuntime, name: &[u8], done: u64, size: u64) {
+    let counts = InlineText::<64>::of(format_args!("{done} of {size} bytes\r"));
+    begin(rt, name);
+    say(rt, counts.as_str().as_bytes());
+}
+
 // A line about a line of a file.
 pub fn about_line(rt: &HostRuntime, name: &[u8], line: u64, text: &[u8]) {
     let number = InlineText::<20>::of(line);
