@@ -2,12 +2,17 @@
 python3 reference/check.py
 
 Each figure is reached by a history from a fresh book, so that cover, firm amount and charges are the reading's own. The batches are bytes worked
-out by hand, on both sides of each bound. Exits 1 on a difference.
+out by hand, on both sides of each bound. What may be released is compared with every amount tried, on small books drawn from a fixed seed; and the
+items of a participant with its statement, with the opened days worked out afresh and with the items of its extract. Exits 1 on a difference.
 """
+import random
 import sys
 
 sys.dont_write_bytecode = True
 
+import accounts
+import ledger
+import reading
 from reading import History, LAST_DAY, date, day_charge, day_number, fresh, in_annual_days, month
 
 differences = []
@@ -729,14 +734,298 @@ def counts_of_others():
     same('counts, among others, the sum', among[0].calls_made(), (8, 3 + 3 * 2, 0, 0, 0, 0, 0))
 
 
+def releases():
+    """The most that may be released: of cash what is held or what the cover has beyond the floor, of a letter all or nothing."""
+    h = History(day_number(2021, 4, 1))
+    for p in (0, 1):
+        h.admit(p, 3)
+    same('releasable, above 63', h.releasable(64, 8), (1, 0))
+    same('releasable, not admitted', h.releasable(2, 8), (2, 0))
+    same('releasable, above 7', h.releasable(0, 8), (5, 0))
+    same('releasable, empty', h.releasable(0, 7), (0, 0))
+    h.lodge(0, 0, 'cash', 700)
+    h.lodge(0, 1, 'letter', 500, h.today, h.today + 3)
+    h.lodge(0, 2, 'letter', 90, h.today + 1, h.today + 20)
+    same('releasable, nothing called', [h.releasable(0, place)[1] for place in range(4)], [700, 500, 90, 0])
+    same('it calls', settle(h, 0, 1000), called(1000, 300, h.today + 10))
+    same('releasable, of the cash what is above the call', [h.releasable(0, place)[1] for place in range(4)], [200, 0, 90, 0])
+    same('one cent more', h.release(0, 0, 201), History.refused(16))
+    go(h, 3)
+    h.lodge(0, 3, 'cash', 1)
+    same("releasable, on the letter's last day", [h.releasable(0, place)[1] for place in range(4)], [291, 0, 90, 1])
+    go(h, 1)
+    same('releasable, the letter lapsed', [h.releasable(0, place)[1] for place in range(4)], [0, 0, 0, 0])
+    same('not even the letter that has begun', h.release(0, 2, 90), History.refused(16))
+
+
+def small_call(h, rng, p):
+    """A call on a small book, of amounts in single cents."""
+    t, place, amount = h.today, rng.randrange(3), rng.randint(1, 9)
+    way = rng.choice('cccllrrsssadg')
+    if way == 'c':
+        return h.lodge(p, place, 'cash', amount)
+    if way == 'l':
+        first = t + rng.randint(-3, 4)
+        return h.lodge(p, place, 'letter', amount, first, first + rng.randint(0, 16))
+    if way == 'r':
+        return h.release(p, place, amount)
+    if way == 's':
+        return h.settle(p, month(t) - rng.choice((2, 2, 3)), [rng.randint(-2, 20), 0, 0, 0, 0])
+    if way == 'a':
+        return h.annual(p)
+    if way == 'd' and rng.random() < 0.2:
+        return h.delete(p)
+    return h.advance(t + rng.choice((1, 1, 2, 5, 11)), 20)
+
+
+def accepted(h, p, place, amount):
+    """Whether a release is accepted; it is taken out of the history again."""
+    done = h.release(p, place, amount) == History.DONE
+    if done:
+        h.people[p].acts.pop()
+    return done
+
+
+def releases_tried():
+    """On small books, after each call: the most that may be released is the largest amount whose release is accepted, of all that could be."""
+    rng, met = random.Random('releases 1'), set()
+    for _ in range(60):
+        h = History(day_number(2021, rng.choice((7, 8, 9)), rng.randint(1, 28)))
+        for p in (0, 1):
+            h.admit(p, 3 + p)
+        for _ in range(40):
+            p = rng.randrange(2)
+            small_call(h, rng, p)
+            for place in range(3):
+                most = max([a for a in range(1, 12) if accepted(h, p, place, a)], default=0)
+                same('releasable, every amount tried', h.releasable(p, place), (0, most))
+                held = h.people[p].position(place, h.today)
+                met.add((held and held[0], most == 0, held is not None and most == held[1]))
+    same('releasable, met', met, {(None, True, False), ('cash', True, False), ('cash', False, False), ('cash', False, True), ('letter', True, False),
+                                  ('letter', False, True)})
+
+
+def afresh(who, start):
+    """The opened days, their firm amounts and covers at the opening, worked out from all of a participant's calls at the end: firm amounts by them
+    all, covers by those made on an earlier day."""
+    return [(day, reading.firm_on(day, who.periods(), who.calls()),
+             reading.cover_on(day, who.amounts([act for act in who.acts if act[0] < day]))) for day in range(who.day + 1, start + 1)]
+
+
+def account_lines(rng):
+    """A journal of three participants: lines as they may be typed, accepted or not."""
+    today = day_number(2021, rng.choice((3, 6, 8, 9)), rng.randint(1, 28))
+    lines = ['fresh %d # from today on' % today]
+    for _ in range(rng.randint(20, 70)):
+        p, place, m, euros = rng.randrange(3), rng.randrange(3), month(today), '%d.%02d' % (rng.randint(0, 30000), rng.randrange(100))
+        way, behind = rng.random(), rng.choice(('', '', ' # receipt %d' % rng.randrange(9999), '\t#\t  a note\t ', '#'))
+        if way < 0.12:
+            line = f'admit {p} {rng.choice((0, 2, 3, 4))}'
+        elif way < 0.25:
+            line = f'lodge {p} {place} cash {euros}'
+        elif way < 0.40:
+            first = today + rng.randint(-3, 20)
+            line = f'lodge {p} {place} letter {euros} {first} {first + rng.randint(0, 60)}'
+        elif way < 0.48:
+            line = f'release {p} {place} {euros}'
+        elif way < 0.60:
+            line = f'settle {p} {m - rng.choice((2, 2, 2, 3, 9))} {euros} 0 -0.00 -{rng.randint(0, 900)} 0.05'
+        elif way < 0.66:
+            parts = [(q, [rng.randint(-100000, 3000000), 0, 0, 0, 0]) for q in rng.sample(range(3), rng.choice((1, 2, 3)))]
+            line = 'batch ' + batch_bytes(m - 2, parts).hex()
+        elif way < 0.70:
+            line = f'annual {p}'
+        elif way < 0.73:
+            line = f'delete {p}'
+        elif way < 0.76:
+            line = f'statement {p}'
+        else:
+            today += rng.choice((1, 1, 5, 10, 11, 30))
+            line = f'advance {today}'
+        lines.append(line + behind)
+    return [line.encode() for line in lines]
+
+
+def batch_bytes(m, parts):
+    data = [bytes([p, len(figures)]) + b''.join(x.to_bytes(8, 'little', signed=True) for x in figures) for p, figures in parts]
+    at, pairs = 4 + 8 * len(data), b''
+    for part in data:
+        pairs += at.to_bytes(4, 'little') + len(part).to_bytes(4, 'little')
+        at += len(part)
+    return m.to_bytes(2, 'little') + len(data).to_bytes(2, 'little') + pairs + b''.join(data)
+
+
+class Keeping(ledger.Kept):
+    """A kept book whose journal is held."""
+
+    def __init__(self):
+        super().__init__()
+        self.data = b''
+
+    def keep(self, lines):
+        self.data += b''.join(line + b'\n' for line in lines)
+
+
+def items():
+    """The items of participants in journals drawn from a fixed seed: their sums are the statements', the days are as worked out afresh, and an
+    extract has the same items and the same figures, day by day."""
+    rng, runs, charged = random.Random('accounts 1'), 0, 0
+    for _ in range(120):
+        keeping = Keeping()
+        for line in account_lines(rng):
+            keeping.answer(line)
+        book = keeping.ledger.book
+        for p in sorted(book.people):
+            who = book.people[p]
+            same('openings, worked out afresh', who.openings, afresh(who, book.today))
+            _, _, _, _, days, mills, _ = book.statement(p)
+            text, own = accounts.items(p, keeping.data), accounts.extract(p, keeping.data)
+            same('items, their sum and the statement', text.split(b'\n')[-3].split()[1:], text.split(b'\n')[-2].split()[1:])
+            same('items, days and charge', text.split(b'\n')[-2].split(), [b'statement', b'%d' % days, accounts.mills_in_euros(mills).encode()])
+            same('items of the extract', accounts.audit(own), text)
+            same('items of the extract, separated', accounts.audit(own, True), accounts.items(p, keeping.data, True))
+            same('days of the extract', accounts.days(p, own), accounts.days(p, keeping.data))
+            same('an extract of the extract', accounts.extract(p, own), own)
+            alone = accounts.replayed(p, own).ledger.book
+            same('the extract names nobody else', list(alone.people), [p])
+            same('statement by the extract', alone.statement(p), book.statement(p))
+            found = who.items()
+            same('runs, one behind the other', all(a[1] < b[0] for a, b in zip(found, found[1:])), True)
+            same('runs, as long as they can be', any(a[1] + 1 == b[0] and a[2:] == b[2:] for a, b in zip(found, found[1:])), False)
+            same('runs, every charged day', [day for a in found for day in range(a[0], a[1] + 1)], [day for day, s in who.shortfalls() if s > 0])
+            runs, charged = runs + len(found), charged + days
+    same('runs and charged days, met', (runs > 100, charged > 1000), (True, True))
+
+
+def entries():
+    """What made a participant's figures, by hand."""
+    journal = b"""role-retired
+fresh 366 # begins
+admit 3 0
+lodge 3 0 cash 25000000
+lodge 3 1 letter 10000000 370 730 # receipt 4711
+admit 5 3 # somebody else
+advance 425 59
+settle 3 12 12345678 0 0 0 0 # too little to call
+settle 3 12 42345678 0 0 0 0 # March
+advance 639 1000 # to October
+advance 731 92 # and to the new year
+"""
+    due = """2021-01-01  admitted            supplier
+2021-01-01  called                       20000.00  free until 2021-01-11, admission
+2021-01-01  lodged at 0                 250000.00  cash
+2021-01-01  lodged at 1                 100000.00  letter from 2021-01-05 to 2021-12-31  # receipt 4711
+2021-03-01  called                      423456.78  free until 2021-03-11, settlement of 2021-01  # March
+2022-01-01  lapsed at 1                 100000.00  # and to the new year
+      from         to   days          firm EUR         cover EUR     shortfall EUR  charge a day EUR            charge EUR
+2021-03-12 2021-12-31    295         423456.78         350000.00          73456.78        1000.00000          295000.00000
+2022-01-01 2022-01-01      1         423456.78         250000.00         173456.78        1000.00000            1000.00000
+sum                      296                                                                                  296000.00000
+statement                296                                                                                  296000.00000
+"""
+    same('entries and items', accounts.items(3, journal).decode(), due)
+    same('extract', accounts.extract(3, journal), b'# extract of participant 3\n' + journal.replace(b'admit 5 3 # somebody else\n', b''))
+
+
+def files():
+    """A participant's file, by hand: every kind of line, a month below zero, and the last digits of all wholes at one place."""
+    to = ledger.Filter()
+    for line in (b'fresh 2021-09-01', b'admit 3 trader', b'lodge 3 0 cash 250000.00', b'lodge 3 2 letter 100000.00 2021-01-01 2021-12-31',
+                 b'settle 3 2021-05 123456.78 0 0 0 0', b'settle 3 2020-07 -0.05 0 0 0 0', b'settle 3 2021-07 400000.00 0 0 0 0',
+                 b'release 3 0 1.00', b'annual 3', b'delete 3', b'advance 2021-09-03'):
+        to.answer(line)
+    same('file', to.answer(b'file 3'), """file 3 611 2021-09-03
+role             trader
+status           under deletion
+position 0       cash           249999.00
+position 2       letter         100000.00  from 2021-01-01 to 2021-12-31
+open call                        10000.00  free until 2021-09-11
+open call                       400000.00  free until 2021-09-11
+next amount                     123456.78
+month 2020-07                       -0.05
+month 2021-05                   123456.78
+month 2021-07                   400000.00
+firm amount                          0.00
+cover                           349999.00
+shortfall                            0.00
+days charged                         0
+charge                               0.00000
+calls made                           2""")
+    to.answer(b'advance 2021-09-14')
+    to.answer(b'advance 2021-10-01')
+    to.answer(b'release 3 0 1.00')
+    to.answer(b'settle 3 2021-08 -1234567.89 0 0 0 0')
+    same('file, later', to.answer(b'file 3'), """file 3 639 2021-10-01
+role             trader
+status           under deletion
+position 0       cash           249998.00
+position 2       letter         100000.00  from 2021-01-01 to 2021-12-31
+month 2021-05                   123456.78
+month 2021-07                   400000.00
+month 2021-08                 -1234567.89
+firm amount                     123456.78
+cover                           349998.00
+shortfall                            0.00
+days charged                        19
+charge                           19000.00000
+calls made                           2""")
+
+
+def words():
+    """What stands behind the answers, by hand."""
+    to = ledger.Filter(words=True)
+    for line, due in ((b'fresh 2021-03-01', 'done'), (b'admit 0 supplier', 'done'), (b'today', 'today 425 2021-03-01'), (b'calls', 'calls 1'),
+                      (b'settle 0 2021-01 123456.78 0 0 0 0', 'called 12345678 12345678 435  total 123456.78, lodge 123456.78 by 2021-03-11'),
+                      (b'settle 0 2021-01 -0.05 0 0 0 0', 'covered -5  total -0.05'), (b'settle 0 2020-11 0 0 0 0 0', 'recorded 0  total 0.00'),
+                      (b'releasable 0 0', 'releasable 0  0.00'), (b'advance 2021-03-14', 'opened 13'),
+                      (b'statement 0', 'statement 12345678 0 12345678 3 300000000 2  firm 123456.78, cover 0.00, shortfall 123456.78, '
+                                       '3 days charged, charge 3000.00000, 2 calls made'),
+                      (b'settle 1 2021-01', 'refused 2  the participant is not admitted'), (b'batch', 'refused 20 0  '
+                      'the file is too short for its pairs, or has none or over 64 (pair 0, counted from 0)'), (b'admit', 'error 13 too few words'),
+                      (b'fresh 29220', 'refused 17  the day is above 29219, or before today'), (b'admit 1 Trader', 'error 15 not a role: Trader'),
+                      (b'special 3 0 0 0 3 0 0 0 3 0 0 0 0 0 0 0', 'special 500000  5000.00'), (b'advance 2021-09-01', 'opened 171'),
+                      (b'annual 0', 'annual 2000000 2  next amount 20000.00 from 2 months'), (b'delete 0', 'deletion 0 0  amount 0.00, not called'),
+                      (b'admit 2 3', 'done'), (b'settle 2 2021-06 5.00 0 0 0 0', 'recorded 500  total 5.00'),
+                      (b'delete 2', 'deletion 500 1  amount 5.00, called'), (b'role-retired', None),
+                      (b'lodge 0 0 cash 1,00', 'error 24 not a number: 1,00  no comma: whole cents, or euros as 20000.00')):
+        same(f'words behind {line}', to.answer(line), due)
+    to = ledger.Filter(words=True, csv=True)
+    for line in (b'fresh 0', b'admit 5 trader', b'admit 0 producer', b'lodge 5 0 cash 12.34', b'advance 12'):
+        to.answer(line)
+    same('a report as comma-separated values', to.answer(b'report'), """participant,role,firm,cover,shortfall,days_charged,charge
+0,producer,0.00,0.00,0.00,0,0.00000
+5,trader,10000.00,12.34,9987.66,2,2000.00000""")
+    same('no rows', ledger.Filter(csv=True).answer(b'report'), 'participant,role,firm,cover,shortfall,days_charged,charge')
+
+
+def references():
+    for line, due in ((b'calls', b''), (b'calls #', b''), (b'calls # \t\r ', b''), (b'calls#a', b'a'), (b'calls # \ta  b#\t\r', b'a  b#'),
+                      (b'calls #' + b'x' * 1001, b'x' * 1000), (b'calls #  ' + b'x' * 999 + b' y', b'x' * 999), (b'calls # \x00\xff', b'\x00\xff')):
+        same('reference', ledger.reference_of(line), due)
+
+
+def wrong_words():
+    for line, due in ((b'frob 1 2', b'frob'), (b'admit 2 0 0 1', b'0'), (b'admit x y', b'x'), (b'fresh 2021-02-30', b'2021-02-30'),
+                      (b'settle 0 2022-01 1 2 x y', b'x'), (b'settle 0 2021-13 1', b'2021-13'), (b'admit 0 nobody 1', b'nobody'),
+                      (b'lodge 0 0 bond 5', b'bond'), (b'batch 180 1', b'180'), (b'batch 18 1 2', b'1'), (b'admit', None), (b'calls \x00', None),
+                      (b'special 3 1 2', None), (b'special 1 5 0 0 0 0 0 0 1 0', b'1'), (b'today 1', b'1'), (b'release 0 0 2,000', b'2,000'),
+                      (b'x #' + b' ' * 4093, b'x'), (b'x #' + b' ' * 4094, None)):
+        same(f'wrong word of {line[:40]}', ledger.wrong_word(line, ledger.reason_of(line)), due)
+    same('a mark at the start is passed over', ledger.Filter(words=True).answer(ledger.MARK + b'frob'), 'error 1 no such call: frob')
+    same('a word is cut', ledger.beside_error(b'x' * 41, 'no such call'), ': ' + 'x' * 40)
+    same('a comma', ledger.beside_error(b'release 0 0 2,00', 'not a number'), ': 2,00  no comma: whole cents, or euros as 20000.00')
+
+
 def main():
     for part in (calendar, examples, checks, charges, two_calls, deposits, batch_too_short, batch_not_following, batch_parts,
                  batch_settlements, admissions, first_stretch, deletion_days, deletion_amounts, deletion_compared, deletion_causes, deletion_fifth,
-                 deletion_october, deletion_example, deletion_life, counts, counts_of_fifth, counts_of_deletions, counts_of_others):
+                 deletion_october, deletion_example, deletion_life, counts, counts_of_fifth, counts_of_deletions, counts_of_others, releases,
+                 releases_tried, items, entries, files, words, references, wrong_words):
         part()
     for line in differences:
         print(line)
-    print(f'paper 01, figures of the book, D, batches, role retired, deletion and counts: {done} compared, {len(differences)} different')
+    print(f'paper 01, figures of the book, D, batches, role retired, deletion, counts, releases and items: {done} compared, '
+          f'{len(differences)} different')
     return 1 if differences else 0
 
 

@@ -1367,7 +1367,7 @@ class Recorder:
     def met_openings(self, who, t, firm, coming, held, octobers):
         """What the opened days after t met, for one participant."""
         now = self.t
-        short = dict(who.openings[-(now - t):])
+        short = dict(who.shortfalls()[-(now - t):])
         ended = collections.Counter(last + 1 for _, last in who.calls() if t <= last < now)
         self.met('opening: one call ends', 1 in ended.values())
         self.met('opening: several calls end at once', max(ended.values(), default=0) > 1)
@@ -1398,7 +1398,7 @@ class Recorder:
         self.met('charge: shortfall below 100,000,000', any(0 < s < 10 ** 8 for s in values))
         self.met('charge: shortfall of 100,000,000', 10 ** 8 in values)
         self.met('charge: shortfall above 100,000,000', any(s > 10 ** 8 for s in values))
-        every = set(s for _, s in who.openings)
+        every = set(s for _, s in who.shortfalls())
         self.met('charge: both kinds for one participant', any(0 < s < 10 ** 8 for s in every) and any(s > 10 ** 8 for s in every))
         self.met('charge: shortfall of 1', 1 in values)
         self.met('charge: covered to the cent', who.firm(now) > 0 and who.cover(now) == who.firm(now))

@@ -1,17 +1,20 @@
 """The ledger in Python's standard library, over paper 01's reading of the history (reading.py): what the program `ledger` has to answer.
 
-    python3 reference/ledger.py [--bail] [--end] < CALLS                the filter
+    python3 reference/ledger.py [--bail] [--end] < CALLS                the filter; so also with --words and --csv
     python3 reference/ledger.py [--bail] [--end] --keep FILE < CALLS    keeps the book in the journal FILE
     python3 reference/ledger.py [--bail] [--end] --read FILE < CALLS    answers questions to the journal FILE
     python3 reference/ledger.py --load BATCH < CALLS                    the filter, and then a batch that is a file
     python3 reference/ledger.py --load BATCH --keep FILE                enters a batch that is a file behind the journal FILE
     python3 reference/ledger.py --check                                 paper 01's starred figures, as calls and their answers
 
+With --words what a number means stands behind the answers (wording.py), and with --csv a report is a file of comma-separated values.
+
 A line is read to a tuple, the call's name first and its arguments after it, numbers as numbers; a settlement's last argument is the list of its
-figures, a special guarantee's arguments are its seven lists, and a batch's is its bytes. The line `role-retired` is read the same way, but is no
-call: it ends the first stretch of a journal, whose calls were made under the old admission rule (paper 02, ask 3), and has no answer. The book is
-reading.py's; the special guarantee stands here. What the program does with the system (locks, forced writes, what fails) is not here:
-reference/ledger_cases.py tries that.
+figures, a special guarantee's arguments are its seven lists, and a batch's is its bytes. An advance without a budget has the last day's number for
+it. The line `role-retired` is read the same way, but is no call: it ends the first stretch of a journal, whose calls were made under the old
+admission rule (paper 02, ask 3), and has no answer. The comment behind an accepted change is its reference, and is kept with it. The book is
+reading.py's; the special guarantee stands here, and what is worked out from a whole journal in accounts.py. What the program does with the system
+(locks, forced writes, what fails) is not here: reference/ledger_cases.py tries that.
 """
 import datetime
 import os
@@ -21,18 +24,23 @@ import sys
 sys.dont_write_bytecode = True
 
 import reading
+from wording import beside, date_text, euros, mills_in_euros, month_name
 
 LONGEST = 65535                                     # bytes of a line without its newline
 LOADED = 32764                                      # bytes of a file that is entered as a batch, at most
 DROPPED = 20479                                     # bytes behind a journal's last newline that are dropped at most
 MARK = b'\xef\xbb\xbf'                              # a byte order mark, passed over at the start of an input
-QUESTIONS = ('statement', 'calls', 'special', 'report')
+REFERENCE = 1000                                    # bytes of a reference at most
+LOOKED_AT, SHOWN = 4096, 40                         # bytes of a line whose wrong word is looked for at most, and that are shown of the word
+BLANKS = b' \t\r'
+QUESTIONS = ('statement', 'calls', 'special', 'report', 'file', 'releasable', 'today')
 STRETCH_END = ('role-retired',)                     # the line that ends a journal's first stretch, as it is read
 NATURAL, DAY, SIGNED = 2 ** 64 - 1, 2 ** 32 - 1, 2 ** 63 - 1
 ROLES = ('supplier', 'self-supplied', 'trader', 'producer', 'res-aggregator', 'demand-response')
 WORD = re.compile(rb'[^ \t\r]+')                    # blanks are spaces, tabs and carriage returns
 CONTROL = re.compile(rb'[\x00-\x08\x0a-\x0c\x0e-\x1f\x7f]')
 DIGITS = re.compile(rb'[0-9]+')
+EUROS = re.compile(rb'([0-9]+)\.([0-9]{2})')
 HEXADECIMAL = re.compile(rb'(?:[0-9A-Fa-f]{2})+')
 DATE = re.compile(rb'([0-9]{4})-([0-9]{2})-([0-9]{2})')
 MONTH = re.compile(rb'([0-9]{4})-([0-9]{2})')
@@ -56,8 +64,24 @@ def natural(word):
     return value(word, NATURAL)
 
 
+def cents(word):
+    """The digits of an amount in cents: one in euros has two of them behind a dot."""
+    parts = EUROS.fullmatch(word)
+    return b''.join(parts.groups()) if parts else word
+
+
+def amount(word):
+    """An amount that is lodged or released."""
+    return natural(cents(word))
+
+
+def figure(word):
+    """A figure of a settlement."""
+    return signed(b'-' + cents(word[1:]) if word[:1] == b'-' else cents(word))
+
+
 def signed(word):
-    """A figure, rate, zero settlement or excess: it may have a minus."""
+    """A rate, zero settlement or excess, or a figure's cents: it may have a minus."""
     if word[:1] != b'-':
         return mark(word)
     if not DIGITS.fullmatch(word[1:]):
@@ -124,11 +148,12 @@ def file(word):
 
 # ---- a line
 
-# The arguments of the calls that have a fixed number of words; a lodging's go on after `cash` or `letter`. A batch's word may be missing.
-ARGUMENTS = {'fresh': (day,), 'admit': (natural, role), 'lodge': (natural, natural, kind), 'release': (natural, natural, natural),
-             'settle': (natural, month), 'annual': (natural,), 'advance': (day, natural), 'statement': (natural,), 'calls': (), 'special': (),
-             'report': (), 'batch': (), 'role-retired': (), 'delete': (natural,)}
-LODGED = {'cash': (natural,), 'letter': (natural, day, day)}
+# The arguments of the calls that have a fixed number of words; a lodging's go on after `cash` or `letter`. A batch's word and an advance's budget may
+# be missing.
+ARGUMENTS = {'fresh': (day,), 'admit': (natural, role), 'lodge': (natural, natural, kind), 'release': (natural, natural, amount),
+             'settle': (natural, month), 'annual': (natural,), 'advance': (day,), 'statement': (natural,), 'calls': (), 'special': (),
+             'report': (), 'batch': (), 'role-retired': (), 'delete': (natural,), 'file': (natural,), 'releasable': (natural, natural), 'today': ()}
+LODGED = {'cash': (amount,), 'letter': (amount, day, day)}
 
 
 class Words:
@@ -174,15 +199,58 @@ def call_of(line):
     elif name == 'settle':
         figures = []
         while words.more():
-            figures.append(words.take(signed))
+            figures.append(words.take(figure))
         call.append(figures)
     elif name == 'special':
         call += [words.numbers(due) for due in (signed, signed, mark, signed, signed, signed, signed)]
     elif name == 'batch':
         call.append(words.take(file) if words.more() else b'')
+    elif name == 'advance':
+        call.append(words.take(natural) if words.more() else reading.LAST_DAY)
     if words.more():
         raise Fault('too many words')
     return tuple(call)
+
+
+def reference_of(line):
+    """The reference that a line gives its call: its comment without the blanks around it, of which the first bytes are kept."""
+    return line.partition(b'#')[2].strip(BLANKS)[:REFERENCE].rstrip(BLANKS)
+
+
+# The reasons that a word of the line is to blame for.
+OF_A_WORD = ('no such call', 'too many words', 'not a number', 'not a day', 'not a month', 'not a role', 'neither cash nor letter',
+             'not two hexadecimal digits for each byte')
+
+
+def reason_of(line):
+    try:
+        call_of(line)
+    except Fault as fault:
+        return str(fault)
+    return None
+
+
+def wrong_word(line, reason):
+    """The word for which a line is no call: the last of the shortest beginning of its words that is no call for the same reason. None where no word
+    is to blame, or the line is too long."""
+    if reason not in OF_A_WORD or len(line) > LOOKED_AT:
+        return None
+    words = WORD.findall(line.partition(b'#')[0])
+    return next(word for n, word in enumerate(words, 1) if reason_of(b' '.join(words[:n])) == reason)
+
+
+def beside_error(line, reason):
+    """What stands behind an error's reason: the wrong word, and what to write in place of a comma. Bytes stand for themselves."""
+    word = wrong_word(line, reason)
+    if word is None:
+        return ''
+    hint = '  no comma: whole cents, or euros as 20000.00' if b',' in word else ''
+    return f': {word[:SHOWN].decode("latin-1")}{hint}'
+
+
+def kept_line(call, reference=b''):
+    """The line of a call as it is kept: in its numeric form, with its reference behind it."""
+    return numeric(call).encode() + (b' # ' + reference if reference else b'')
 
 
 def numeric(call):
@@ -232,25 +300,36 @@ def special(medium, low, marks, zero_medium, zero_low, excess_medium, excess_low
 
 # ---- the book
 
-def decimals(number, places):
-    """A number of parts as a number of wholes, a whole being 10 ^ places parts."""
-    return f'{number // 10 ** places}.{number % 10 ** places:0{places}}'
-
-
 WIDTHS = (11, 16, 17, 17, 17, 12, 21)
 HEADING = ('participant', 'role', 'firm EUR', 'cover EUR', 'shortfall EUR', 'days charged', 'charge EUR')
+CSV_HEADING = ('participant', 'role', 'firm', 'cover', 'shortfall', 'days_charged', 'charge')
 
 
-def row(cells):
-    return ' '.join(str(cell).rjust(width) for cell, width in zip(cells, WIDTHS))
+def row(cells, widths=WIDTHS):
+    return ' '.join(str(cell).rjust(width) for cell, width in zip(cells, widths))
+
+
+def comma_separated(rows):
+    return '\n'.join(','.join(map(str, cells)) for cells in rows)
+
+
+def in_file(label, text):
+    """A line of a participant's file."""
+    return f'{label:17}' + text
+
+
+def of_wholes(number, places, what=''):
+    """What it is, and a number with so many places: the last digit of the wholes stands at one place, so that amounts, counts and charges are
+    aligned."""
+    return f'{what:7}' + number.rjust(14 + (1 + places if places else 0))
 
 
 class Ledger:
     """The book, and the answer to one call after the other. Before any `fresh` it is the fresh book of day 0. A first stretch goes on behind a
-    `fresh`, until it is ended."""
+    `fresh`, until it is ended. With csv a report is comma-separated values."""
 
-    def __init__(self, first_stretch=False):
-        self.book = reading.History(0, first_stretch)
+    def __init__(self, first_stretch=False, csv=False):
+        self.book, self.csv = reading.History(0, first_stretch), csv
 
     def make(self, call):
         """The answer to a call: a line, or for a report several, without the last newline."""
@@ -266,18 +345,50 @@ class Ledger:
             return f'refused {number}' if number else f'special {cents}'
         if name == 'report':
             return self.report()
+        if name == 'file':
+            return self.file(*args)
+        if name == 'releasable':
+            number, cents = book.releasable(*args)
+            return f'refused {number}' if number else f'releasable {cents}'
+        if name == 'today':
+            return f'today {book.today} {reading.date(book.today)}'
         found, *numbers = getattr(book, 'calls_made' if name == 'calls' else name)(*args)
         word, count = (('refused', 1), ('done', 0), ('called', 3), ('covered', 1), ('recorded', 1), ('annual', 2), ('opened', 1),
                        ('statement', 6), ('calls', 1), ('batch', 1), ('refused', 2), ('deletion', 2))[found]
         return ' '.join([word] + [str(number) for number in numbers[:count]])
 
     def report(self):
-        book = self.book
-        lines = [f'report {book.today} {reading.date(book.today)} {len(book.people)}', row(HEADING)]
+        book, rows = self.book, []
         for p in sorted(book.people):
             _, firm, cover, shortfall, days, mills, _ = book.statement(p)
-            lines.append(row((p, ROLES[book.people[p].role], decimals(firm, 2), decimals(cover, 2), decimals(shortfall, 2), days,
-                              decimals(mills, 5))))
+            rows.append((p, ROLES[book.people[p].role], euros(firm), euros(cover), euros(shortfall), days, mills_in_euros(mills)))
+        if self.csv:
+            return comma_separated([CSV_HEADING] + rows)
+        return '\n'.join([f'report {book.today} {reading.date(book.today)} {len(book.people)}', row(HEADING)] + [row(cells) for cells in rows])
+
+    def file(self, p):
+        """A participant's file: what it holds, what is due of it, and what its statement says."""
+        no = self.book.unknown(p)
+        if no:
+            return f'refused {no[1]}'
+        who, today = self.book.people[p], self.book.today
+        _, firm, cover, shortfall, days, mills, calls = self.book.statement(p)
+        coming, now = who.next_amount(today), reading.month(today)
+        lines = [f'file {p} {today} {reading.date(today)}', in_file('role', ROLES[who.role]),
+                 in_file('status', 'under deletion' if who.deletion() else 'admitted')]
+        for place in range(8):
+            held = who.position(place, today)
+            if held:
+                what, amount, first, last = held
+                dates = f'  from {reading.date(first)} to {reading.date(last)}' if what == 'letter' else ''
+                lines.append(in_file(f'position {place}', of_wholes(euros(amount), 2, what) + dates))
+        lines += [in_file('open call', of_wholes(euros(amount), 2) + f'  free until {date_text(last)}') for amount, last in who.open_until(today)]
+        if coming is not None:
+            lines.append(in_file('next amount', of_wholes(euros(coming), 2)))
+        lines += [in_file(f'month {month_name(m)}', of_wholes(euros(total), 2)) for m, total in who.totals(now - 14, now - 2)]
+        lines += [in_file('firm amount', of_wholes(euros(firm), 2)), in_file('cover', of_wholes(euros(cover), 2)),
+                  in_file('shortfall', of_wholes(euros(shortfall), 2)), in_file('days charged', of_wholes(str(days), 0)),
+                  in_file('charge', of_wholes(mills_in_euros(mills), 5)), in_file('calls made', of_wholes(str(calls), 0))]
         return '\n'.join(lines)
 
 
@@ -289,8 +400,8 @@ class Filter:
     """Answers the lines of an input, which are counted from 1. Whoever types them is under the new admission rule, and `role-retired` is passed over
     like a line without words."""
 
-    def __init__(self):
-        self.ledger = Ledger()
+    def __init__(self, words=False, csv=False):
+        self.words, self.ledger = words, Ledger(csv=csv)
         self.begin()
 
     def begin(self, bail=False):
@@ -300,10 +411,12 @@ class Filter:
     def answer(self, line, whole=True):
         """The answer to the next line, without its newline; None where it has none. A last line that has no newline is not whole."""
         self.line += 1
+        line = line.removeprefix(MARK) if self.line == 1 else line
         try:
-            answer = self.taken(line.removeprefix(MARK) if self.line == 1 else line, whole)
+            answer = self.taken(line, whole)
+            answer = answer + beside(answer) if answer and self.words else answer
         except Fault as fault:
-            answer = f'error {self.line} {fault}'
+            answer = f'error {self.line} {fault}' + (beside_error(line, str(fault)) if self.words else '')
         if answer is not None and answer.startswith(('refused', 'error')):
             self.stopped = self.bail
         else:
@@ -312,9 +425,9 @@ class Filter:
 
     def taken(self, line, whole):
         call = call_of(line)
-        return None if call in (None, STRETCH_END) else self.made(call)
+        return None if call in (None, STRETCH_END) else self.made(call, reference_of(line))
 
-    def made(self, call):
+    def made(self, call, reference=b''):
         return self.ledger.make(call)
 
 
@@ -327,9 +440,9 @@ class Kept(Filter):
     journal is replayed first, under the old admission rule up to its line `role-retired`; one without that line is a first stretch as a whole, and
     gets the line before the first change that is added."""
 
-    def __init__(self):
-        super().__init__()
-        self.ledger = Ledger(first_stretch=True)
+    def __init__(self, words=False, csv=False):
+        super().__init__(words)
+        self.ledger = Ledger(True, csv)
         self.any = False     # whether the journal has a change
         self.marked = False  # whether it has the line that ends its first stretch
 
@@ -342,11 +455,11 @@ class Kept(Filter):
             raise Fault('line without newline, not taken')
         return super().taken(line, whole)
 
-    def made(self, call):
+    def made(self, call, reference=b''):
         self.first_only(call)
         answer = self.ledger.make(call)
         if call[0] not in QUESTIONS and not refused(answer):
-            self.keep([numeric(line).encode() for line in ((call,) if self.marked else (STRETCH_END, call))])
+            self.keep(([] if self.marked else [kept_line(STRETCH_END)]) + [kept_line(call, reference)])
             self.any = self.marked = True
         return answer
 
@@ -366,6 +479,7 @@ class Kept(Filter):
             if call == STRETCH_END:
                 self.marked = True
                 self.ledger.book.end_stretch()
+                self.replayed(call, line)
                 return
             self.first_only(call)
             answer = self.ledger.make(call)
@@ -374,6 +488,10 @@ class Kept(Filter):
         if refused(answer):
             raise Stop(f'line {number}: {answer}')
         self.any |= call[0] not in QUESTIONS
+        self.replayed(call, line)
+
+    def replayed(self, call, line):
+        """A call of the journal was replayed, or the line that ends its first stretch."""
 
     def found(self, data):
         """The same for a journal that is to be kept: a rest is given to be dropped only behind a kept call or the line `role-retired`, and if it is
@@ -390,7 +508,7 @@ class Read(Kept):
     def taken(self, line, whole):
         return super().taken(line, True)
 
-    def made(self, call):
+    def made(self, call, reference=b''):
         if call[0] not in QUESTIONS:
             raise Fault('only questions, the journal is read')
         return self.ledger.make(call)
@@ -417,8 +535,8 @@ def contents(name):
 class Keeper(Kept):
     """Keeps the accepted changes in a journal, which is replayed first."""
 
-    def __init__(self, name):
-        super().__init__()
+    def __init__(self, name, words=False, csv=False):
+        super().__init__(words, csv)
         data = contents(name) if os.path.exists(name) else b''
         rest = self.found(data)
         self.file = os.fdopen(os.open(name, os.O_RDWR | os.O_CREAT, 0o600), 'r+b', buffering=0)
@@ -440,7 +558,7 @@ def answers(data, to=None):
         if to.stopped:
             break
         out.append(to.answer(line, whole))
-    return b''.join(answer.encode() + b'\n' for answer in out if answer is not None)
+    return b''.join(answer.encode('latin-1') + b'\n' for answer in out if answer is not None)
 
 
 def ended(to):
@@ -452,7 +570,8 @@ def load(to, data):
     """The answer to a file that is entered as a batch, as bytes. In the kept way its line is kept like any other."""
     if len(data) > LOADED:
         raise Stop('too long for a batch')
-    return to.made(('batch', data)).encode() + b'\n'
+    answer = to.made(('batch', data))
+    return (answer + (beside(answer) if to.words else '')).encode() + b'\n'
 
 
 def run(to, end):
@@ -544,14 +663,14 @@ def check():
     return 1 if wrong else 0
 
 
-def book_of(words):
+def book_of(words, shown):
     """The book that the command line asks for, or None where it asks for none."""
     if not words:
-        return Filter()
+        return Filter(*shown)
     if len(words) == 2 and words[0] == '--keep':
-        return Keeper(words[1])
+        return Keeper(words[1], *shown)
     if len(words) == 2 and words[0] == '--read':
-        book = Read()
+        book = Read(*shown)
         book.replay(contents(words[1]))
         return book
     return None
@@ -560,16 +679,16 @@ def book_of(words):
 def main(words):
     if words == ['--check']:
         return check()
-    bail, end = '--bail' in words, '--end' in words
-    words = [word for word in words if word not in ('--bail', '--end')]
+    bail, end, *shown = [option in words for option in ('--bail', '--end', '--words', '--csv')]
+    words = [word for word in words if word not in ('--bail', '--end', '--words', '--csv')]
     batch = words[1] if len(words) > 1 and words[0] == '--load' else None
     words = words if batch is None else words[2:]
     name = words[-1] if words else batch
     try:
-        to = book_of(words)
+        to = book_of(words, shown)
         if to is None or batch is not None and (bail or end or isinstance(to, Read)):
-            print('use: ledger.py [--bail] [--end] [--keep FILE | --read FILE], ledger.py --load BATCH [--keep FILE], or ledger.py --check',
-                  file=sys.stderr)
+            print('use: ledger.py [--bail] [--end] [--words] [--csv] [--keep FILE | --read FILE], ledger.py --load BATCH [--words] [--keep FILE], '
+                  'or ledger.py --check', file=sys.stderr)
             return 2
         to.begin(bail)
         if batch is None or not words:

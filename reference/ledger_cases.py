@@ -21,7 +21,8 @@ Programs that would treat a deletion (paper 02, ask 4) wrongly, and the cases th
 - a deletion that was refused with 13 leaves the status: `deletion that is refused at first`;
 - it is taken for a question: `deletion and read`, `order of a deletion`.
 
-A program that would count calls (paper 02, ask 6) for all together, or lose a count with the next start, is caught by `counts by participant`.
+A program that would count calls (paper 02, ask 6) for all together, or lose a count with the next start, is caught by `counts by participant`; one
+that would lose a reference, or keep a question, by `references`.
 """
 import contextlib
 import fcntl
@@ -39,6 +40,7 @@ import time
 
 sys.dont_write_bytecode = True
 
+import accounts
 import ledger
 
 PATIENCE = 20        # seconds without an answer or an end
@@ -59,8 +61,8 @@ class Skip(Exception):
 class Model(ledger.Kept):
     """The reference's kept book, with the lines of its journal."""
 
-    def __init__(self, journal=b''):
-        super().__init__()
+    def __init__(self, journal=b'', **ways):
+        super().__init__(**ways)
         self.lines = []
         self.replay(journal)
 
@@ -76,7 +78,7 @@ class Model(ledger.Kept):
 
     def height(self, call):
         """How many lines the answer to a call has."""
-        return 2 + len(self.people()) if call == ('report',) else 1
+        return 1 + self.ledger.make(call).count('\n') if call[0] in ('report', 'file') else 1
 
     def appended(self):
         return b''.join(line + b'\n' for line in self.lines)
@@ -1860,14 +1862,15 @@ def kept_deletions(place):
     for words in ((), ('--batch',)):
         keeps(place, LEAVING, *words, journal=LEAVING_BOOK)
         kept = place.got()[len(LEAVING_BOOK):].split(b'\n')
-        same('the deletions in the journal', [line for line in kept if b'delete' in line], [b'delete 2', b'delete 1', b'delete 0'])
+        deletions = [b'delete 2', b'delete 1', b'delete 0 # outlives 1 October']
+        same('the deletions in the journal', [line for line in kept if b'delete' in line], deletions)
         lines = LEAVING.split(b'\n')[:-1]
         for n in range(1, len(lines)):
             place.put(LEAVING_BOOK)
             for part in (lines[:n], lines[n:]):
                 keeps(place, joined(part), *words, journal=place.got())
             same(f'the deletions of two runs, {n} lines in the first', [line for line in place.got().split(b'\n') if b'delete' in line],
-                 [b'delete 2', b'delete 1', b'delete 0'])
+                 deletions)
     same('the answers of the filter', place.run(data=LEAVING_BOOK + LEAVING), (filtered(LEAVING_BOOK + LEAVING), b''))
 
 
@@ -2048,6 +2051,108 @@ calls 6
         same('the answers of the next start', place.run(place.path, *words, data=asked), (due_counts, b''))
         same('the answers of a reader', place.run('--read', place.path, data=asked), (due_counts, b''))
         keeps(place, asked + b'advance 408 100\n' + asked + b'report\n', *words, journal=place.got())
+
+
+# ---- what the five users ask for
+
+SOME_RUN = month_file(12, (1, (256, 0, 0, 0, 0)))
+USERS = b'''fresh 2021-03-01 # the first of March
+admit 0 supplier# entry 17
+admit 1 producer \t#\t entry 18\t \r
+admit 1 producer # refused, so not kept
+lodge 0 0 cash 20000.00 ### receipt # 4711 #
+lodge 0 1 cash 5,00 # no call
+lodge 0 1 letter 0.50 2021-03-01 2021-04-30 #
+release 0 1 0.50 # \t\r
+settle 1 2021-01 1.00 -0.50 0 0 0.01#\x00\x7f\xff\xe2\x82\xac
+settle 1 2020-12 -1.00 0 0 0 0
+file 0 # asked
+releasable 0 0
+today
+advance 2021-03-04 # no budget
+advance 2021-03-12
+''' + batch_line(SOME_RUN).upper().replace(b'BATCH', b'batch')[:-1] + b''' # run 7
+lodge 1 0 cash 100 # ''' + b'x' * 998 + b''' y
+lodge 1 1 cash 100 # ''' + b'x' * 1001 + b'''
+file 1
+releasable 1 1
+today
+statement 1
+report
+'''
+USERS_KEPT = b'''role-retired
+fresh 425 # the first of March
+admit 0 0 # entry 17
+admit 1 3 # entry 18
+lodge 0 0 cash 2000000 # ## receipt # 4711 #
+lodge 0 1 letter 50 425 485
+release 0 1 50
+settle 1 12 100 -50 0 0 1 # \x00\x7f\xff\xe2\x82\xac
+settle 1 11 -100 0 0 0 0
+advance 428 29219 # no budget
+advance 436 29219
+''' + batch_line(SOME_RUN)[:-1] + b''' # run 7
+lodge 1 0 cash 100 # ''' + b'x' * 998 + b''' y
+lodge 1 1 cash 100 # ''' + b'x' * 1000 + b'\n'
+
+
+@case
+def references(place):
+    """The comment behind an accepted call is kept behind its numeric form, without the blanks around it and cut behind 1,000 bytes; that of a refused
+    call, of a question and of a line that is no call is not. Amounts in euros are kept in cents, and an advance without a budget with the last day's
+    number. The next start replays it all."""
+    for words in ((), ('--batch',)):
+        keeps(place, USERS, *words, journal=b'')
+        same('the journal, by hand', place.got(), USERS_KEPT)
+        keeps(place, b'report\nfile 0\nfile 1\nadvance 2021-03-13 # next\n', *words, journal=USERS_KEPT)
+    reads(place, b'file 0\nfile 1\nfile 64\nfile 2\nreleasable 0 0\nreleasable 1 8\ntoday\nadvance 2021-03-20\nlodge 1 2 cash 1.00\n')
+    same('the answers of the filter', place.run(data=USERS), (filtered(USERS), b''))
+
+
+def shown(place, data, *words, **ways):
+    """Runs with options that change how answers are shown: the filter, a kept journal and a reader; what is kept is the same."""
+    same('the answers of the filter', place.run(*words, data=data), (ledger.answers(data, ledger.Filter(**ways)), b''))
+    place.put(b'')
+    same('the answers', place.run(*words, place.path, data=data), (ledger.answers(data, Model(**ways)), b''))
+    same('the journal', place.got(), due(data)[1])
+    book = ledger.Read(**ways)
+    book.replay(place.got())
+    same('the answers of a reader', place.run('--read', place.path, *words, data=data), (ledger.answers(data, book), b''))
+    place.put(b'')
+
+
+@case
+def words_beside_numbers(place):
+    """With --words what a number means stands behind each answer, and the wrong word behind an error."""
+    long = b'lodge 0 0 cash ' + b'0' * 4075 + b'5,00'
+    for data in (USERS, CALLS, LEAVING, joined([b'x' * 41, long, long + b'0', long + b'0' + b' ' * 4, b'settle 0 13' + b' 7' * 900 + b' 7.0'])):
+        shown(place, data, '--words', words=True)
+
+
+@case
+def report_as_values(place):
+    """With --csv a report is lines of comma-separated values."""
+    shown(place, USERS, '--csv', csv=True)
+    shown(place, b'report\n' + CALLS, '--csv', '--words', words=True, csv=True)
+
+
+@case
+def items_and_extracts(place):
+    """The items of a participant, its extract and the items of the extract are the reference's; nothing is made or changed."""
+    for journal in (due(USERS + b'advance 2021-09-01\nannual 0\nannual 1\nadvance 2021-10-01\n')[1], due(CALLS)[1], due(LEAVING, LEAVING_BOOK)[1],
+                    due(LATER, OLD_BOOK)[1]):
+        place.put(journal)
+        for p in sorted(Model(journal).people()):
+            items, own = accounts.items(p, journal), accounts.extract(p, journal)
+            place.put(own, 'extract')
+            before = snapshot(place.folder)
+            number = str(p)
+            same('the items', place.run('--items', number, place.path), (items, b''))
+            same('the items as values', place.run('--items', number, place.path, '--csv'), (accounts.items(p, journal, True), b''))
+            same('the extract', place.run('--extract', number, place.path), (own, b''))
+            same('the items of the extract', place.run('--audit', place.at('extract')), (items, b''))
+            same('the items of the extract as values', place.run('--audit', place.at('extract'), '--csv'), (accounts.items(p, journal, True), b''))
+            same('the files', snapshot(place.folder), before)
 
 
 # ---- all of them

@@ -308,7 +308,7 @@ lodge 0 0 letter 5 0 2022-02-30 1       #= error not a day
 lodge 0 0 letter 5 0 0 0                #= error too many words
 lodge 0 0 cash 5 0 0                    #= error too many words
 lodge 0 0 cash -5                       #= error not a number
-lodge 0 0 cash 5.00                     #= error not a number
+lodge 0 0 cash 5.00                     #= refused 6 | 5 euros, and the position is filled
 lodge 0 0 cash 2,000                    #= error not a number
 lodge 0 0 5                             #= error neither cash nor letter
 lodge 0 0 Cash 5                        #= error neither cash nor letter
@@ -355,7 +355,7 @@ delete 64 0                             #= error too many words | before 1
 delete 0 delete 0                       #= error too many words
 delete delete                           #= error not a number
 advance                                 #= error too few words
-advance 2022-03-01                      #= error too few words
+advance 2022-03-01                      #= opened 0 | a budget isn't needed
 advance x                               #= error not a day
 advance 790 x                           #= error not a number
 advance 790 -1                          #= error not a number
@@ -949,6 +949,418 @@ calls calls                             #= error too many words
 statement 3                             #= statement 0 9 0 0 0 0
 '''
 
+BEHIND = br'''
+# ---- Amounts in euros: digits, a dot and exactly two digits. So an amount of `lodge` and `release` may be, and a figure of `settle`.
+fresh 2022-03-01                        #= done | day 790, month 26
+admit 0 supplier                        #= done
+admit 1 producer                        #= done
+lodge 0 0 cash 20000.00                 #= done
+lodge 0 1 cash 0.01                     #= done
+statement 0                             #= statement 0 2000001 0 0 0 1
+lodge 0 2 cash 0.00                     #= refused 8
+lodge 0 2 cash 10000000000.01           #= refused 8 | 10^12 cents and one
+lodge 0 2 cash 10000000000.00           #= done
+lodge 0 3 letter 5000.00 2022-03-01 2022-03-31  #= done
+lodge 0 4 letter 000000000000000000000000000000000000000000000000000000000007.50 790 29219  #= done
+statement 0                             #= statement 0 1000002500751 0 0 0 1
+lodge 0 5 cash 184467440737095516.15    #= refused 8 | 2^64 - 1 cents
+lodge 0 5 cash 184467440737095516.16    #= refused 8 | not 0
+lodge 0 5 cash 184467440737095516.17    #= refused 8 | not 1
+lodge 0 5 cash 340282366920938463463374607431768211456.01  #= refused 8
+lodge 0 5 letter 184467440737095516.17 790 790  #= refused 8
+release 0 1 0.02                        #= refused 15
+release 0 1 0.01                        #= done
+release 0 0 20000.01                    #= refused 15
+release 0 2 184467440737095516.17       #= refused 8
+release 0 3 5000.00                     #= done
+release 0 4 7.49                        #= refused 15 | a letter in part
+release 0 4 7.50                        #= done
+release 0 2 9999999999.99               #= done
+release 0 2 00000000.01                 #= done
+release 0 0 0.01                        #= refused 16 | the minimum is called
+settle 1 2022-01 100.00 -50.00 -0.00 0.01 1  #= called 5002 5002 800 | 10000 - 5000 + 1 + 1
+settle 1 2022-01 -100.00 0.00 -0.99 0 0.01  #= covered -10098
+settle 1 2021-12 10000000000.00 -10000000000.00 0 0 0.00  #= recorded 0
+settle 1 2021-12 10000000000.01 0 0 0 0 #= refused 11
+settle 1 2021-12 0 0 0 0 -10000000000.01  #= refused 11
+settle 1 2021-12 0 0 0 0 92233720368547758.07  #= refused 11
+settle 1 2021-12 0 0 0 0 92233720368547758.08  #= refused 11
+settle 1 2021-12 0 0 0 0 -92233720368547758.08  #= refused 11
+settle 1 2021-12 0 0 0 0 -92233720368547758.09  #= refused 11
+settle 1 2021-12 0 0 0 0 184467440737095516.16  #= refused 11 | not 0
+settle 1 2021-12 0 0 0 0 -184467440737095516.16  #= refused 11
+settle 1 2021-12 1.00 2.00 3.00 4.00    #= refused 10
+settle 1 2021-12 -0000000000000000000000000000001.00 0 0 0 0  #= recorded -100
+# Forms that are no amount.
+lodge 0 5 cash 5.                       #= error not a number
+lodge 0 5 cash 5.0                      #= error not a number
+lodge 0 5 cash 5.000                    #= error not a number
+lodge 0 5 cash .50                      #= error not a number
+lodge 0 5 cash .                        #= error not a number
+lodge 0 5 cash ..                       #= error not a number
+lodge 0 5 cash .00                      #= error not a number
+lodge 0 5 cash 5..00                    #= error not a number
+lodge 0 5 cash 5.00.                    #= error not a number
+lodge 0 5 cash 5.00.00                  #= error not a number
+lodge 0 5 cash 5.0.0                    #= error not a number
+lodge 0 5 cash 1.000.00                 #= error not a number
+lodge 0 5 cash 5,00                     #= error not a number
+lodge 0 5 cash 1,000                    #= error not a number
+lodge 0 5 cash 1,000.00                 #= error not a number
+lodge 0 5 cash 1.000,00                 #= error not a number
+lodge 0 5 cash 1'000.00                 #= error not a number
+lodge 0 5 cash 1 000.00                 #= error too many words
+lodge 0 5 cash 5 .00                    #= error too many words
+lodge 0 5 cash 5. 00                    #= error not a number
+lodge 0 5 cash -5.00                    #= error not a number
+lodge 0 5 cash +5.00                    #= error not a number
+lodge 0 5 cash -0.00                    #= error not a number
+lodge 0 5 cash 5.-1                     #= error not a number
+lodge 0 5 cash 5.+1                     #= error not a number
+lodge 0 5 cash 5.0x                     #= error not a number
+lodge 0 5 cash 5.x0                     #= error not a number
+lodge 0 5 cash x.00                     #= error not a number
+lodge 0 5 cash 0x5.00                   #= error not a number
+lodge 0 5 cash 5.0/                     #= error not a number | the byte before 0
+lodge 0 5 cash 5.:0                     #= error not a number | the byte after 9
+lodge 0 5 cash /.00                     #= error not a number
+lodge 0 5 cash 5/00                     #= error not a number
+lodge 0 5 cash 5-00                     #= error not a number
+lodge 0 5 cash 5.00e0                   #= error not a number
+lodge 0 5 cash EUR5.00                  #= error not a number
+lodge 0 5 cash 5.00EUR                  #= error not a number
+lodge 0 5 cash \xe2\x82\xac5.00          #= error not a number
+lodge 0 5 cash 5.\xd9\xa0\xd9\xa0        #= error not a number
+lodge 0 5 cash 5.\x00                   #= error a control byte
+lodge 0 5 letter 5.0 790 790            #= error not a number
+lodge 0 5 letter 5.00 790.00 790        #= error not a day
+release 0 0 5.                          #= error not a number
+release 0 0 .05                         #= error not a number
+release 0 0 5,00                        #= error not a number
+release 0 0 -5.00                       #= error not a number
+release 0 0 5.00 0                      #= error too many words
+settle 1 2022-01 1 2 3 4 5.             #= error not a number
+settle 1 2022-01 1 2 3 4 -5.            #= error not a number
+settle 1 2022-01 1 2 3 4 -.05           #= error not a number
+settle 1 2022-01 1 2 3 4 .05            #= error not a number
+settle 1 2022-01 1 2 3 4 --5.00         #= error not a number
+settle 1 2022-01 1 2 3 4 +5.00          #= error not a number
+settle 1 2022-01 1 2 3 4 5.00-          #= error not a number
+settle 1 2022-01 1 2 3 4 5.-00          #= error not a number
+settle 1 2022-01 1 2 3 4 -5.0           #= error not a number
+settle 1 2022-01 1 2 3 4 -5.000         #= error not a number
+settle 1 2022-01 1 2 3 4 -5,00          #= error not a number
+settle 1 2022-01 1 2 3 4 -              #= error not a number
+settle 1 2022-01 1 2 3 4 -.             #= error not a number
+settle 1 2022-01 1 2 3 4 5.00 -5.0      #= error not a number
+# Other numbers have no dot.
+lodge 0.00 5 cash 5                     #= error not a number
+lodge 0 5.00 cash 5                     #= error not a number
+release 0.00 0 5                        #= error not a number
+release 0 0.00 5                        #= error not a number
+settle 1.00 2022-01 1 2 3 4 5           #= error not a number
+settle 1 24.00 1 2 3 4 5                #= error not a month
+admit 2.00 0                            #= error not a number
+admit 2 0.00                            #= error not a role
+fresh 790.00                            #= error not a day
+advance 790.00                          #= error not a day
+advance 790 0.00                        #= error not a number
+annual 1.00                             #= error not a number
+delete 1.00                             #= error not a number
+statement 1.00                          #= error not a number
+file 1.00                               #= error not a number
+releasable 1.00 0                       #= error not a number
+releasable 1 0.00                       #= error not a number
+special 3 1.00 0 0 3 0 0 0 3 0 0 0 0 0 0 0  #= error not a number
+special 3 0 0 0 3 0 0 0 3 0 0 0 1 -1.00 1 0 1 0 1 0  #= error not a number
+special 3.00 0 0 0 3 0 0 0 3 0 0 0 0 0 0 0  #= error not a number
+batch 18.00                             #= error not two hexadecimal digits for each byte
+statement 0                             #= statement 0 2000000 0 0 0 1 | the book is as before
+statement 1                             #= statement 0 0 0 0 0 1
+
+# ---- `advance` without a budget opens all days up to its day.
+advance 2022-03-03                      #= opened 2
+advance 792                             #= opened 0
+advance 791                             #= refused 17
+advance 2022-03-01                      #= refused 17
+advance 29220                           #= refused 17
+advance 4294967296                      #= refused 17
+advance 18446744073709551616            #= refused 17 | not 0
+advance 2100-01-01                      #= error not a day
+advance 2022-02-29                      #= error not a day
+advance -1                              #= error not a day
+advance 793 0                           #= opened 0 | a budget of 0 is one
+advance 793 x                           #= error not a number
+advance 793 1 1                         #= error too many words
+advance\t793\t\r#= opened 1
+advance 0000000000000000000000000000794 #= opened 1
+advance                                 #= error too few words
+statement 1                             #= statement 0 0 0 0 0 1
+fresh 0                                 #= done
+admit 0 trader                          #= done
+advance 2099-12-31                      #= opened 29219 | the whole calendar
+statement 0                             #= statement 1000000 0 1000000 29209 2920900000000 1 | from day 11 on
+advance 2099-12-31                      #= opened 0
+file 0
+releasable 0 0                          #= releasable 0
+
+# ---- `today`
+today                                   #= today 29219 2099-12-31
+today 0                                 #= error too many words
+today today                             #= error too many words
+today 2021-10-01                        #= error too many words
+today #
+\ttoday \r                              #= today 29219 2099-12-31
+today#= today 29219 2099-12-31
+Today                                   #= error no such call
+TODAY                                   #= error no such call
+toda                                    #= error no such call
+todays                                  #= error no such call
+to day                                  #= error no such call
+today\x00                               #= error a control byte
+today\xff                               #= error no such call
+statement today                         #= error not a number
+fresh today                             #= error not a day
+fresh 0                                 #= done
+today                                   #= today 0 2020-01-01
+fresh 2024-02-29                        #= done
+today                                   #= today 1520 2024-02-29
+advance 2024-03-01                      #= opened 1
+today                                   #= today 1521 2024-03-01
+fresh 29220                             #= refused 17
+today                                   #= today 1521 2024-03-01
+
+# ---- `releasable`: the most that a release at a position would be accepted for.
+fresh 2022-03-01                        #= done | day 790, month 26
+admit 0 producer                        #= done | no minimum
+admit 1 supplier                        #= done
+releasable 64 0                         #= refused 1
+releasable 64 8                         #= refused 1 | before 5
+releasable 18446744073709551616 0       #= refused 1 | not 0
+releasable 2 0                          #= refused 2
+releasable 2 8                          #= refused 2 | before 5
+releasable 63 99999999999999999999      #= refused 2
+releasable 0 8                          #= refused 5
+releasable 0 256                        #= refused 5
+releasable 0 18446744073709551616       #= refused 5 | not 0
+releasable 0 0                          #= releasable 0 | empty
+releasable 00 007                       #= releasable 0
+lodge 0 0 cash 700                      #= done
+lodge 0 1 letter 500 790 793            #= done | it lapses on 5 March
+lodge 0 2 letter 90 791 900             #= done | it begins tomorrow
+lodge 0 7 cash 1000000000000            #= done
+releasable 0 0                          #= releasable 700 | nothing is called
+releasable 0 1                          #= releasable 500
+releasable 0 2                          #= releasable 90
+releasable 0 7                          #= releasable 1000000000000
+release 0 7 1000000000000               #= done
+releasable 0 7                          #= releasable 0 | empty again
+settle 0 2022-01 1000 0 0 0 0           #= called 1000 300 800 | neither letter is deposited
+releasable 0 0                          #= releasable 200 | the cover is 1,200
+releasable 0 1                          #= releasable 0 | 700 would be left, and a letter is released whole
+releasable 0 2                          #= releasable 90 | it covers nothing yet
+release 0 0 201                         #= refused 16
+release 0 1 500                         #= refused 16
+release 0 0 200                         #= done
+releasable 0 0                          #= releasable 0 | 1,000 is left, as much as is called
+release 0 0 1                           #= refused 16
+releasable 0 2                          #= releasable 90
+advance 791                             #= opened 1
+releasable 0 0                          #= releasable 90 | the second letter has begun
+releasable 0 2                          #= releasable 90
+lodge 0 3 cash 1                        #= done
+releasable 0 0                          #= releasable 91
+releasable 0 3                          #= releasable 1 | what is held
+release 0 2 90                          #= done
+releasable 0 0                          #= releasable 1
+releasable 0 1                          #= releasable 0
+lodge 0 4 cash 499                      #= done
+releasable 0 1                          #= releasable 500 | the letter, to the cent
+releasable 0 4                          #= releasable 499
+release 0 4 1                           #= done
+releasable 0 1                          #= releasable 0 | one cent is missing
+releasable 0 4                          #= releasable 498
+lodge 0 5 cash 1                        #= done
+release 0 1 500                         #= done
+releasable 0 1                          #= releasable 0
+releasable 0 4                          #= releasable 0
+advance 801                             #= opened 10 | the call is firm: 500 + 1 + 498 + 1
+statement 0                             #= statement 1000 1000 0 0 0 1
+releasable 0 0                          #= releasable 0 | the firm amount
+lodge 0 6 letter 60 801 801             #= done
+releasable 0 0                          #= releasable 60
+releasable 0 6                          #= releasable 60 | on its last day
+advance 802                             #= opened 1
+releasable 0 6                          #= releasable 0 | it has lapsed
+releasable 0 0                          #= releasable 0
+release 0 6 60                          #= refused 7
+releasable 1 0                          #= releasable 0
+lodge 1 0 cash 19999.99                 #= done
+releasable 1 0                          #= releasable 0 | too little is there already
+statement 1                             #= statement 2000000 1999999 1 2 200000000 1
+lodge 1 1 letter 5000.00 850 900        #= done
+releasable 1 1                          #= releasable 0 | also of a letter that has not begun
+release 1 1 5000.00                     #= refused 16
+lodge 1 2 cash 0.01                     #= done
+releasable 1 1                          #= releasable 500000
+releasable 1 2                          #= releasable 0
+# The next amount binds from the annual run on; and two open calls bind by the larger.
+advance 2022-09-01                      #= opened 172
+settle 0 2022-06 1500 0 0 0 0           #= recorded 1500
+settle 0 2022-05 800 0 0 0 0            #= recorded 800
+lodge 0 1 cash 600                      #= done
+releasable 0 1                          #= releasable 600
+annual 0                                #= annual 1500 3 | January's 1,000 and these
+releasable 0 1                          #= releasable 100 | 1,600 less the next amount
+release 0 1 101                         #= refused 16
+release 0 1 100                         #= done
+advance 2022-10-01                      #= opened 30
+statement 0                             #= statement 1500 1500 0 0 0 1
+settle 0 2022-08 1800 0 0 0 0           #= called 1800 300 1014
+settle 0 2022-08 1900 0 0 0 0           #= called 1900 400 1014
+lodge 0 2 cash 450                      #= done
+releasable 0 2                          #= releasable 50 | 1,950 less the larger call
+releasable 0 1                          #= releasable 50
+# The line.
+releasable                              #= error too few words
+releasable 0                            #= error too few words
+releasable 0 0 0                        #= error too many words
+releasable x 0                          #= error not a number
+releasable 0 x                          #= error not a number
+releasable -1 0                         #= error not a number
+releasable 0 -0                         #= error not a number
+releasable 0, 0                         #= error not a number
+releasable x                            #= error not a number
+releasable 0 0 x                        #= error too many words
+\treleasable\t0\r1 #= releasable 50
+releasable 0 1#= releasable 50
+releasable 0 #1
+Releasable 0 0                          #= error no such call
+releasabl 0 0                           #= error no such call
+releasables 0 0                         #= error no such call
+release able 0                          #= error not a number
+releasable0 0                           #= error no such call
+releasable 0 0\x00                      #= error a control byte
+statement 0                             #= statement 1500 1950 0 0 0 3 | the book is as before
+
+# ---- `file`: what is held of a participant, and what is due of it.
+file                                    #= error too few words
+file x                                  #= error not a number
+file -1                                 #= error not a number
+file 0 0                                #= error too many words
+file 0 x                                #= error too many words
+file 64                                 #= refused 1
+file 256                                #= refused 1
+file 18446744073709551616               #= refused 1 | not 0
+file 2                                  #= refused 2
+file 63                                 #= refused 2
+File 0                                  #= error no such call
+fil 0                                   #= error no such call
+files 0                                 #= error no such call
+file0                                   #= error no such call
+file 0\x7f                              #= error a control byte
+\tfile\t\r0 \r
+file 0#
+file 000000000000000000000001
+fresh 2022-03-01                        #= done | month 26: months 12 to 24
+file 0                                  #= refused 2
+admit 0 producer                        #= done
+admit 1 supplier                        #= done
+admit 2 trader                          #= done
+admit 3 res-aggregator                  #= done
+admit 63 demand-response                #= done
+admit 4 self-supplied                   #= refused 23
+file 0
+file 1
+file 2
+file 3
+file 63
+file 4                                  #= refused 2
+# Positions, letters that begin later, letters on their last day.
+lodge 0 7 cash 1                        #= done
+lodge 0 0 letter 10000000000.00 0 29219 #= done
+lodge 0 3 letter 99 790 790             #= done
+lodge 0 4 letter 100 791 791            #= done
+lodge 0 5 cash 123456.78                #= done
+lodge 0 6 cash 10000000000.00           #= done
+file 0
+release 0 5 123456.77                   #= done
+release 0 6 10000000000.00              #= done
+release 0 3 99                          #= done
+file 0
+advance 791                             #= opened 1
+file 0
+advance 792                             #= opened 1 | the letter of day 791 has lapsed
+file 0
+release 0 0 10000000000.00              #= done
+# Months: the thirteen, the earliest first, credits with a minus; the largest totals.
+settle 0 2021-01 -12345 0 0 0 0         #= recorded -12345 | fourteen months back
+settle 0 2020-12 1 0 0 0 0              #= refused 12
+settle 0 2021-07 -1 0 0 0 0             #= recorded -1
+settle 0 2021-05 -99 0 0 0 0            #= recorded -99
+settle 0 2021-06 -100 0 0 0 0           #= recorded -100
+settle 0 2021-12 0 0 0 0 0              #= recorded 0
+settle 0 2021-08 <16 1000000000000>     #= recorded 16000000000000
+settle 0 2021-09 <16 -1000000000000>    #= recorded -16000000000000
+settle 0 2021-10 5 0 0 0 0              #= recorded 5
+settle 0 2021-10 7 0 0 0 0              #= recorded 7 | the last one counts
+settle 0 2022-01 9 0 0 0 0              #= called 9 7 802
+file 0
+settle 0 2022-01 10 0 0 0 0             #= called 10 8 802
+settle 0 2022-01 11 0 0 0 0             #= called 11 9 802
+settle 0 2022-01 <16 1000000000000>     #= called 16000000000000 15999999999998 802
+settle 0 2022-01 3 0 0 0 0              #= covered 3 | not above an open call
+file 0
+advance 802                             #= opened 10 | the last free day
+file 0
+advance 803                             #= opened 1
+file 0
+advance 2022-04-01                      #= opened 18 | month 27: January 2021 is no longer looked at
+settle 0 2022-02 -1 0 0 0 0             #= covered -1
+file 0
+file 1
+advance 2023-05-01                      #= opened 395 | no month is left
+file 0
+# The next amount, and a deletion.
+advance 2023-08-31                      #= opened 122
+settle 1 2023-05 30000.00 0 0 0 0       #= recorded 3000000
+settle 1 2023-06 25000.00 0 0 0 0       #= called 2500000 2500000 1348
+settle 2 2023-06 -5 0 0 0 0             #= covered -5
+file 1
+advance 2023-09-01                      #= opened 1
+annual 1                                #= annual 3000000 2
+annual 2                                #= annual 1000000 1
+annual 3                                #= annual 0 0 | a next amount of 0 is one
+file 1
+file 2
+file 3
+delete 1                                #= deletion 3000000 1
+delete 2                                #= deletion 0 0
+delete 63                               #= deletion 0 0
+file 1
+file 2
+file 63
+annual 1                                #= refused 25
+advance 2023-10-01                      #= opened 30 | both next amounts took effect
+file 1
+file 2
+file 3
+delete 3                                #= refused 24
+file 3
+# The ends of the calendar.
+fresh 0                                 #= done
+admit 0 supplier                        #= done
+file 0
+advance 2020-03-01                      #= opened 60
+settle 0 0 1 2 3 4 5                    #= covered 15
+file 0
+fresh 2099-12-31                        #= done
+admit 63 trader                         #= done
+lodge 63 0 letter 1 0 29219             #= done
+settle 63 2099-10 3000000 0 0 0 0       #= called 3000000 3000000 29229
+file 63
+'''
+
 KEPT_JOURNAL = br'''\xef\xbb\xbf# The journal that is found: a byte order mark, comments, blank lines, dates and names, and a last line that a crash cut.
 # It has no line `role-retired`: all of it is a first stretch, in which role 1 was admitted.
 
@@ -1076,6 +1488,42 @@ delete 7                                         #= refused 24 | October
 statement 7                                      #= statement 2000001 0 2000001 263 26300000000 2
 statement 8                                      #= statement 2000000 2000000 0 0 0 1
 report
+# Files, what may be released and the day are asked for, and not kept. Amounts in euros are kept in cents, an advance with a budget.
+file 0
+file 7
+file 9                                           #= refused 2
+releasable 0 0                                   #= releasable 0 | as much is firm as is there
+releasable 1 0                                   #= releasable 0 | the letter has lapsed
+today                                            #= today 639 2021-10-01
+lodge 2 3 cash 1234.50                           #= done
+lodge 2 4 letter 0.01 2021-10-01 2021-12-31      #= done
+release 2 3 1,50                                 #= error not a number
+release 2 3 1.50                                 #= done
+settle 2 2021-09 -20.00 0 0 0 0.05               #= refused 12
+settle 2 2021-08 -20.00 0 0 0 0.05               #= covered -1995
+advance 2021-10-05                               #= opened 4
+advance 2021-10-05                               #= opened 0
+# References: the comment behind an accepted call, without the blanks around it.
+lodge 2 5 cash 100# receipt 4711
+lodge 2 6 cash 100 \t #\t\r  receipt 4712, in two parts \t\r
+lodge 2 7 cash 100 ### receipt # 4713 #
+lodge 2 7 cash 100 # refused, so not kept
+release 2 5 1 #
+release 2 5 1 # \t \r
+release 2 5 1 #\r\x00\x01\x7f\xff bytes stand for themselves
+release 2 5 1 # \xe2\x82\xac 0.01
+release 2 5 1 # [999 x] y
+release 2 5 1 # [1000 x]
+release 2 5 1 # [1001 x]
+release 2 5 1 # [990 x] 90123456789
+releasable 2 5 # a question
+file 2 # and another
+\tbatch {1300 0100 0c000000 2a000000 0205 0300000000000000 <4>}\t# run 12
+batch {1300 0100 0c000000 2a000000 0905 0300000000000000 <4>} # refused
+advance 2021-10-06 # opened by the duty officer
+annual 2 # in October
+admit 9 producer # entry 12
+statement 9                                      #= statement 0 0 0 0 0 0
 \xef\xbb\xbfcalls                                #= error no such call | a mark stands only at the start
 calls                                            #= calls 12
 lodge 1 7 cash 5                                 #= error line without newline, not taken'''
@@ -1231,7 +1679,73 @@ def random_lines():
     return lines
 
 
-EXAMPLES = ('year', 'manual', 'month', 'letters', 'leaving')
+# Lines among which the new ones stand when they are damaged.
+NEW = [b'file 0', b'file 1', b'file 2', b'releasable 0 0', b'releasable 0 1', b'releasable 1 0', b'releasable 2 7', b'today', b'advance 2022-03-12',
+       b'advance 800', b'lodge 0 0 cash 20000.00', b'lodge 0 1 letter 5000.50 2022-03-01 2022-12-31', b'lodge 2 7 cash 0.05', b'release 0 0 10000.00',
+       b'release 0 1 5000.50', b'release 2 7 0.05', b'settle 0 2022-01 24000.00 0 0 0 -0.05', b'settle 1 24 1.00 -2 3 -4.00 5.00 6',
+       b'settle 2 2021-12 -9.00 0 0 0 0', b'annual 0', b'delete 2', b'statement 0', b'report']
+
+
+def euro_words(rng, words):
+    """The words of a call, some amounts and figures in euros."""
+    place = {'lodge': 4, 'release': 3}.get(words[0][1])
+    for k, (due, word) in enumerate(words):
+        if (k == place or due == 's') and rng.random() < 0.6:
+            sign, digits = ('-', str(-word)) if word < 0 else ('', str(word))
+            digits = '0' * rng.choice((0, 0, 0, 0, 9)) + digits.zfill(3)
+            words[k] = 'x', f'{sign}{digits[:-2]}.{digits[-2:]}'
+    return words[:-1] if words[0][1] == 'advance' and words[-1][1] >= reading.LAST_DAY else words
+
+
+def asked_lines(rng, i, most):
+    """A history of histories.py as above, with amounts in euros, whose files are asked for; what may be released is tried."""
+    made, to, lines = histories.make(SEED, i), ledger.Filter(), []
+
+    def add(line):
+        lines.append(line)
+        return to.answer(line)
+
+    add(written(rng, [('x', 'fresh'), ('d', made.start)]))
+    for place, text in enumerate(made.text().splitlines()[1:][:most]):
+        kind, *args = map(int, text.split())
+        if kind == 0 and args[1] == reading.RETIRED and place < made.first:
+            args[1] = 0
+        add(written(rng, euro_words(rng, call_words(kind, args))))
+        people = sorted(to.ledger.book.people)
+        if people and rng.random() < 0.4:
+            p = rng.choice(people)
+            full = [k for k in range(8) if to.ledger.book.people[p].position(k, to.ledger.book.today)]
+            k = rng.choice(full or [0]) if rng.random() < 0.8 else rng.randrange(9)
+            found = add(b'releasable %d %d' % (p, k)).split()
+            if found[0] == 'releasable' and rng.random() < 0.4:
+                add(b'release %d %d %d' % (p, k, int(found[1]) + 1))
+                if rng.random() < 0.3:
+                    add(b'release %d %d %d' % (p, k, int(found[1])))
+        if people and rng.random() < 0.2:
+            add(b'file %d' % rng.choice(people))
+        if rng.random() < 0.05:
+            add(b'today')
+    return lines
+
+
+def random_new_lines():
+    """The same as random_lines for the lines that came later; those above stay as they were."""
+    rng = random.Random(f'ledger tests, files and releases {SEED}')
+    lines, pool = [b'', b'# ---- Histories with amounts in euros, whose files are asked for.'], []
+    for i, most in ((2, 60), (6, 70), (8, 60), (10, 70), (11, 60)):
+        made = asked_lines(rng, i, most)
+        lines += made + [b'report']
+        pool += [line for line in made if len(line) < 200]
+    lines += [b'', b'# ---- Damaged lines among these.']
+    pool = pool[::8] + NEW * 6
+    for k in range(240):
+        if k % 40 == 0:
+            lines += [b'fresh 2022-03-01', b'admit 0 supplier', b'admit 1 2', b'admit 2 producer']
+        lines.append(rng.choice(NEW) if k % 4 == 0 else damaged(rng, pool))
+    return lines
+
+
+EXAMPLES = ('year', 'manual', 'month', 'letters', 'leaving', 'users')
 KEPT_EXAMPLES = {'retired': 'kept_by_1_3'}           # calls, and the journal that they are typed behind
 
 
@@ -1252,10 +1766,10 @@ def month_differs():
     return wrong + ['month.journal has not the line of month.csv'] * (b'\n' + made('--hex')[:-1] + b'  #= batch 4\n' not in example('month'))
 
 
-def example_lines():
+def example_lines(names):
     """The calls of the examples, which begin with a fresh book: they are answered as they are by themselves."""
     lines = []
-    for name in EXAMPLES:
+    for name in names:
         calls = [line.partition(b'#')[0].rstrip() for line in example(name).splitlines()]
         lines += [b'', f'# ---- The calls of examples/{name}.journal.'.encode()] + [line for line in calls if line]
     return lines
@@ -1295,9 +1809,10 @@ def long_lines():
 
 def lines_of(text):
     r"""The lines of a text above: \t, \r, \xHH and \\ are the bytes that they name, <16 1> is sixteen words 1, and {18 00} is one word of the
-    digits between the braces, where <4> is four figures of 0."""
+    digits between the braces, where <4> is four figures of 0. [999 x] is a word of 999 letters x."""
     text = text.strip(b'\n').decode('unicode_escape').encode('latin-1')
-    text = re.sub(rb'<([0-9]+) ([0-9]+)>', lambda run: b' '.join([run[2]] * int(run[1])), text)
+    text = re.sub(rb'<([0-9]+) (-?[0-9]+)>', lambda run: b' '.join([run[2]] * int(run[1])), text)
+    text = re.sub(rb'\[([0-9]+) ([a-z])\]', lambda run: run[2] * int(run[1]), text)
     text = re.sub(rb'<([0-9]+)>', lambda run: b'00' * 8 * int(run[1]), text)
     return re.sub(rb'\{([0-9A-Fa-f ]+)\}', lambda digits: digits[1].replace(b' ', b''), text).split(b'\n')
 
@@ -1350,7 +1865,8 @@ def main():
         wrong += [f'{name}, {line}' for line in more]
         write(ROOT, f'examples/{name}.expected', ''.join(answer + '\n' for answer in out).encode())
         write(ROOT, f'examples/{name}.kept', kept)
-    lines = lines_of(BEFORE) + example_lines() + random_lines() + largest_batch() + long_lines()
+    lines = lines_of(BEFORE) + example_lines(EXAMPLES[:5]) + random_lines() + largest_batch() + long_lines()
+    lines += [b''] + lines_of(BEHIND) + example_lines(EXAMPLES[5:]) + random_new_lines()
     lines += [b'', b'# ---- The last line has no newline.', b'statement 0']
     out, more = due_answers(lines, ledger.Filter())
     wrong += more
@@ -1374,7 +1890,8 @@ def main():
     due = [f'refused {n}' for n in (*range(1, 20), 23, 24, 25)] + [f'refused {n} at a pair' for n in (1, 2, 10, 11, 12, 13, 20, 21, 22)] + [
         'a control byte', 'no such call', 'too few words', 'too many words', 'not a number', 'not a day', 'not a month', 'not a role',
         'neither cash nor letter', 'line too long', 'not two hexadecimal digits for each byte',
-        'batch', 'done', 'called', 'covered', 'recorded', 'annual', 'opened', 'statement', 'calls', 'special', 'report', 'deletion']
+        'batch', 'done', 'called', 'covered', 'recorded', 'annual', 'opened', 'statement', 'calls', 'special', 'report', 'deletion', 'file',
+        'releasable', 'today']
     print(f'filter: {stdin.count(10) + 1} lines, {len(stdin)} bytes; {stdout.count(10)} lines of answers, {len(stdout)} bytes')
     print('answers: ' + ', '.join(f'{key}: {kinds.get(key, 0)}' for key in due))
     for line in wrong + more + [f'not met: {key}' for key in due if key not in kinds]:

@@ -6,7 +6,7 @@ figures are read from its accepted calls, each with its arguments and the day it
 between: cover, D, firm amount, open calls, the count of calls made, month totals, the next amount and whether it is under deletion are worked out
 afresh from the calls whenever they are asked for. What is kept is the history itself and what the reading once gave and no later call can change:
 beside a settlement whether it called, beside an annual run its amount, beside a deletion its amount and whether it called, beside an opened day its
-shortfall. An accepted batch is in the history as its settlements.
+firm amount and its cover at the opening. An accepted batch is in the history as its settlements.
 """
 import datetime
 
@@ -61,6 +61,11 @@ def day_charge(shortfall):
     return 0 if shortfall == 0 else max(shortfall, DAY_MINIMUM)
 
 
+def opening_shortfall(firm, cover):
+    """The firm amount less the cover, never below 0."""
+    return max(firm - cover, 0)
+
+
 def cover_on(day, amounts):
     """The sum of the amounts whose days include this one."""
     return sum(amount for amount, first, last in amounts if first <= day <= last)
@@ -111,7 +116,7 @@ class Participant:
     def __init__(self, day, role):
         self.day, self.role = day, role
         self.acts = []       # (day, kind, arguments)
-        self.openings = []   # (day, shortfall at its opening)
+        self.openings = []   # (day, firm amount on it, cover at its opening)
 
     def amounts(self, acts):
         """Lodgings less releases, each with the days that it counts on: (amount, first, last). Cash counts on every day; a release takes the
@@ -159,20 +164,22 @@ class Participant:
                 found = sum(args[1])
         return found
 
+    def totals(self, first, last):
+        """The recorded months from a first to a last one, each with its total, the earliest first."""
+        found = [(m, self.total(m)) for m in range(max(first, 0), last + 1)]
+        return [(m, total) for m, total in found if total is not None]
+
     def annual_amount(self, day):
         """The amount of an annual run on a day, and how many months were recorded."""
         p = month(day)
-        totals = [self.total(m) for m in range(max(p - 14, 0), p - 3 + 1)]
-        totals = [total for total in totals if total is not None]
+        totals = [total for _, total in self.totals(p - 14, p - 3)]
         return max([MINIMUM[self.role]] + totals), len(totals)
 
     def deletion_amount(self, day):
         """The amount of a deletion on a day: the largest total of the three latest recorded months among P - 14 to P - 2, those with the largest
         month numbers, or of as many as there are; 0 if none is recorded or that is negative. No minimum is looked at."""
         p = month(day)
-        totals = [self.total(m) for m in range(p - 2, max(p - 14, 0) - 1, -1)]
-        totals = [total for total in totals if total is not None]
-        return max([0] + totals[:LATEST])
+        return max([0] + [total for _, total in self.totals(p - 14, p - 2)][-LATEST:])
 
     def deletion(self):
         """The accepted deletion, (day, amount, whether it called), or None. From it on the participant is under deletion; nothing ends that."""
@@ -214,8 +221,12 @@ class Participant:
     def firm(self, day):
         return firm_on(day, self.periods(), self.calls())
 
+    def open_until(self, today):
+        """The open calls, oldest first: (amount, last free day)."""
+        return [(amount, last) for amount, last in self.calls() if last >= today]
+
     def open_calls(self, today):
-        return [amount for amount, last in self.calls() if last >= today]
+        return [amount for amount, _ in self.open_until(today)]
 
     def check_due(self, today, m):
         p = month(today)
@@ -234,17 +245,55 @@ class Participant:
         """What a release must leave: the largest of the firm amount, each open call and the next amount."""
         return max([self.firm(today), self.next_amount(today) or 0] + self.open_calls(today))
 
+    def release_cause(self, today, place, amount):
+        """The cause for which the release of an amount at a position would be refused, of 5, 7, 8, 15 and 16 the first; 0 if none holds."""
+        if place > 7:
+            return 5
+        held = self.position(place, today)
+        if held is None:
+            return 7
+        if not 1 <= amount <= MOST:
+            return 8
+        if amount > held[1] or (held[0] == 'letter' and amount != held[1]):
+            return 15
+        left = self.cover(today, self.acts + [(today, 'release', (place, amount))])
+        return 16 if left < self.release_floor(today) else 0
+
+    def releasable(self, today, place):
+        """The largest amount whose release at a position would be accepted, 0 if none would. What is held is one to try, and of cash what the cover
+        has beyond what must be left: more than the smaller of the two is refused with 15 or 16, and if that is refused so is every smaller one."""
+        held = self.position(place, today)
+        tried = [held[1], self.cover(today) - self.release_floor(today)] if held else []
+        return max([0] + [amount for amount in tried if self.release_cause(today, place, amount) == 0])
+
     def open_days(self, days):
-        """The days are opened: the shortfall of each is the firm amount on it less the cover by what was made before, never below 0."""
+        """The days are opened: with each stands the firm amount on it, and the cover by what was made before."""
         amounts, periods, calls = self.amounts(self.acts), self.periods(), self.calls()
         for day in days:
-            self.openings.append((day, max(firm_on(day, periods, calls) - cover_on(day, amounts), 0)))
+            self.openings.append((day, firm_on(day, periods, calls), cover_on(day, amounts)))
+
+    def shortfalls(self):
+        """Each opened day and its opening shortfall."""
+        return [(day, opening_shortfall(firm, cover)) for day, firm, cover in self.openings]
 
     def days_charged(self):
-        return sum(1 for _, shortfall in self.openings if shortfall > 0)
+        return sum(1 for _, shortfall in self.shortfalls() if shortfall > 0)
 
     def accrued(self):
-        return sum(day_charge(shortfall) for _, shortfall in self.openings)
+        return sum(day_charge(shortfall) for _, shortfall in self.shortfalls())
+
+    def items(self):
+        """The charged days in runs, the earliest first: (first day, last day, firm amount, cover). A run is as many days on end as are charged
+        and have one firm amount and one cover."""
+        runs = []
+        for day, firm, cover in self.openings:
+            if opening_shortfall(firm, cover) == 0:
+                continue
+            if runs and runs[-1][1:] == (day - 1, firm, cover):
+                runs[-1] = (runs[-1][0], day, firm, cover)
+            else:
+                runs.append((day, day, firm, cover))
+        return runs
 
 
 class History:
@@ -315,20 +364,18 @@ class History:
         if no:
             return no
         who, t = self.people[p], self.today
-        if place > 7:
-            return self.refused(5)
-        held = who.position(place, t)
-        if held is None:
-            return self.refused(7)
-        if not 1 <= amount <= MOST:
-            return self.refused(8)
-        if amount > held[1] or (held[0] == 'letter' and amount != held[1]):
-            return self.refused(15)
-        act = (t, 'release', (place, amount))
-        if who.cover(t, who.acts + [act]) < who.release_floor(t):
-            return self.refused(16)
-        who.acts.append(act)
+        cause = who.release_cause(t, place, amount)
+        if cause:
+            return self.refused(cause)
+        who.acts.append((t, 'release', (place, amount)))
         return self.DONE
+
+    def releasable(self, p, place):
+        """The refusal's number, or 0, and the most that a release at the position would be accepted for now. The causes are 1, 2, 5."""
+        no = self.unknown(p)
+        if no:
+            return no[1], 0
+        return (5, 0) if place > 7 else (0, self.people[p].releasable(self.today, place))
 
     def settle(self, p, m, figures):
         no = self.unknown(p)
