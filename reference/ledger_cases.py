@@ -2125,7 +2125,7 @@ def shown(place, data, *words, **ways):
 def words_beside_numbers(place):
     """With --words what a number means stands behind each answer, and the wrong word behind an error."""
     long = b'lodge 0 0 cash ' + b'0' * 4075 + b'5,00'
-    for data in (USERS, CALLS, LEAVING, joined([b'x' * 41, long, long + b'0', long + b'0' + b' ' * 4, b'settle 0 13' + b' 7' * 900 + b' 7.0'])):
+    for data in (USERS, CALLS, LEAVING, joined([b'x' * 41, long, long + b'0', long + b'0' + b' ' * 4, b'settle 0 13' + b' 7' * 500 + b' 7.0'])):
         shown(place, data, '--words', words=True)
 
 
