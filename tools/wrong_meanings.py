@@ -15,7 +15,7 @@ LENGTHS, GUARANTEE, RANGES, RATIO = (f'special/specs/{name}.antt' for name in ('
 DECISIONS, READ_CALLS, CHARGES = (f'book/specs/Reading/{name}.antt' for name in ('Decisions', 'Calls', 'Charges'))
 HOLDINGS, MONTHS, EVENTS = (f'book/specs/Reading/{name}.antt' for name in ('Holdings', 'Months', 'Events'))
 BYTES, BATCH, SAYS, LEAST = 'batch/specs/Bytes.antt', 'batch/specs/Batch.antt', 'book/specs/Call.antt', 'laws/specs/Least.antt'
-RULE = 'book/specs/Rule.antt'
+RULE, NUMBERS = 'book/specs/Rule.antt', 'refusal/specs/Numbers.antt'
 
 
 def swapped(path, one, other):
@@ -1056,6 +1056,9 @@ SHARED = [
     ('two low rates enough', [(LENGTHS, 'ltb (length low) 3', 'ltb (length low) 2')], 'Guarantees.two-low'),
     ('four low rates needed', [(LENGTHS, 'ltb (length low) 3', 'ltb (length low) 4')], 'Guarantees.three-rates'),
     ('marked rates counted as usable', [(GUARANTEE, 'too_few medium (usable low marks)', 'too_few medium low')], 'Guarantees.cause-too-few'),
+    ('lists of wrong lengths refused with 18', [(NUMBERS, 'number_of ListLengths = 19', 'number_of ListLengths = 18')], 'Guarantees.number-of-lengths'),
+    ('special: a figure out of its range refused with 10', [(NUMBERS, 'number_of OutOfRange = 11', 'number_of OutOfRange = 10')], 'Guarantees.number-of-ranges'),
+    ('too few rates refused with 19', [(NUMBERS, 'number_of TooFewRates = 18', 'number_of TooFewRates = 19')], 'Guarantees.number-of-too-few'),
     ('special: 11 before 19', swapped(GUARANTEE, LONG, OUTSIDE), 'Guarantees.lengths-before-range'),
     ('special: 18 before 11', swapped(GUARANTEE, OUTSIDE, TOO_FEW), 'Guarantees.cause-mark'),
     ('special: 18 before 19',

@@ -7,6 +7,7 @@ use Rattle.special.specs.Ranges.{rates_in_range, marks_in_range, zeros_in_range,
 use Rattle.special.specs.Ratio.{usable, ratio}
 use Rattle.special.specs.Causes.{wrong_lengths, too_few}
 use Rattle.special.specs.Guarantee.{at_least, amount, special_guarantee}
+use Rattle.refusal.specs.Numbers.{number_of}
 use Rattle.refusal.specs.declared.Refusal.{Refusal}
 use Rattle.refusal.specs.declared.Refusal.TheVariants.{OutOfRange, TooFewRates, ListLengths}
 
@@ -112,6 +113,10 @@ pub record Guarantees : Type 0 where
   -- a marked rate that is out of its range is refused too
   pub cause-marked-rate :
       special_guarantee rates (pos 100001 ∷ rates) (1 ∷ unmarked) nothing nothing nothing nothing ≡ Err OutOfRange
+  -- the numbers of its causes: lengths 19, ranges 11, too few rates 18
+  pub number-of-lengths : number_of ListLengths ≡ 19
+  pub number-of-ranges : number_of OutOfRange ≡ 11
+  pub number-of-too-few : number_of TooFewRates ≡ 18
   -- "fewer than three usable rates" is 18: a marked rate is not usable
   pub cause-too-few : special_guarantee rates rates (1 ∷ 0 ∷ 0 ∷ []) nothing nothing nothing nothing ≡ Err TooFewRates
   pub cause-enough : special_guarantee rates (pos 9 ∷ rates) (1 ∷ unmarked) nothing nothing nothing nothing ≡ Ok 500000
