@@ -1,11 +1,11 @@
 -- A part from its bytes, and its figures.
 -- Assumes nothing.
-use Prim.Native.Nat.{ℕ, ◌+◌, ◌*◌, ◌<◌}
+use Prim.Native.Nat.{ℕ, ◌+◌, ◌*◌, ◌≤◌, ◌<◌}
 use native.Mathlib.Omega.{arith}
 use mathlib.Core.Path.{◌≡◌, sym, ap, ◌∙◌}
 use mathlib.Core.List.{List}
 use lib.IntN.{ℤ, pos}
-use lib.ListN.{length, get_or}
+use lib.ListN.{length, get_or, get_or-eq_default}
 use Rattle.laws.specs.Tabulated.{length-table, get_d-table}
 use Rattle.batch.specs.Bytes.{number_at, signed_of}
 use Rattle.batch.specs.Batch.{offset_at, participant_at, rows_at, figures_behind}
@@ -38,3 +38,6 @@ module _ (file : List ℕ) (offset rows : ℕ) where
       → x ≡ get_or (figures_behind file offset rows) k (pos 0)
   unfolding figures_behind
   figure_is k x h e = e ∙ sym (get_d-table rows (λ k. signed_of (number_at file (offset + 2 + 8 * k) 8)) k (pos 0) h)
+
+  pub no_figure : (k : ℕ) → rows ≤ k → pos 0 ≡ get_or (figures_behind file offset rows) k (pos 0)
+  no_figure k h = sym (get_or-eq_default (figures_behind file offset rows) (pos 0) (rw many_figures h))

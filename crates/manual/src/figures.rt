@@ -1,4 +1,4 @@
-ghost use Rattle.std.specs.Prelude.{◌≡◌, ◌<◌, ℕ, ℤ, pos, List, length, get_or, nat_abs, ◌||◌, leb, ltb};
+ghost use Rattle.std.specs.Prelude.{◌≡◌, ℤ, pos, List, length, get_or, nat_abs, ◌||◌, leb, ltb};
 ghost use Rattle.manual.specs.Figures.{bound, summed};
 
 use refusal::Refusal;
@@ -20,21 +20,44 @@ pub fn within(figure: i64) -> bool
     (-BOUND..=BOUND).contains(&figure)
 }
 
-// The sum of a month's figures, so many and each given by its index, or the first of the causes 10 and 11 that holds.
-pub fn sum_of_figures<F: Fn(usize) -> i64>(count: usize, figure: F) -> Result<i64, Refusal>
-    ghost figures: { List ℤ }
-    requires many { length figures ≡ count }
-    requires callable { (i : ℕ) → i < count → F.pre figure i }
-    requires given { (i : ℕ) (x : ℤ) → i < count → F.post figure i x → x ≡ get_or figures i (pos 0) }
-    ensures { result ≡ summed figures }
+// A month's figures, each by its index.
+pub trait Figures {
+    ghost list: { Self → List ℤ };
+
+    // How many they are.
+    fn count(&self) -> usize
+        ensures { result ≡ length (list self.now) };
+
+    // The figure at an index; 0 behind the last.
+    fn figure(&self, i: usize) -> i64
+        ensures { result ≡ get_or (list self.now) i (pos 0) };
+}
+
+// Figures in a list.
+impl<'a> Figures for &'a [i64] {
+    ghost list = { λ figures. figures.now };
+
+    fn count(&self) -> usize {
+        self.len()
+    }
+
+    fn figure(&self, i: usize) -> i64 {
+        self.get(i).copied().unwrap_or(0)
+    }
+}
+
+// The sum of a month's figures, or the first of the causes 10 and 11 that holds.
+pub fn sum_of_figures<F: Figures>(figures: &F) -> Result<i64, Refusal>
+    ensures { result ≡ summed (F.list figures.now) }
 {
+    let count = figures.count();
     if wrong_count(count) {
         return Err(Refusal::FigureCount);
     }
     // Kept: figures by an index, as a part's are read out of bytes; a `try_fold`'s closure would have to require how large the sum is by then.
     let mut total = 0;
     for i in 0..count {
-        let next = figure(i);
+        let next = figures.figure(i);
         if !within(next) {
             return Err(Refusal::OutOfRange);
         }
@@ -43,14 +66,9 @@ pub fn sum_of_figures<F: Fn(usize) -> i64>(count: usize, figure: F) -> Result<i6
     Ok(total)
 }
 
-// The sum of a month's figures, or the first of the causes 10 and 11 that holds.
+// The sum of the figures in a list, or the first of the causes 10 and 11 that holds.
 pub fn sum_figures(figures: &[i64]) -> Result<i64, Refusal>
     ensures { result ≡ summed figures.now }
 {
-    sum_of_figures(
-        figures.len(),
-        |i|
-            requires { i < length figures.now }
-        { figures[i] },
-    )
+    sum_of_figures(&figures)
 }
