@@ -2,6 +2,7 @@
 -- Assumes nothing.
 use Rattle.std.specs.Prelude.{◌≡◌, ℕ, ◌+◌, ◌-◌, ◌*◌, ◌<◌, false, not, cond, ◌&&◌, List, [], ◌∷◌, length, ◌==◌, nat_le, Option, Some, None}
 use Rattle.std.specs.List.{list_any}
+use Rattle.std.specs.Str.{IsUtf8}
 use Rattle.std.specs.Bool.{then_some}
 
 -- What the name of a journal's lock has behind the journal's: `.lock`.
@@ -11,6 +12,10 @@ lock_ending = 46 ∷ 108 ∷ 111 ∷ 99 ∷ 107 ∷ []
 -- A name as the system takes it: the whole name, of fewer than 4,096 bytes and none of them 0.
 abbrev pub IsPathOf : List ℕ → List ℕ → Type 0
 IsPathOf name path = (path ≡ name) × (length name < 4096) × (list_any (λ b. b == 0) name ≡ false)
+
+-- What a name must be to be handed to the system: fewer than 4,096 bytes, none of them 0, and text in UTF-8.
+abbrev pub CanBePath : List ℕ → Type 0
+CanBePath name = (length name < 4096) × (list_any (λ b. b == 0) name ≡ false) × IsUtf8 name
 
 -- A byte as it is shown: `?` stands for one that is below 32 or above 126.
 unfoldable pub shown_byte : ℕ → ℕ

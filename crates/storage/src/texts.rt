@@ -1,6 +1,6 @@
 // Texts put together, made paths, shown, and read as numbers.
-ghost use Rattle.std.specs.Prelude.{◌≡◌, ℕ, ◌≤◌, ◌++◌, map, length, take, IfOk};
-ghost use Rattle.storage.specs.Texts.{lock_ending, IsPathOf, shown_byte, digit_more, process_in};
+ghost use Rattle.std.specs.Prelude.{◌≡◌, ℕ, ◌≤◌, ◌++◌, map, length, take, IfOk, OnErr};
+ghost use Rattle.storage.specs.Texts.{lock_ending, IsPathOf, CanBePath, shown_byte, digit_more, process_in};
 
 use crate::errors::{EILSEQ, EINVAL, ENAMETOOLONG};
 use std::io::Error;
@@ -21,7 +21,8 @@ pub fn lock_of<'a>(name: &[u8], buffer: &'a mut [u8; 8192]) -> &'a [u8]
 
 // A name as a path. The library opens only names that are text in UTF-8.
 pub fn path_in(name: &[u8]) -> io::Result<&str>
-    ensures { IfOk result (λ path. IsPathOf name.now path.now) }
+    ensures path { IfOk result (λ path. IsPathOf name.now path.now) }
+    ensures refused { OnErr result (¬ (CanBePath name.now)) }
 {
     if PATH_MAX <= name.len() {
         return Err(Error::from_raw_os_error(ENAMETOOLONG));
