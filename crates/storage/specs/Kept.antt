@@ -1,8 +1,15 @@
 -- A kept journal, and what appending to it makes of it.
 -- Assumes nothing.
-use Rattle.std.specs.Prelude.{◌≡◌, ℕ, ◌+◌, ◌%◌, ◌^◌, Some}
+use Rattle.std.specs.Prelude.{◌≡◌, ℕ, ◌+◌, ◌%◌, ◌^◌, Result, Some, option_map}
+use Rattle.std.specs.Result.{result_ok}
 use Rattle.storage.specs.declared.kept.Journal.{Journal}
 use Rattle.storage.specs.declared.kept.Opened.{Opened}
+use Rattle.storage.specs.declared.known.Facts.{Facts}
+use Rattle.storage.specs.declared.known.Identity.{Identity}
+
+-- One that was opened: the numbers of its file are those in the facts of it, where these could be had, and those of its lock are the lock's.
+abbrev pub opened_journal : {E : Type 0} → Result Facts E → Identity → Opened
+opened_journal facts lock = record { file = option_map (λ f. f.identity) (result_ok facts); lock = lock }
 
 -- The journal with n bytes more.
 abbrev pub grown_by : Journal → ℕ → Journal

@@ -1,6 +1,6 @@
 // The file of a kept journal.
 ghost use Rattle.std.specs.Prelude.{◌≡◌, ◌-◌, ◌&&◌, nat_le, nat_lt, length, IfOk, IsSome, OnErr, OnOk};
-ghost use Rattle.storage.specs.Kept.{grown_by, Continued};
+ghost use Rattle.storage.specs.Kept.{opened_journal, grown_by, Continued};
 
 use crate::files::{checked, cut, may_open, open_or_make, opened_to_append};
 use crate::handles::Handles;
@@ -15,6 +15,16 @@ use std::io;
 pub struct Opened {
     pub file: Option<Identity>,
     pub lock: Identity,
+}
+
+// The journal that was opened, with the facts of its file, if they could be had, and its lock.
+fn journal_of(facts: Result<Facts, Stopped>, lock: Identity) -> Opened
+    ensures { result ≡ opened_journal facts lock }
+{
+    Opened {
+        file: facts.ok().map(|facts| facts.identity),
+        lock,
+    }
 }
 
 // A kept journal, which is a value only while all is well: the numbers of its file and of its lock, and where it ends as this program left it.
@@ -107,10 +117,7 @@ impl<'a> Handles<'a> {
     {
         let facts = self.said(rt, facts_of(&file));
         self.journal = Some(file);
-        Opened {
-            file: facts.ok().map(|facts| facts.identity),
-            lock,
-        }
+        journal_of(facts, lock)
     }
 
     // That the journal's name still leads to its file, and its lock is still this program's; if not, that is said.
