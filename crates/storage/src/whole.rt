@@ -1,5 +1,6 @@
 // A whole file, read at once.
 ghost use Rattle.std.specs.Prelude.{◌<◌, ◌≤◌, length, IfOk};
+ghost use Rattle.std.specs.Result.{OkIff};
 
 use crate::files::open_read;
 use crate::messages::{Stopped, Trouble, said};
@@ -22,14 +23,19 @@ fn fill(rt: &HostRuntime, mut file: File, buffer: &mut [u8]) -> io::Result<usize
     Ok(done)
 }
 
+// How many bytes were read, which must be fewer than there was room for.
+fn shorter_than(room: usize, read: usize) -> Result<usize, Trouble>
+    ensures { OkIff result (read < room) read }
+{
+    (read < room).then_some(read).ok_or(Trouble::TooLong(room))
+}
+
 // The regular file with a name, read to its end into the front of a slice, which must be longer than the file.
 fn read_shorter(rt: &HostRuntime, name: &[u8], buffer: &mut [u8]) -> Result<usize, Trouble>
     ensures { IfOk result (λ n. n < length buffer.old) }
 {
-    let n = fill(rt, open_read(rt, name)?, buffer)?;
-    (n < buffer.len())
-        .then_some(n)
-        .ok_or(Trouble::TooLong(buffer.len()))
+    let read = fill(rt, open_read(rt, name)?, buffer)?;
+    shorter_than(buffer.len(), read)
 }
 
 // Reads the regular file with a name to its end into the front of a slice, which must be longer than the file, and answers how many bytes it has. If
