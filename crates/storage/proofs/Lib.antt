@@ -1,3 +1,4 @@
+pub mod Blanks
 pub mod Modes
 pub mod Names
 pub mod Numbers

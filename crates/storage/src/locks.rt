@@ -1,6 +1,6 @@
 // The lock of a kept journal: a file beside it, with the number of the process that keeps it.
-ghost use Rattle.std.specs.Prelude.{◌≡◌, IsSome, OnOk};
-ghost use Rattle.storage.specs.Locks.{holder_in};
+ghost use Rattle.std.specs.Prelude.{◌≡◌, ℕ, ◌<◌, ◌≤◌, ◌≢◌, length, take, slice_index, IfOk, IsSome, OnOk};
+ghost use Rattle.storage.specs.Locks.{holder_in, number_line};
 
 use crate::files::{created, open_read, own, remove};
 use crate::handles::Handles;
@@ -22,14 +22,36 @@ enum Holder {
     Foreign,
 }
 
+// How many bytes a text has before its first blank.
+fn before_blank(text: &[u8]) -> usize
+    ensures within { result ≤ length text.now }
+    ensures before { (k : ℕ) → k < result → slice_index text.now k ≢ 32 }
+    ensures found { result < length text.now → slice_index text.now result ≡ 32 }
+{
+    text.iter()
+        .position(|byte| *byte == b' ')
+        .unwrap_or(text.len())
+}
+
+// What the first bytes of a buffer have before their first blank, and a newline.
+#[tactic(auto, using(crate::proofs::Blanks::line_cut))]
+fn number_line<'a>(line: &'a mut [u8; 32], n: usize) -> &'a [u8]
+    requires { n < 32 }
+    ensures { result.now ≡ number_line (take n line.old) }
+{
+    let end = before_blank(&line[..n]);
+    line[end] = b'\n';
+    &line[..end + 1]
+}
+
 // This process's number and a newline, at the front of a buffer. The system keeps the number at the front of the file /proc/self/stat, before a
 // blank.
-fn own_number<'a>(rt: &HostRuntime, line: &'a mut [u8; 32]) -> io::Result<&'a [u8]> {
+fn own_number<'a>(rt: &HostRuntime, line: &'a mut [u8; 32]) -> io::Result<&'a [u8]>
+    ensures { IfOk result (λ own. length own.now ≤ 32) }
+{
     let mut file = File::open(rt, "/proc/self/stat")?;
     let n = read_from(rt, &mut file, &mut line[..24])?;
-    let end = line[..n].iter().position(|byte| *byte == b' ').unwrap_or(n);
-    line[end] = b'\n';
-    Ok(&line[..end + 1])
+    Ok(number_line(line, n))
 }
 
 // Writes this process's number and a newline, in one piece.
