@@ -136,8 +136,8 @@ fn is_locked(rt: &HostRuntime, lock: &[u8]) -> bool {
 
 impl<'a> Handles<'a> {
     // Makes the lock with a name of its own, which leads to no file. Its descriptor stays open as long as the program runs, so that no other file
-    // gets its numbers, and so does a lock of the system on it, where the file's disk has such locks. A lock that can't be signed is closed and
-    // removed before a word is said.
+    // gets its numbers, and so does a lock of the system on it, where the file's disk has such locks. If it can't be signed that is said, and the
+    // lock is closed and removed; one in the place of a standard stream before a word is said, or the word would stand in it.
     fn make_lock(&mut self, rt: &HostRuntime, lock: &[u8], file: File) -> Result<Identity, Stopped>
         ensures lock { OnOk result (IsSome self.new.lock) }
         ensures journal { self.new.journal ≡ self.old.journal }
@@ -149,9 +149,10 @@ impl<'a> Handles<'a> {
                 Ok(numbers)
             }
             Err(trouble) => {
+                let first = matches!(trouble, Trouble::System(_)).then(|| trouble.say(rt, lock));
                 drop(file);
                 let _ = remove(rt, lock);
-                Err(trouble.say(rt, lock))
+                Err(first.unwrap_or_else(|| trouble.say(rt, lock)))
             }
         }
     }
