@@ -1,19 +1,22 @@
 // Plays long random histories on the book, and prints every answer. data/ holds the histories, and the file stdout what the reference says
-// (reference/histories.py): the gate compares the two.
+// (reference/histories.py): the gate compares the two. Nothing is allocated, and the status is 0 whatever is read or written.
 #![tactic(auto)]
 
+use arrayvec::ArrayString;
 use history::History;
-use std::io::{BufWriter, ErrorKind, Write};
-use std::{fs, io};
+use std::fmt::Write;
+use std::fs;
+use std::os::fd::AsRawFd;
 
 mod history; // history.rt: a history, read from its text
 mod text; // text.rt: the numbers of a text
 
-// Plays a history on a fresh book, and writes its answers: each as seven numbers on a line.
-fn play<W: Write>(rt: &HostRuntime, history: &History, to: &mut W) -> io::Result<()> {
+// Plays a history on a fresh book, and prints its answers: each as seven numbers on a line. Where a line can't be written, the next one is tried.
+fn play(rt: &HostRuntime, history: &History) {
     let start = history.start;
-    writeln!(to, "history {start}")?;
-    let mut out = vec![in rt.alloc(); 0i64; history.words.len() / 6 * 7]?;
+    let _ = println!(rt; "history {start}");
+    let mut out = [0i64; 2800];
+    let out = &mut out[..history.words.len() / 6 * 7];
     let mut book = [0u64; 6210];
     let _ = replay::replay(
         history.start_day(),
@@ -21,36 +24,35 @@ fn play<W: Write>(rt: &HostRuntime, history: &History, to: &mut W) -> io::Result
         &history.words,
         &history.figures,
         &history.files,
-        &mut out,
+        out,
         &mut book,
     );
     for answer in out.chunks_exact(7) {
         let [a, b, c, d, e, f, g] = answer else { break };
-        writeln!(to, "{a} {b} {c} {d} {e} {f} {g}")?;
+        let _ = println!(rt; "{a} {b} {c} {d} {e} {f} {g}");
     }
-    Ok(())
+}
+
+// Plays the history with a number: the first 65,536 bytes of its file, or what was read of them before a read failed. Says whether there is such a
+// file that opens.
+fn play_file(rt: &HostRuntime, number: usize) -> bool {
+    let mut name = ArrayString::<4>::new();
+    let _ = write!(name, "h{number:03}");
+    let Ok(file) = fs::open(rt, name.as_str()) else {
+        return false;
+    };
+    let mut text = io::large_buffer();
+    let n = io::read_full(file.as_raw_fd(), &mut text);
+    drop(file);
+    play(rt, &History::read(&text[..n]));
+    true
 }
 
 // Plays the histories h000, h001, .. in turn, up to the first number that has none.
-fn play_all(rt: &HostRuntime) -> io::Result<()> {
-    let mut to = BufWriter::new(rt.alloc(), io::writer(rt))?;
+fn main(rt: HostRuntime) {
     for number in 0..1000 {
-        let name = format!(in rt.alloc(); "h{number:03}")?;
-        let text = match fs::read_to_string(rt, name.as_str()) {
-            Ok(text) => text,
-            Err(error) if error.kind() == ErrorKind::OutOfMemory => return Err(error),
-            Err(_) => break,
-        };
-        let history = History::read(rt.alloc(), text.as_str())?;
-        play(rt, &history, &mut to)?;
-    }
-    to.flush()
-}
-
-// Where memory fails, the histories end with a message on standard error and the status 1. A write that fails ends them, and changes nothing else.
-fn main(rt: HostRuntime) -> io::Result<()> {
-    match play_all(&rt) {
-        Err(error) if error.kind() == ErrorKind::OutOfMemory => Err(error),
-        _ => Ok(()),
+        if !play_file(&rt, number) {
+            break;
+        }
     }
 }

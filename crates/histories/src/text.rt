@@ -1,6 +1,6 @@
-// The numbers of a history's text: decimal, some with a minus, with blanks or line ends between them.
+// The numbers of a history's text: decimal, some with a minus, with blanks or line ends between them. A text may hold any bytes.
 
-use std::str::SplitWhitespace;
+use std::slice;
 
 // A number: whether a minus stands before it, and its size; the largest where that does not fit.
 // Kept: a sign beside a size: one too large for u64 counts as the largest with or without a minus, which an i128 would clip twice.
@@ -17,19 +17,6 @@ impl Number {
         size: 0,
     };
 
-    // A word as a number, if it is one.
-    // Kept: not words' numbers: here a number too small counts as the largest, and as a word it is its size without the minus.
-    fn of(word: &str) -> Option<Number> {
-        let digits = word.strip_prefix('-').unwrap_or(word);
-        if digits.is_empty() || !digits.bytes().all(|byte| byte.is_ascii_digit()) {
-            return None;
-        }
-        Some(Number {
-            negative: digits.len() < word.len(),
-            size: digits.parse().unwrap_or(u64::MAX),
-        })
-    }
-
     // The number with its sign; the largest where its size does not fit.
     pub fn signed(self) -> i64 {
         i64::try_from(self.size).map_or(i64::MAX, |size| if self.negative { -size } else { size })
@@ -39,15 +26,13 @@ impl Number {
 // The numbers that are left.
 #[derive(Drop)]
 pub struct Numbers<'a> {
-    words: SplitWhitespace<'a>,
+    bytes: slice::Iter<'a, u8>,
 }
 
 impl<'a> Numbers<'a> {
     // All numbers of a text.
-    pub fn of(text: &'a str) -> Numbers<'a> {
-        Numbers {
-            words: text.split_whitespace(),
-        }
+    pub fn of(text: &'a [u8]) -> Numbers<'a> {
+        Numbers { bytes: text.iter() }
     }
 
     // The next number without its sign; 0 at the text's end.
@@ -56,11 +41,25 @@ impl<'a> Numbers<'a> {
     }
 }
 
-// The numbers in turn; words that are none are left out.
+// The numbers in turn. A number is a run of digits, and has a minus where that is the byte before them; the byte behind them is passed over too, so
+// it is no minus of the next number.
 impl Iterator for Numbers<'_> {
     type Item = Number;
 
     fn next(&mut self) -> Option<Number> {
-        self.words.find_map(Number::of)
+        let mut negative = false;
+        let mut found = None;
+        for byte in self.bytes.by_ref() {
+            match byte {
+                b'0'..=b'9' => {
+                    let size: u64 = found.unwrap_or(0);
+                    let digit = u64::from(byte - b'0');
+                    found = Some(size.saturating_mul(10).saturating_add(digit));
+                }
+                _ if found.is_some() => break,
+                _ => negative = *byte == b'-',
+            }
+        }
+        found.map(|size| Number { negative, size })
     }
 }
