@@ -10,8 +10,10 @@ mod minimums;
 mod monthly_example;
 mod print;
 mod special_example;
+mod tried;
 
 use std::io;
+use tried::Tried;
 
 // All tables and examples, in the order of 002's sections.
 fn tables(rt: &impl Print) -> io::Result<()> {
@@ -22,7 +24,7 @@ fn tables(rt: &impl Print) -> io::Result<()> {
     special_example::special(rt)
 }
 
-// A write that fails ends the tables, and changes nothing else.
+// A write that fails changes nothing else: the next one is tried.
 fn main(rt: HostRuntime) {
-    let _ = tables(&rt);
+    let _ = tables(&Tried(&rt));
 }
