@@ -1,13 +1,14 @@
 -- One line more behind lines taken.
 -- Assumes nothing.
-use Rattle.std.proofs.Common.{◌≡◌, ℕ, ◌+◌, ◌-◌, ◌<◌, ◌≤◌, Bool, true, false, not, ◌&&◌, ◌||◌, eqb, ltb, leb, List, [], ◌∷◌, ◌++◌, length, take, drop, sym, refl, ap, ◌∙◌, append_assoc, append-nil, arith, length-append, length-drop, take_all, leb-true, ltb-true, ltb-false}
+use Rattle.std.proofs.Common.{◌≡◌, ℕ, ◌+◌, ◌-◌, ◌<◌, ◌≤◌, Bool, true, false, not, ◌&&◌, ◌||◌, eqb, ltb, leb, List, [], ◌∷◌, ◌++◌, length, take, drop, replicate, sym, refl, ap, ◌∙◌, append_assoc, append-nil, arith, length-append, length-drop, take_all, leb-true, ltb-true, ltb-false}
 use Rattle.std.specs.Prelude.{Option, Some, None}
 use Rattle.std.specs.List.{position, position_or_len}
-use Rattle.std.proofs.Math.Seq.{drop-nil}
+use Rattle.std.proofs.lemmas.List.{drop-replicate, length-take}
+use lib.ListN.{length-replicate}
 use borrow.Author.Tests.{not-true}
 use Rattle.laws.specs.Cases.{split, and_left, and_right, clash}
-use Rattle.printing.specs.Written.{Sheet, followed, emptied, sized, blank}
-use Rattle.printing.specs.WrittenLaws.{same_sheet, followed_none, followed_twice, written_fits, room_left}
+use Rattle.printing.specs.Written.{Sheet, written_on, room_on, followed, emptied, nameless, sized, blank}
+use Rattle.printing.specs.WrittenLaws.{same_sheet, followed_none, followed_twice, written_fits, room_left, sized_written, sized_room}
 use Rattle.dialogue.specs.declared.Way.{Way}
 use Rattle.dialogue.specs.declared.Place.{Place}
 use Rattle.dialogue.specs.Split.{lines_in, rest_in, until_newline}
@@ -21,37 +22,41 @@ use Rattle.dialogue.proofs.SplitLaws.{lines_more, whole-more, no_line}
 -- Where they have room, what is written is what was written before, and then they.
 record Behind (bs : List ℕ) (e f : Sheet) : Type 0 where
   same : space f ≡ space e
-  front : f.written ≡ e.written ++ bs
+  front : written_on f ≡ written_on e ++ bs
 
-behind : (bs : List ℕ) (e f : Sheet) → f ≡ followed e bs → length bs ≤ e.room → Behind bs e f
+behind : (bs : List ℕ) (e f : Sheet) → f ≡ followed e bs → length bs ≤ room_on e → Behind bs e f
 behind bs e f x h =
-    let w : f.written ≡ e.written ++ bs = ap (λ (z : Sheet). z.written) x ∙ written_fits e bs h in
-    let r : f.room ≡ e.room - length bs = ap (λ (z : Sheet). z.room) x ∙ room_left e bs in
-    record { same = omega (arith, ap length w, length-append e.written bs, r); front = w }
+    let w : written_on f ≡ written_on e ++ bs = ap written_on x ∙ written_fits e bs h in
+    let r : room_on f ≡ room_on e - length bs = ap room_on x ∙ room_left e bs in
+    record { same = omega (arith, ap length w, length-append (written_on e) bs, r); front = w }
 
 -- All that is written on a sheet, written on one of its size when it was blank.
-filled : (k : Sheet) (t : List ℕ) → k.written ≡ t → followed (blank (space k)) t ≡ sized k
+filled : (k : Sheet) (t : List ℕ) → written_on k ≡ t → followed (blank (space k)) t ≡ sized k
 unfolding followed blank sized
 filled k t e =
-    let n : length k.written ≡ length t = ap length e in
-    same_sheet (take (space k) t) k.written (space k - length t) k.room (drop (length t) []) []
-    (take_all (space k) t (omega arith) ∙ sym e) (omega arith) (drop-nil (length t))
+    let n : length (written_on k) ≡ length t = ap length e in
+    let z : List ℕ = replicate (space k) 0 in
+    let l : length z ≡ space k = length-replicate {A = ℕ} (space k) 0 in
+    let w : take (length z - 0) t ≡ written_on k = take_all (length z - 0) t (omega arith) ∙ sym e in
+    let m : space k - length t ≡ room_on k = omega arith in
+    let r : drop (length t) z ≡ replicate (room_on k) 0 = drop-replicate (length t) (space k) 0 ∙ ap (λ (i : ℕ). replicate {A = ℕ} i 0) m in
+    same_sheet (nameless []) _ _ _ _ (λ i. w i ++ r i) (omega (arith, ap length w))
 
 -- Whether one more line is taken does not hang on the bytes behind those that are written.
 goes_sized : (way : Way) (p : Place) (j e : Sheet) → goes_on way p j e ≡ true → goes_on way p (sized j) (sized e) ≡ true
-unfolding goes_on sized
-goes_sized way p j e g = g
+unfolding goes_on
+goes_sized way p j e g = rw (sized_written j, sized_room j, sized_room e) g
 
 -- ---- where one more line is taken
 
 module _ (way : Way) (p : Place) (j e : Sheet) (g : goes_on way p j e ≡ true) where
   -- there is room for its bytes
-  goes-room : (20480 ≤ j.room) × (16384 ≤ e.room)
+  goes-room : (20480 ≤ room_on j) × (16384 ≤ room_on e)
   unfolding goes_on
   goes-room =
-      let h = and_right (not (ended way p) && (way.gathers || eqb (length j.written) 0)) (leb 20480 j.room && leb 16384 e.room) g in (
-        leb-true 20480 j.room (and_left (leb 20480 j.room) (leb 16384 e.room) h),
-        leb-true 16384 e.room (and_right (leb 20480 j.room) (leb 16384 e.room) h),
+      let h = and_right (not (ended way p) && (way.gathers || eqb (length (written_on j)) 0)) (leb 20480 (room_on j) && leb 16384 (room_on e)) g in (
+        leb-true 20480 (room_on j) (and_left (leb 20480 (room_on j)) (leb 16384 (room_on e)) h),
+        leb-true 16384 (room_on e) (and_right (leb 20480 (room_on j)) (leb 16384 (room_on e)) h),
       )
 
   -- and the lines have not ended
@@ -59,8 +64,8 @@ module _ (way : Way) (p : Place) (j e : Sheet) (g : goes_on way p j e ≡ true) 
   unfolding goes_on
   going =
       not-true (ended way p)
-      (and_left (not (ended way p)) (way.gathers || eqb (length j.written) 0)
-      (and_left (not (ended way p) && (way.gathers || eqb (length j.written) 0)) (leb 20480 j.room && leb 16384 e.room) g))
+      (and_left (not (ended way p)) (way.gathers || eqb (length (written_on j)) 0)
+      (and_left (not (ended way p) && (way.gathers || eqb (length (written_on j)) 0)) (leb 20480 (room_on j) && leb 16384 (room_on e)) g))
 
 -- ---- lines one after the other, and one more
 
@@ -152,15 +157,15 @@ none_taken way room s input k f j e x y =
       within = omega arith;
       whole = refl;
       left = refl;
-      journal = ap (λ (z : Sheet). z.written) x;
-      bytes = ap (λ (z : Sheet). z.written) y;
+      journal = ap written_on x;
+      bytes = ap written_on y;
       went = tt;
     }
 
 -- A sheet that is cleared has as many bytes.
 pub cleared : (k j : Sheet) → k ≡ emptied j → space k ≡ space j
 unfolding emptied
-cleared k j e = ap space e ∙ omega arith
+cleared k j e = ap space e ∙ omega (arith, length-take j.end j.bytes.now)
 
 -- One line more: its bytes stand behind those of the lines before.
 module _ (way : Way) (room : ℕ) (s : State) (input words m : List ℕ) (p q : Place) (j k e f : Sheet) (used n : ℕ)
@@ -175,7 +180,7 @@ module _ (way : Way) (room : ℕ) (s : State) (input words m : List ℕ) (p q : 
   one_more : lines_in (take (used + (n + 1)) input) ≡ lines ++ (line ∷ [])
   one_more = lines_more input used n end more before.whole
 
-  room-left-here : (20480 ≤ j.room) × (16384 ≤ e.room)
+  room-left-here : (20480 ≤ room_on j) × (16384 ≤ room_on e)
   room-left-here = goes-room way p j e goes
 
   not-ended : ended way (after_all way room s lines).place ≡ false
@@ -192,14 +197,14 @@ module _ (way : Way) (room : ℕ) (s : State) (input words m : List ℕ) (p q : 
       one.left ∙ ap (λ (z : State). after way room z line) before.left ∙ sym (after_one way room (after_all way room s lines) line not-ended)
       ∙ sym (after-append way room s lines (line ∷ []))
 
-  journal-more : k.written ≡ all_journal way room s (lines ++ (line ∷ []))
+  journal-more : written_on k ≡ all_journal way room s (lines ++ (line ∷ []))
   journal-more =
       journal-behind.front ∙ ap (λ (z : List ℕ). z ++ journal_of way room (state_of words p) line) before.journal
       ∙ ap (λ (z : State). all_journal way room s lines ++ journal_of way room z line) before.left
       ∙ ap (λ (z : List ℕ). all_journal way room s lines ++ z) (sym (journal-one way room (after_all way room s lines) line not-ended))
       ∙ sym (journal-append way room s lines (line ∷ []))
 
-  bytes-more : f.written ≡ all_bytes way room s (lines ++ (line ∷ []))
+  bytes-more : written_on f ≡ all_bytes way room s (lines ++ (line ∷ []))
   bytes-more =
       answer-behind.front ∙ ap (λ (z : List ℕ). z ++ bytes_of way room (state_of words p) line) before.bytes
       ∙ ap (λ (z : State). all_bytes way room s lines ++ bytes_of way room z line) before.left

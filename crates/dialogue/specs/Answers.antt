@@ -5,7 +5,7 @@ use Rattle.layout.specs.Words.{book_of_words}
 use Rattle.layout.specs.WellFormed.{WellFormed}
 use Rattle.journal.specs.declared.Request.{Request}
 use Rattle.printing.specs.declared.Answer.{Answer}
-use Rattle.printing.specs.Written.{Sheet, blank, followed}
+use Rattle.printing.specs.Written.{Sheet, written_on, room_on, blank, followed}
 use Rattle.answering.specs.Asked.{Asked}
 use Rattle.answering.specs.Kept.{takes, refuses}
 use Rattle.dialogue.specs.declared.Way.{Way}
@@ -28,7 +28,7 @@ state_of words p = record { book = book_of_words words; place = p }
 
 -- All the bytes of a sheet, written or not.
 abbrev pub space : Sheet → ℕ
-space s = length s.written + s.room
+space s = length (written_on s) + room_on s
 
 -- A line's text with its request and answer, on the words that it left: what it adds, and the place q behind it.
 pub record Turned (way : Way) (p : Place) (line : List ℕ) (request : Request) (answer : Answer) (numbers : List ℤ) (words : List ℕ) (j e : Sheet) (q : Place)
@@ -51,7 +51,7 @@ pub record LineTaken (way : Way) (room : ℕ) (words : List ℕ) (p : Place) (l 
 -- none behind a kept line but where lines are kept together, and none where its bytes might have no room.
 unfoldable pub goes_on : Way → Place → (j e : Sheet) → Bool
 goes_on way p j e =
-    (not (ended way p) && (way.gathers || length j.written == 0)) && (nat_le most_kept j.room && nat_le most_said e.room)
+    (not (ended way p) && (way.gathers || length (written_on j) == 0)) && (nat_le most_kept (room_on j) && nat_le most_said (room_on e))
 
 -- How many bytes the next line has, before which this is written: those up to the first newline of what is left, if one more line is taken and it
 -- is complete.
@@ -71,8 +71,8 @@ pub record Taken (way : Way) (room : ℕ) (s : State) (input : List ℕ) (used :
   pub within : used ≤ length input
   pub whole : rest_in (take used input) ≡ []
   pub left : t ≡ after_all way room s (lines_in (take used input))
-  pub journal : k.written ≡ all_journal way room s (lines_in (take used input))
-  pub bytes : f.written ≡ all_bytes way room s (lines_in (take used input))
+  pub journal : written_on k ≡ all_journal way room s (lines_in (take used input))
+  pub bytes : written_on f ≡ all_bytes way room s (lines_in (take used input))
   pub went : WentOn way room (blank (space k)) (blank (space f)) s (lines_in (take used input))
 
 -- What `answer_lines` ensures: the lines of the first `used` bytes are taken, as long as one more is; and whatever lines led to the book and
@@ -80,4 +80,4 @@ pub record Taken (way : Way) (room : ℕ) (s : State) (input : List ℕ) (used :
 pub record Answers (way : Way) (room : ℕ) (s : State) (input : List ℕ) (used : ℕ) (t : State) (k f : Sheet) : Type 0 where
   pub taken : Taken way room s input used t k f
   pub all : goes_on way t.place k f ≡ true → lines_in (drop used input) ≡ []
-  pub decided : (seen : List Asked) → Led way s seen → f.written ≡ decided_bytes way room s.place seen (lines_in (take used input))
+  pub decided : (seen : List Asked) → Led way s seen → written_on f ≡ decided_bytes way room s.place seen (lines_in (take used input))

@@ -1,26 +1,15 @@
 -- Lent bytes as they are written: the bytes behind those that are written take as much of a text as they can.
 -- Assumes nothing.
-use Rattle.std.proofs.Common.{◌≡◌, ℕ, suc, ◌+◌, ◌-◌, ◌≤◌, ◌<◌, List, [], ◌∷◌, ◌++◌, length, take, drop, get_or, map, min, refl, sym, ap, ◌∙◌, append-nil, add-one, arith, drop-cons, drop_of_length-le, take_all, length-drop, length-take-le}
+use Rattle.std.proofs.Common.{◌≡◌, ℕ, suc, ◌+◌, ◌-◌, ◌≤◌, ◌<◌, List, [], ◌∷◌, ◌++◌, length, take, drop, get_or, map, min, refl, sym, ap, ◌∙◌, append-nil, append_assoc, add-one, arith, drop-cons, drop_of_length-le, take_all, length-drop, length-take-le}
 use Rattle.std.proofs.lemmas.List.{length-take, take-append-drop, drop-drop}
 use Rattle.std.proofs.lemmas.Slice.{take-put_mid, drop-put_mid}
-use borrow.Rule.Slice.PartMut.{put_mid, same_len_mid}
+use borrow.Rule.Slice.PartMut.{put_mid}
 use borrow.Author.Tests.{leb-true, leb-false}
 use lib.Dec.{leb}
 use Rattle.laws.specs.Cases.{split}
 use Rattle.printing.specs.Decimals.{spaced}
-use Rattle.printing.specs.Written.{lent, followed, emptied}
+use Rattle.printing.specs.Written.{Sheet, followed}
 use Rattle.printing.specs.WrittenLaws.{sheet_of, same_sheet}
-
--- no byte is written yet
-pub none_yet : (e : List ℕ) → sheet_of (take 0 e) (length e - 0) (drop 0 e) ≡ lent e
-unfolding lent
-none_yet e = same_sheet _ _ _ _ _ _ refl (omega arith) refl
-
--- none is written any more
-pub none_more : (e : List ℕ) (n : ℕ) → n ≤ length e
-    → sheet_of (take 0 e) (length e - 0) (drop 0 e) ≡ emptied (sheet_of (take n e) (length e - n) (drop n e))
-unfolding emptied
-none_more e n h = same_sheet _ _ _ _ _ _ refl (omega (arith, length-take n e)) (sym (take-append-drop n e))
 
 -- as much of a text as there is room for
 as-far : (t : List ℕ) (room n : ℕ) → n ≡ min (length t) room → take n t ≡ take room t
@@ -46,18 +35,39 @@ behind-text e t at n m h =
     let g : length e - at < length t = leb-false (length t) (length e - at) k in
     drop_of_length-le e (omega arith) ∙ sym (drop-drop (length t) at e ∙ drop_of_length-le e (omega arith)))
 
-pub text_put : (e t ys : List ℕ) (at n k : ℕ) → at ≤ length e → n ≡ min (length t) (length e - at) → k ≡ n → ys ≡ take n t
-    → sheet_of (take (at + n) (put_mid at k e ys)) (length (put_mid at k e ys) - (at + n)) (drop (at + n) (put_mid at k e ys))
-    ≡ followed (sheet_of (take at e) (length e - at) (drop at e)) t
+-- where bytes are written up to their end or behind it, all are
+taken-within : (e : List ℕ) (at : ℕ) → take (min at (length e)) e ≡ take at e
+taken-within e at =
+    split (leb at (length e))
+    (λ k. let g : at ≤ length e = leb-true at (length e) k in let q : min at (length e) ≡ at = omega arith in rw q refl)
+    (λ k. let g : length e < at = leb-false at (length e) k in take_all (min at (length e)) e (omega arith) ∙ sym (take_all at e (omega arith)))
+
+left-within : (e : List ℕ) (at : ℕ) → drop (min at (length e)) e ≡ drop at e
+left-within e at =
+    split (leb at (length e))
+    (λ k. let g : at ≤ length e = leb-true at (length e) k in let q : min at (length e) ≡ at = omega arith in rw q refl)
+    (λ k. let g : length e < at = leb-false at (length e) k in drop_of_length-le e (omega arith) ∙ sym (drop_of_length-le e (omega arith)))
+
+pub text_put : (s : Sheet) (t ys : List ℕ) (at n k : ℕ) → at ≡ min s.end (length s.bytes.now) → n ≡ min (length t) (length s.bytes.now - s.end)
+    → k ≡ n → ys ≡ take n t → sheet_of s.bytes (put_mid at k s.bytes.now ys) (s.end + n) ≡ followed s t
 unfolding followed
-text_put e t ys at n k h m q y =
+text_put s t ys at n k a m q y =
+    let e : List ℕ = s.bytes.now in
+    let room : ℕ = length e - s.end in
+    let h : at ≤ length e = omega arith in
+    let r : n ≡ min (length t) (length e - at) = omega arith in
     let l : length ys ≡ n = omega (arith, ap length y, length-take n t) in
-    let d : length (take k (drop at e)) ≡ k = length-take-le k (drop at e) (omega (arith, length-drop at e)) in
-    let s : length (put_mid at k e ys) ≡ length e = same_len_mid at k e ys (omega arith) in
-    same_sheet _ _ _ _ _ _
-    (take-put_mid at k e ys (at + n) (omega arith) h ∙ ap (λ (z : List ℕ). take at e ++ z) (y ∙ as-far t (length e - at) n m))
-    (omega arith)
-    (drop-put_mid at k e ys (at + n) (omega arith) h (omega arith) ∙ behind-text e t at n m h)
+    let c : length (take k (drop at e)) ≡ k = length-take-le k (drop at e) (omega (arith, length-drop at e)) in
+    let front : take (at + n) (put_mid at k e ys) ≡ take at e ++ ys = take-put_mid at k e ys (at + n) (omega arith) h in
+    let back : drop (at + n) (put_mid at k e ys) ≡ drop (at + n) e = drop-put_mid at k e ys (at + n) (omega arith) h (omega arith) in
+    let w : take at e ≡ take s.end e = ap (λ (i : ℕ). take i e) a ∙ taken-within e s.end in
+    let x : ys ≡ take room t = y ∙ as-far t room n m in
+    let z : drop (at + n) e ≡ drop (length t) (drop s.end e) =
+    behind-text e t at n r h ∙ ap (λ (i : ℕ). drop (length t) (drop i e)) a ∙ ap (drop (length t)) (left-within e s.end) in
+    same_sheet s.bytes _ _ _ _
+    (sym (take-append-drop (at + n) (put_mid at k e ys)) ∙ (λ i. front i ++ back i) ∙ append_assoc (take at e) ys (drop (at + n) e)
+    ∙ (λ i. w i ++ (x i ++ z i)))
+    (omega (arith, length-take room t))
 
 -- Several with a blank before each: the first of them, and none.
 

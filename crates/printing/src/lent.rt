@@ -1,27 +1,15 @@
 // Texts written into lent bytes, one behind the other. What has no room is not written.
 ghost use Rattle.std.specs.Prelude.{◌≡◌, ◌==◌, ℕ, List, [], ◌∷◌, ◌++◌, length, map};
 ghost use Rattle.printing.specs.Decimals.{spaced, joined};
-ghost use Rattle.printing.specs.Written.{lent, followed, emptied};
+ghost use Rattle.printing.specs.Written.{written_on, room_on, lent, lent_behind, followed, emptied};
 
-use std::marker::Model;
-
-// Lent bytes, of which those up to `end` are written. A clause sees what is written, how much room is behind it, and the bytes there.
+// Lent bytes, of which those up to `end` are written; where it lies behind them, all are. A clause sees the reference to them too, so who lent
+// them knows what stands there once this is gone.
 // Kept: an end beside the bytes, since what is written stands in lent bytes and grows without a heap, which a Vec needs.
 #[derive(Drop)]
 pub struct Out<'a> {
     bytes: &'a mut [u8],
     end: usize,
-}
-
-impl<'a> Model for Out<'a> {
-    ghost use Rattle.std.specs.Prelude.{◌-◌, ◌≤◌, length, take, drop};
-    ghost use Rattle.printing.specs.Written.{Sheet};
-
-    ghost Value = { Sheet };
-
-    ghost view = { λ o. record { written = take o.end o.bytes.now; room = length o.bytes.now - o.end; rest = drop o.end o.bytes.now } };
-
-    ghost invariant = { λ o. o.end ≤ length o.bytes.now };
 }
 
 // What has a text that can be written.
@@ -36,41 +24,51 @@ pub trait Puts {
 
 impl<'a> Out<'a> {
     // Nothing written yet.
+    #[tactic(auto, unfolding(crate::specs::Written::lent))]
     pub fn new(bytes: &'a mut [u8]) -> Out<'a>
-        ensures { result ≡ lent bytes.old }
+        ensures { result ≡ lent bytes.entry }
     {
         Out { bytes, end: 0 }
     }
 
+    // So many bytes written already.
+    #[tactic(auto, unfolding(crate::specs::Written::lent_behind))]
+    pub fn behind(bytes: &'a mut [u8], end: usize) -> Out<'a>
+        ensures { result ≡ lent_behind bytes.entry end }
+    {
+        Out { bytes, end }
+    }
+
     // For how many more bytes there is room.
     pub fn room(&self) -> usize
-        ensures { result ≡ self.now.room }
+        ensures { result ≡ room_on self.now }
     {
-        self.bytes.len() - self.end
+        self.bytes.len().saturating_sub(self.end)
     }
 
     // What is written.
     pub fn written(&self) -> &[u8]
-        ensures { result.now ≡ self.now.written }
+        ensures { result.now ≡ written_on self.now }
     {
-        &self.bytes[..self.end]
+        &self.bytes[..self.end.min(self.bytes.len())]
     }
 
     // How many bytes are written.
     pub fn len(&self) -> usize
-        ensures { result ≡ length self.now.written }
+        ensures { result ≡ length (written_on self.now) }
     {
         self.written().len()
     }
 
     // Whether nothing is written.
     pub fn is_empty(&self) -> bool
-        ensures { result ≡ (length self.now.written == 0) }
+        ensures { result ≡ (length (written_on self.now) == 0) }
     {
         self.written().is_empty()
     }
 
     // Forgets what is written, so that there is room for as much again.
+    #[tactic(auto, unfolding(crate::specs::Written::emptied))]
     pub fn clear(&mut self)
         ensures { self.new ≡ emptied self.old }
     {
@@ -83,7 +81,8 @@ impl<'a> Out<'a> {
     {
         let n = text.len().min(self.room());
         let bytes = &mut *self.bytes;
-        bytes[self.end..self.end + n].copy_from_slice(&text[..n]);
+        let end = self.end.min(bytes.len());
+        bytes[end..end + n].copy_from_slice(&text[..n]);
         self.end += n;
     }
 

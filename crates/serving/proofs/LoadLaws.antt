@@ -12,7 +12,8 @@ use Rattle.journal.specs.Grammar.{Parsed, parsed}
 use Rattle.journal.specs.declared.Request.{Request}
 use Rattle.printing.specs.declared.Answer.{Answer}
 use Rattle.printing.specs.Lines.{printed, IsByte}
-use Rattle.printing.specs.Written.{Sheet, lent, followed}
+use Rattle.std.specs.Borrow.{MutBor}
+use Rattle.printing.specs.Written.{Sheet, written_on, room_on, lent, followed}
 use Rattle.printing.specs.WrittenLaws.{written_fits}
 use Rattle.printing.proofs.HexLaws.{batch-short}
 use Rattle.printing.proofs.RoundTrip.{round_trip}
@@ -219,14 +220,14 @@ module _ (way : Way) (room : ℕ) (s : State) (bytes : List ℕ) (a : AreBytes b
 
 -- ---- the line put together in lent bytes
 
-pub is-line : (bytes l room : List ℕ) (d g : Sheet) → 7 + 2 * length bytes ≤ length room → d ≡ lent room → g ≡ followed d (batch_line bytes)
-    → l ≡ g.written → l ≡ batch_line bytes
+pub is-line : (bytes l : List ℕ) (room : MutBor (List ℕ)) (d g : Sheet) → 7 + 2 * length bytes ≤ length room.now → d ≡ lent room
+    → g ≡ followed d (batch_line bytes) → l ≡ written_on g → l ≡ batch_line bytes
 unfolding lent
 is-line bytes l room d g h e k x =
-    let as-long : length room ≡ d.room = rw e refl in
-    let none : d.written ≡ [] = rw e refl in
-    let fits : length (batch_line bytes) ≤ d.room = omega (arith, line-length bytes) in
-    x ∙ ap (λ (s : Sheet). s.written) k ∙ written_fits d (batch_line bytes) fits ∙ ap (λ (t : List ℕ). t ++ batch_line bytes) none
+    let as-long : length room.now ≡ room_on d = rw e (omega arith) in
+    let none : written_on d ≡ [] = rw e refl in
+    let fits : length (batch_line bytes) ≤ room_on d = omega (arith, line-length bytes) in
+    x ∙ ap written_on k ∙ written_fits d (batch_line bytes) fits ∙ ap (λ (t : List ℕ). t ++ batch_line bytes) none
 
 -- ---- the line taken
 

@@ -3,7 +3,7 @@
 use Rattle.std.proofs.Common.{◌≡◌, ℕ, ◌+◌, ◌-◌, ◌≤◌, true, false, leb, List, [], ◌++◌, length, take, drop, sym, refl, ap, ◌∙◌, subst, arith, length-drop, take-append-drop, take_all, take_all, take-add, le-leb}
 use mathlib.Core.Bool.{or-true}
 use Rattle.laws.specs.Cases.{split}
-use Rattle.printing.specs.Written.{Sheet}
+use Rattle.printing.specs.Written.{Sheet, written_on, room_on}
 use Rattle.dialogue.specs.declared.Way.{Way}
 use Rattle.dialogue.specs.declared.Place.{Place}
 use Rattle.dialogue.specs.Split.{lines_in, rest_in}
@@ -38,12 +38,12 @@ unfolding lines_in all_bytes
 no_bytes way room t l e = rw e refl
 
 -- Where nothing is written yet and the lines have not ended, one more is taken.
-would-go : (way : Way) (p : Place) (j e : Sheet) → ended way p ≡ false → length j.written ≡ 0 → most_kept ≤ j.room → most_said ≤ e.room
+would-go : (way : Way) (p : Place) (j e : Sheet) → ended way p ≡ false → length (written_on j) ≡ 0 → most_kept ≤ room_on j → most_said ≤ room_on e
     → goes_on way p j e ≡ true
 unfolding goes_on
 would-go way p j e x y h k =
-    let m : leb most_kept j.room ≡ true = le-leb most_kept j.room h in
-    let n : leb most_said e.room ≡ true = le-leb most_said e.room k in
+    let m : leb most_kept (room_on j) ≡ true = le-leb most_kept (room_on j) h in
+    let n : leb most_said (room_on e) ≡ true = le-leb most_said (room_on e) k in
     rw (x, y, m, n, or-true way.gathers) refl
 
 -- ---- the lines of some bytes of a part
@@ -58,8 +58,8 @@ stepped way room s t input k f used x a b =
     none_left z e =
         let y = x.taken in
         let n : take used input ≡ [] = rw z refl in
-        let jl : length k.written ≡ 0 = ap length y.journal ∙ no-journal way room s (take used input) n in
-        let rl : length f.written ≡ 0 = ap length y.bytes ∙ no_bytes way room s (take used input) n in
+        let jl : length (written_on k) ≡ 0 = ap length y.journal ∙ no-journal way room s (take used input) n in
+        let rl : length (written_on f) ≡ 0 = ap length y.bytes ∙ no_bytes way room s (take used input) n in
         subst (λ (m : ℕ). lines_in (drop m input) ≡ []) z (x.all (would-go way t.place k f e jl (omega arith) (omega arith)))
 
 -- ---- .. and of all

@@ -7,6 +7,5 @@ use Rattle.printing.proofs.lent.Out.text.Goals as goal
 
 pub returns : goal.returns
 returns c =
-    rw (← c.self.view_is)
-    (text_put c.self.inside.bytes.now c.args.text.now c.copy_from_slice.new.self c.self.inside.end c.min-n.result
-    (c.self.inside.end + c.min-n.result - c.self.inside.end) c.self.invariant (search rules) (omega arith) (search rules))
+    text_put c.args.self.now c.args.text.now c.copy_from_slice.new.self c.min-end.result c.min-n.result
+    (c.min-end.result + c.min-n.result - c.min-end.result) c.min-end.ensures (rw c.room.ensures at c.min-n.ensures) (omega arith) (search rules)
