@@ -1,11 +1,12 @@
 -- Lent bytes as they are written: the bytes behind those that are written take as much of a text as they can.
 -- Assumes nothing.
-use Rattle.std.proofs.Common.{◌≡◌, ℕ, suc, ◌+◌, ◌-◌, ◌≤◌, ◌<◌, List, [], ◌∷◌, ◌++◌, length, take, drop, get_or, map, min, refl, sym, ap, ◌∙◌, append-nil, append_assoc, add-one, arith, drop-cons, drop_of_length-le, take_all, length-drop, length-take-le}
+use Rattle.std.proofs.Common.{◌≡◌, ℕ, suc, ◌+◌, ◌-◌, ◌≤◌, ◌<◌, List, [], ◌∷◌, ◌++◌, length, take, drop, set, get_or, map, min, refl, sym, ap, ◌∙◌, append-nil, append_assoc, add-one, arith, drop-cons, drop_of_length-le, take_all, length-drop, length-take-le}
 use Rattle.std.proofs.lemmas.List.{length-take, take-append-drop, drop-drop}
 use Rattle.std.proofs.lemmas.Slice.{take-put_mid, drop-put_mid}
 use borrow.Rule.Slice.PartMut.{put_mid}
 use borrow.Author.Tests.{leb-true, leb-false}
 use lib.Dec.{leb}
+use lib.Seq.{set_split}
 use Rattle.laws.specs.Cases.{split}
 use Rattle.printing.specs.Decimals.{spaced}
 use Rattle.printing.specs.Written.{Sheet, followed}
@@ -68,6 +69,27 @@ text_put s t ys at n k a m q y =
     (sym (take-append-drop (at + n) (put_mid at k e ys)) ∙ (λ i. front i ++ back i) ∙ append_assoc (take at e) ys (drop (at + n) e)
     ∙ (λ i. w i ++ (x i ++ z i)))
     (omega (arith, length-take room t))
+
+-- A byte, where there is room for it and where there is none.
+
+pub byte_put : (s : Sheet) (x : ℕ) → s.end < length s.bytes.now → sheet_of s.bytes (set s.bytes.now s.end x) (s.end + 1) ≡ followed s (x ∷ [])
+unfolding followed
+byte_put s x h =
+    let e : List ℕ = s.bytes.now in
+    let t : take (length e - s.end) (x ∷ []) ≡ x ∷ [] = take_all (length e - s.end) (x ∷ []) (omega arith) in
+    let d : drop (suc s.end) e ≡ drop 1 (drop s.end e) = ap (λ (i : ℕ). drop i e) (sym (add-one s.end)) ∙ sym (drop-drop 1 s.end e) in
+    same_sheet s.bytes _ _ _ _ (set_split e s.end x h ∙ (λ i. take s.end e ++ (sym t i ++ d i))) (omega (arith, ap length t))
+
+pub byte_left : (s : Sheet) (x : ℕ) → length s.bytes.now ≤ s.end → s ≡ followed s (x ∷ [])
+unfolding followed
+byte_left s x h =
+    let e : List ℕ = s.bytes.now in
+    let r : length e - s.end ≡ 0 = omega arith in
+    let t : take (length e - s.end) (x ∷ []) ≡ [] = ap (λ (n : ℕ). take n (x ∷ [])) r in
+    let d : drop 1 (drop s.end e) ≡ drop s.end e = ap (drop 1) (drop_of_length-le e h) ∙ sym (drop_of_length-le e h) in
+    sym
+    (same_sheet s.bytes _ e _ s.end ((λ i. take s.end e ++ (t i ++ d i)) ∙ take-append-drop s.end e)
+    (let l : length (take (length e - s.end) (x ∷ [])) ≡ 0 = ap length t in omega (arith, l)))
 
 -- Several with a blank before each: the first of them, and none.
 

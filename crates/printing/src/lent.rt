@@ -87,10 +87,14 @@ impl<'a> Out<'a> {
     }
 
     // Writes a byte.
+    #[tactic(auto, using(crate::proofs::OutLaws::byte_put, crate::proofs::OutLaws::byte_left))]
     pub fn byte(&mut self, byte: u8)
         ensures { self.new ≡ followed self.old (byte ∷ []) }
     {
-        self.text(&[byte])
+        if self.end < self.bytes.len() {
+            self.bytes[self.end] = byte;
+            self.end += 1;
+        }
     }
 
     // Writes what has a text.
