@@ -12,7 +12,7 @@ use Rattle.dialogue.specs.Answers.{most_kept, most_said, space, goes_on, Answers
 use Rattle.dialogue.proofs.SplitLaws.{lines-behind, rest-behind}
 use Rattle.dialogue.proofs.CompleteLines.{all_lines, none_rest}
 use Rattle.dialogue.proofs.TurnLaws.{after-append, ended-after}
-use Rattle.serving.specs.Parts.{Step, Drained}
+use Rattle.serving.specs.Parts.{Step, SomeTaken, Drained}
 
 -- A part up to the end of an input is what is left of it.
 pub rest_all : (input : List ℕ) (start : ℕ) → take (length input - start) (drop start input) ≡ drop start input
@@ -61,6 +61,10 @@ stepped way room s t input k f used x a b =
         let jl : length (written_on k) ≡ 0 = ap length y.journal ∙ no-journal way room s (take used input) n in
         let rl : length (written_on f) ≡ 0 = ap length y.bytes ∙ no_bytes way room s (take used input) n in
         subst (λ (m : ℕ). lines_in (drop m input) ≡ []) z (x.all (would-go way t.place k f e jl (omega arith) (omega arith)))
+
+pub some_taken : (way : Way) (room : ℕ) (s t : State) (input : List ℕ) (k f : Sheet) (used : ℕ) → Answers way room s input used t k f
+    → most_kept ≤ space k → most_said ≤ space f → SomeTaken way room s input t
+some_taken way room s t input k f used x a b = record { used = used; step = stepped way room s t input k f used x a b }
 
 -- ---- .. and of all
 

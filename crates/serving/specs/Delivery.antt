@@ -1,10 +1,20 @@
 -- What becomes of the bytes of lines.
 -- Assumes nothing.
 use Rattle.std.specs.Prelude.{◌≡◌, ℕ, Bool, true, false, cond, List, length, ◌==◌, nat_lt, Option, Some, None, Result, IfOk}
-use Rattle.std.specs.Result.{result_ok}
+use Rattle.std.specs.Result.{is_ok, result_ok, result_unwrap_or}
 use Rattle.dialogue.specs.declared.Place.{Place}
+use Rattle.dialogue.specs.Turns.{State}
 use Rattle.storage.specs.declared.kept.Journal.{Journal}
 use Rattle.storage.specs.Kept.{grown_by}
+
+-- The journal that is left, if one is: none where none is kept, and none where something failed.
+abbrev pub left : {E : Type 0} → Result (Option Journal) E → Option Journal
+left r = result_unwrap_or r None
+
+-- Behind a failure: what was before a step is so behind it too, the book, the place and that something failed.
+pub record Behind {E : Type 0} (s t : State) (before after : Result (Option Journal) E) : Type 0 where
+  pub state : is_ok before ≡ false → t ≡ s
+  pub journal : is_ok before ≡ false → after ≡ before
 
 -- A journal, where one is kept, with n bytes more, or as it was where there are none.
 abbrev pub longer_by : Option Journal → ℕ → Option Journal

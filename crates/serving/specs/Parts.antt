@@ -12,6 +12,11 @@ pub record Step (way : Way) (room : ℕ) (s : State) (input : List ℕ) (used : 
   pub left : t ≡ after_all way room s (lines_in (take used input))
   pub none : used ≡ 0 → ended way t.place ≡ false → lines_in input ≡ []
 
+-- Such lines taken, of as many bytes as it may be.
+pub record SomeTaken (way : Way) (room : ℕ) (s : State) (input : List ℕ) (t : State) : Type 0 where
+  pub used : ℕ
+  pub step : Step way room s input used t
+
 -- The state is that of all lines of the part, and unless they have ended before its end, what is left of it is the rest behind its last newline.
 pub record Drained (way : Way) (room : ℕ) (s : State) (input : List ℕ) (used : ℕ) (t : State) : Type 0 where
   pub within : used ≤ length input

@@ -1,11 +1,13 @@
 // An input, read in parts to its end, and a file entered behind it.
-ghost use Rattle.std.specs.Prelude.{◌≡◌, ◌+◌, ◌%◌, ◌^◌, ◌≤◌, true, false, not, cond, None, length, take, OnOk, OnErr, IsOk};
+ghost use Rattle.std.specs.Prelude.{◌≡◌, ◌+◌, ◌%◌, ◌^◌, ◌≤◌, true, false, not, cond, length, take, OnOk, OnErr, IsOk};
+ghost use Rattle.std.specs.Result.{is_ok};
 ghost use Rattle.dialogue.specs.Turns.{ended};
 ghost use Rattle.dialogue.specs.Answers.{state_of};
 ghost use Rattle.words.specs.Text.{text};
 ghost use Rattle.storage.specs.declared.handles.Input.TheVariants.{Journal, Standard};
 ghost use Rattle.serving.specs.Input.{MoreRead, RestKept, PartTaken, InputCounted, complete};
 ghost use Rattle.serving.specs.Load.{MayEnter, Loads, EnteredIf};
+ghost use Rattle.serving.specs.Delivery.{Behind, left};
 
 use crate::buffers::{Buffer, Entry};
 use crate::desk::Desk;
@@ -89,8 +91,9 @@ impl<'a> Session<'a> {
             (buffer.old.filled + more) (state_of desk.new.book desk.new.place) buffer.new.filled buffer.new.bytes) }
         ensures counted { OnOk result (ended self.entry.way desk.new.place ≡ false
             → desk.new.bytes ≡ (desk.old.bytes + complete (take (buffer.old.filled + more) buffer.old.bytes)) % 2 ^ 64) }
+        ensures well { OnOk result ((is_ok desk.old.journal ≡ true) × (is_ok desk.new.journal ≡ true)) }
         ensures on { OnOk result (self.entry.way.replays ≡ true → desk.new.place.refused ≡ 0) }
-        ensures stopped { OnErr result (desk.new.journal ≡ None) }
+        ensures stopped { OnErr result (is_ok desk.new.journal ≡ false) }
     {
         let full = buffer.filled + more;
         let used = self.drain(desk, &buffer.bytes[..full])?;
@@ -107,17 +110,23 @@ impl<'a> Session<'a> {
     }
 
     // Reads an input to its end, part by part, and takes the complete lines of each part before it waits for more. What is left of a last line
-    // without newline stands in the buffer.
+    // without newline stands in the buffer. Behind a failure nothing is read.
     pub fn take_parts(self, desk: &mut Desk, buffer: &mut Buffer) -> Result<(), Stopped>
         ensures counted { desk.old.place.long ≡ false → OnOk result (InputCounted self.entry.way (length desk.old.numbers)
             (state_of desk.old.book desk.old.place) (length buffer.old.bytes) (state_of desk.new.book desk.new.place)
             buffer.new.filled buffer.new.bytes desk.old.bytes desk.new.bytes) }
+        ensures well { OnOk result ((is_ok desk.old.journal ≡ true) × (is_ok desk.new.journal ≡ true)) }
         ensures on { desk.old.place.refused ≡ 0 → OnOk result (self.entry.way.replays ≡ true → desk.new.place.refused ≡ 0) }
+        ensures stopped { OnErr result (is_ok desk.new.journal ≡ false) }
+        ensures behind { Behind (state_of desk.old.book desk.old.place) (state_of desk.new.book desk.new.place) desk.old.journal desk.new.journal }
     {
+        desk.journal?;
         buffer.filled = 0;
         // Kept: a bound that no input reaches, since a loop with no end needs the handle `Wait`, and by a rule of the project none is allowed.
         for _ in 0..u64::MAX {
-            let more = self.read_more(desk.place, buffer)?;
+            let read = self.read_more(desk.place, buffer);
+            desk.journal = read.and(desk.journal);
+            let more = read?;
             if more == 0 {
                 self.handles.end_progress(self.rt);
                 return Ok(());
@@ -129,7 +138,11 @@ impl<'a> Session<'a> {
     }
 
     // Takes a last line of standard input that has no newline.
-    fn take_last(self, desk: &mut Desk, buffer: &mut Buffer) -> Result<(), Stopped> {
+    fn take_last(self, desk: &mut Desk, buffer: &mut Buffer) -> Result<(), Stopped>
+        ensures well { OnOk result (is_ok desk.old.journal ≡ true → is_ok desk.new.journal ≡ true) }
+        ensures stopped { OnErr result (is_ok desk.new.journal ≡ false) }
+        ensures bytes { desk.new.bytes ≡ desk.old.bytes }
+    {
         let end = buffer.filled;
         if !desk.place.long && end == 0 {
             return Ok(());
@@ -139,8 +152,12 @@ impl<'a> Session<'a> {
         Ok(())
     }
 
-    // Takes standard input to its end.
-    fn take_input(self, desk: &mut Desk, buffer: &mut Buffer) -> Result<(), Stopped> {
+    // Takes standard input to its end; behind a failure nothing of it.
+    fn take_input(self, desk: &mut Desk, buffer: &mut Buffer) -> Result<(), Stopped>
+        ensures well { OnOk result ((is_ok desk.old.journal ≡ true) × (is_ok desk.new.journal ≡ true)) }
+        ensures stopped { OnErr result (is_ok desk.new.journal ≡ false) }
+        ensures behind { Behind (state_of desk.old.book desk.old.place) (state_of desk.new.book desk.new.place) desk.old.journal desk.new.journal }
+    {
         self.take_parts(desk, buffer)?;
         if self.has_ended(desk.place) {
             return Ok(());
@@ -148,15 +165,19 @@ impl<'a> Session<'a> {
         self.take_last(desk, buffer)
     }
 
-    // Enters a file's bytes as one batch behind what was taken, where the lines have not ended.
+    // Enters a file's bytes as one batch behind what was taken, where the lines have not ended and nothing has failed.
     fn take_file(self, desk: &mut Desk, file: Entry) -> Result<(), Stopped>
         ensures entered_if { OnOk result (EnteredIf (not (ended self.entry.way desk.old.place)) self.entry.way (length desk.old.numbers)
-            (state_of desk.old.book desk.old.place) desk.old.journal file.entry.bytes.now (state_of desk.new.book desk.new.place) desk.new.journal) }
+            (state_of desk.old.book desk.old.place) (left desk.old.journal) file.entry.bytes.now (state_of desk.new.book desk.new.place)
+            (left desk.new.journal)) }
+        ensures well { OnOk result (is_ok desk.old.journal ≡ true → is_ok desk.new.journal ≡ true) }
+        ensures on { OnOk result (ended self.entry.way desk.new.place ≡ false → is_ok desk.new.journal ≡ true) }
+        ensures behind { Behind (state_of desk.old.book desk.old.place) (state_of desk.new.book desk.new.place) desk.old.journal desk.new.journal }
         ensures loads { MayEnter self.entry.way (length desk.old.numbers) (state_of desk.old.book desk.old.place) file.entry.bytes.now
             → Loads self.entry.way (length desk.old.numbers) (state_of desk.old.book desk.old.place) file.entry.bytes.now }
         ensures ended { ended self.entry.way desk.old.place ≡ true → IsOk result }
         ensures bytes { desk.new.bytes ≡ desk.old.bytes }
-        ensures stopped { OnErr result (desk.new.journal ≡ None) }
+        ensures stopped { OnErr result (is_ok desk.new.journal ≡ false) }
     {
         if self.has_ended(desk.place) {
             return Ok(());
@@ -164,8 +185,12 @@ impl<'a> Session<'a> {
         self.enter(desk, file)
     }
 
-    // Answers standard input and a file's bytes.
-    fn answer_sources(self, desk: &mut Desk, from: Sources) -> Result<(), Stopped> {
+    // Answers standard input and a file's bytes. Behind a failure nothing is answered: where standard input failed the file is not entered.
+    fn answer_sources(self, desk: &mut Desk, from: Sources) -> Result<(), Stopped>
+        ensures well { is_ok desk.old.journal ≡ true → is_ok desk.new.journal ≡ is_ok result }
+        ensures on { OnOk result (ended self.entry.way desk.new.place ≡ false → is_ok desk.new.journal ≡ true) }
+        ensures behind { Behind (state_of desk.old.book desk.old.place) (state_of desk.new.book desk.new.place) desk.old.journal desk.new.journal }
+    {
         match from {
             Sources::Input => self.take_input(desk, &mut Buffer::new()),
             Sources::File(file) => self.take_file(desk, file),
@@ -176,14 +201,22 @@ impl<'a> Session<'a> {
         }
     }
 
+    // Says that all lines of an input were answered: nothing has failed, and they have not ended before its end.
+    fn say_end(self, desk: &Desk)
+        requires { (is_ok desk.now.journal ≡ true) × (ended self.way desk.now.place ≡ false) }
+    {
+        put_end(self.rt, desk.place);
+    }
+
     // Answers standard input and a file's bytes, and says at last that all was answered where that is asked for and it was. What is typed is never
     // taken as a journal that is replayed is, so always under the new admission rule.
     pub fn answer_all(self, desk: &mut Desk, from: Sources, says_end: bool)
         requires { self.way.replays ≡ false }
+        ensures { Behind (state_of desk.old.book desk.old.place) (state_of desk.new.book desk.new.place) desk.old.journal desk.new.journal }
     {
         let answered = self.answer_sources(desk, from);
         if says_end && answered.is_ok() && !self.has_ended(desk.place) {
-            put_end(self.rt, desk.place);
+            self.say_end(desk);
         }
     }
 }

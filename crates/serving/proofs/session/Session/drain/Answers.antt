@@ -6,7 +6,7 @@ use Rattle.serving.proofs.PartLaws.{begins, ends, goes-on-taken}
 use Rattle.serving.proofs.session.Session.drain.Goals as goal
 
 pub loop-used-init : goal.loop-used-init
-loop-used-init c = record { taken = begins _ _ _ _; grown = grown-none _ _ _ c.args.input.now _ _; bytes = refl }
+loop-used-init c = record { taken = begins _ _ _ _; grown = grown-none _ _ _ c.args.input.now _ _; well = λ e. e; bytes = refl }
 
 pub returns-then-used-eq0-clause-drained : goal.returns-then-used-eq0-clause-drained
 returns-then-used-eq0-clause-drained c =
@@ -28,5 +28,6 @@ loop-used-preserved c =
     record {
       taken = goes-on-taken _ _ _ _ _ _ _ _ _ inv.taken some.step same;
       grown = grown-on _ _ _ _ _ _ _ _ _ _ _ _ _ inv.taken some.step same inv.grown some.grown;
+      well = λ e. inv.well some.well.0;
       bytes = some.bytes ∙ inv.bytes;
     }

@@ -23,5 +23,8 @@ returns-clause-grown c =
 pub returns-clause-loads : goal.returns-clause-loads
 returns-clause-loads c = loads _ _ _ _ c.put_line.ensures.are_bytes
 
+pub returns-in_err-desk-clause-loads : goal.returns-in_err-desk-clause-loads
+returns-in_err-desk-clause-loads c = loads _ _ _ _ c.put_line.ensures.are_bytes
+
 pub returns-in_err-drain-clause-loads : goal.returns-in_err-drain-clause-loads
 returns-in_err-drain-clause-loads c = loads _ _ _ _ c.put_line.ensures.are_bytes
