@@ -7,14 +7,17 @@ use history::History;
 use std::fmt::Write;
 use std::fs;
 use std::os::fd::AsRawFd;
+use text::Numbers;
 
 mod history; // history.rt: a history, read from its text
 mod text; // text.rt: the numbers of a text
 
-// Plays a history on a fresh book, and prints its answers: each as seven numbers on a line. Where a line can't be written, the next one is tried.
-fn play(rt: &HostRuntime, history: &History) {
-    let start = history.start;
+// Plays a text's history on a fresh book, and prints its answers: each as seven numbers on a line. The line with its start day, the text's first
+// number, is printed before the calls are read. Where a line can't be written, the next one is tried.
+fn play(rt: &HostRuntime, text: &[u8]) {
+    let start = Numbers::of(text).natural();
     let _ = println!(rt; "history {start}");
+    let history = History::read(text);
     let mut out = [0i64; 2800];
     let out = &mut out[..history.words.len() / 6 * 7];
     let mut book = [0u64; 6210];
@@ -44,7 +47,7 @@ fn play_file(rt: &HostRuntime, number: usize) -> bool {
     let mut text = io::large_buffer();
     let n = io::read_full(file.as_raw_fd(), &mut text);
     drop(file);
-    play(rt, &History::read(&text[..n]));
+    play(rt, &text[..n]);
     true
 }
 
