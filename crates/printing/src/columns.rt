@@ -90,12 +90,10 @@ pub struct Column<T> {
 impl<T: Measured> Puts for Column<T> {
     ghost text = { λ c. padded c.width (T.text c.holds) };
 
-    #[tactic(auto, using(crate::specs::WrittenLaws::followed_twice, crate::proofs::ColumnLaws::no_blanks, crate::proofs::ColumnLaws::blanks_more), unfolding(crate::specs::Columns::padded))]
+    #[tactic(auto, using(crate::specs::WrittenLaws::followed_twice), unfolding(crate::specs::Columns::padded))]
     fn put_in(self, out: &mut Out) {
         let Column { width, holds } = self;
-        for _ in 0..holds.left_of(width) {
-            out.byte(b' ');
-        }
+        out.repeated(b' ', holds.left_of(width));
         out.put(holds)
     }
 }

@@ -1,5 +1,5 @@
 // Texts written into lent bytes, one behind the other. What has no room is not written.
-ghost use Rattle.std.specs.Prelude.{◌≡◌, ◌==◌, ℕ, List, [], ◌∷◌, ◌++◌, length, map};
+ghost use Rattle.std.specs.Prelude.{◌≡◌, ◌==◌, ℕ, List, [], ◌∷◌, ◌++◌, length, map, replicate};
 ghost use Rattle.printing.specs.Decimals.{spaced, joined};
 ghost use Rattle.printing.specs.Written.{written_on, room_on, lent, lent_behind, followed, emptied};
 
@@ -95,6 +95,17 @@ impl<'a> Out<'a> {
             self.bytes[self.end] = byte;
             self.end += 1;
         }
+    }
+
+    // Writes a byte so many times.
+    pub fn repeated(&mut self, byte: u8, count: usize)
+        ensures { self.new ≡ followed self.old (replicate count byte) }
+    {
+        let n = count.min(self.room());
+        let bytes = &mut *self.bytes;
+        let end = self.end.min(bytes.len());
+        bytes[end..end + n].fill(byte);
+        self.end += n;
     }
 
     // Writes what has a text.
