@@ -13,7 +13,7 @@ use Rattle.dialogue.specs.declared.Way.{Way}
 use Rattle.dialogue.specs.declared.Place.{Place}
 use Rattle.dialogue.specs.Split.{lines_in, rest_in, until_newline}
 use Rattle.dialogue.specs.Turns.{State, after, bytes_of, journal_of, ended, after_all, all_bytes, all_journal}
-use Rattle.dialogue.specs.Answers.{space, state_of, LineTaken, goes_on, NextLine, WentOn, Taken, Answers}
+use Rattle.dialogue.specs.Answers.{space, SameBytes, state_of, LineTaken, goes_on, NextLine, WentOn, Taken, Answers}
 use Rattle.dialogue.proofs.Decided.{decided-bytes}
 use Rattle.dialogue.proofs.SplitLaws.{lines_more, whole-more, no_line}
 
@@ -166,6 +166,15 @@ none_taken way room s input k f j e x y =
 pub cleared : (k j : Sheet) → k ≡ emptied j → space k ≡ space j
 unfolding emptied
 cleared k j e = ap space e ∙ omega (arith, length-take j.end j.bytes.now)
+
+-- The reference is the same, where it is cleared and where more is written.
+pub cleared-same : (k j : Sheet) → k ≡ emptied j → SameBytes j k
+unfolding emptied
+cleared-same k j e = ap (λ (z : Sheet). z.bytes.ghost_name) e
+
+pub written-same : (k j : Sheet) (t : List ℕ) → k ≡ followed j t → SameBytes j k
+unfolding followed
+written-same k j t e = ap (λ (z : Sheet). z.bytes.ghost_name) e
 
 -- One line more: its bytes stand behind those of the lines before.
 module _ (way : Way) (room : ℕ) (s : State) (input words m : List ℕ) (p q : Place) (j k e f : Sheet) (used n : ℕ)

@@ -30,6 +30,10 @@ state_of words p = record { book = book_of_words words; place = p }
 abbrev pub space : Sheet → ℕ
 space s = length (written_on s) + room_on s
 
+-- The reference to the lent bytes is the same, so who lent them knows what stands there.
+abbrev pub SameBytes : (old new : Sheet) → Type 0
+SameBytes old new = new.bytes.ghost_name ≡ old.bytes.ghost_name
+
 -- A line's text with its request and answer, on the words that it left: what it adds, and the place q behind it.
 pub record Turned (way : Way) (p : Place) (line : List ℕ) (request : Request) (answer : Answer) (numbers : List ℤ) (words : List ℕ) (j e : Sheet) (q : Place)
     (k f : Sheet) : Type 0 where

@@ -5,7 +5,7 @@ ghost use Rattle.layout.specs.WellFormed.{WellFormed};
 ghost use Rattle.answering.specs.Asked.{asked};
 ghost use Rattle.answering.specs.InWords.{AnsweredWords};
 ghost use Rattle.dialogue.specs.Asks.{rule_at};
-ghost use Rattle.dialogue.specs.Answers.{space, state_of, Turned, LineTaken, NextLine, Answers};
+ghost use Rattle.dialogue.specs.Answers.{space, SameBytes, state_of, Turned, LineTaken, NextLine, Answers};
 
 use crate::asks::{ask, text_of};
 use crate::said::Turn;
@@ -116,6 +116,7 @@ pub fn answer_lines(
     requires { WellFormed book.old }
     ensures well_formed { WellFormed book.new × (result.used ≤ length input.now) × (space journal.new ≡ space journal.old)
         × (space out.new ≡ space out.old) }
+    ensures same_references { SameBytes journal.old journal.new × SameBytes out.old out.new }
     ensures answers { Answers way (length numbers.old) (state_of book.old place) input.now result.used
         (state_of book.new result.place) journal.new out.new }
 {
