@@ -4,7 +4,7 @@ ghost use Rattle.manual.specs.Figures.{summed};
 ghost use Rattle.batch.specs.Batch.{figures_behind};
 
 use crate::bytes::signed8;
-use manual::figures::{Figures, sum_of_figures};
+use manual::figures::{Figures, sum_of_month};
 use refusal::Refusal;
 
 // A part: its participant, how many figures it has, and where it begins.
@@ -47,5 +47,5 @@ pub fn sum_part(file: &[u8], part: Part) -> Result<i64, Refusal>
     requires { part.offset + 2 + 8 * part.rows ≤ length file.now }
     ensures { result ≡ summed (figures_behind file.now part.offset part.rows) }
 {
-    sum_of_figures(&PartFigures { file, part })
+    sum_of_month(&PartFigures { file, part })
 }

@@ -4,3 +4,4 @@ pub mod Totals
 pub mod Each
 pub mod Sums
 pub mod Calls
+pub mod Listed

@@ -1,4 +1,4 @@
-ghost use Rattle.std.specs.Prelude.{◌≡◌, ℤ, pos, List, length, get_or, nat_abs, ◌||◌, leb, ltb};
+ghost use Rattle.std.specs.Prelude.{◌≡◌, ◌<◌, ℕ, ℤ, pos, List, length, get_or, nat_abs, ◌||◌, leb, ltb};
 ghost use Rattle.manual.specs.Figures.{bound, summed};
 
 use refusal::Refusal;
@@ -47,7 +47,7 @@ impl<'a> Figures for &'a [i64] {
 }
 
 // The sum of a month's figures, or the first of the causes 10 and 11 that holds.
-pub fn sum_of_figures<F: Figures>(figures: &F) -> Result<i64, Refusal>
+pub fn sum_of_month<F: Figures>(figures: &F) -> Result<i64, Refusal>
     ensures { result ≡ summed (F.list figures.now) }
 {
     let count = figures.count();
@@ -70,5 +70,51 @@ pub fn sum_of_figures<F: Figures>(figures: &F) -> Result<i64, Refusal>
 pub fn sum_figures(figures: &[i64]) -> Result<i64, Refusal>
     ensures { result ≡ summed figures.now }
 {
-    sum_of_figures(&figures)
+    sum_of_month(&figures)
+}
+
+// The sum of a month's figures, so many and each given by its index, or the first of the causes 10 and 11 that holds.
+pub fn sum_of_figures<F: Fn(usize) -> i64>(count: usize, figure: F) -> Result<i64, Refusal>
+    ghost figures: { List ℤ }
+    requires many { length figures ≡ count }
+    requires callable { (i : ℕ) → i < count → F.pre figure i }
+    requires given { (i : ℕ) (x : ℤ) → i < count → F.post figure i x → x ≡ get_or figures i (pos 0) }
+    ensures { result ≡ summed figures }
+{
+    if wrong_count(count) {
+        return Err(Refusal::FigureCount);
+    }
+    let mut listed = [0; 16];
+    for at in 0..count {
+        listed[at] = figure(at);
+    }
+    sum_figures(&listed[..count])
+}
+
+#[cfg(test)]
+mod tests {
+    use super::*;
+
+    // The sum of figures in a list, each asked by its index.
+    fn asked(figures: &[i64]) -> Result<i64, Refusal>
+        ensures { result ≡ summed figures.now }
+    {
+        sum_of_figures(
+            figures.len(),
+            |i|
+                requires { i < length figures.now }
+            { figures[i] },
+        )
+    }
+
+    #[test]
+    fn figures_by_an_index_are_summed_or_refused(rt: HostRuntime) {
+        assert!(rt; asked(&[1, 20, 300, -4000, 50000]) == Ok(46321));
+        assert!(rt; asked(&[1000000000000; 16]) == Ok(16000000000000));
+        assert!(rt; asked(&[-1000000000000; 5]) == Ok(-5000000000000));
+        assert!(rt; asked(&[0, 0, 0, 0, 1000000000001]) == Err(Refusal::OutOfRange));
+        assert!(rt; asked(&[-1000000000001, 0, 0, 0, 0]) == Err(Refusal::OutOfRange));
+        assert!(rt; asked(&[1, 1, 1, 1]) == Err(Refusal::FigureCount));
+        assert!(rt; asked(&[1000000000001; 17]) == Err(Refusal::FigureCount));
+    }
 }
