@@ -3,14 +3,26 @@
 use Rattle.std.proofs.Common.{◌≡◌, ℕ, suc, ◌+◌, ◌-◌, ◌≤◌, ◌<◌, List, [], ◌∷◌, ◌++◌, length, take, drop, set, get_or, map, min, refl, sym, ap, ◌∙◌, append-nil, append_assoc, add-one, arith, drop-cons, drop_of_length-le, take_all, length-drop, length-take-le}
 use Rattle.std.proofs.lemmas.List.{length-take, take-append-drop, drop-drop}
 use Rattle.std.proofs.lemmas.Slice.{take-put_mid, drop-put_mid}
+use Rattle.std.specs.Borrow.{MutBor}
 use borrow.Rule.Slice.PartMut.{put_mid}
 use borrow.Author.Tests.{leb-true, leb-false}
 use lib.Dec.{leb}
 use lib.Seq.{set_split}
 use Rattle.laws.specs.Cases.{split}
 use Rattle.printing.specs.Decimals.{spaced}
-use Rattle.printing.specs.Written.{Sheet, followed}
+use Rattle.printing.specs.Written.{Sheet, written_on, room_on, rest_on, lent, followed, emptied}
 use Rattle.printing.specs.WrittenLaws.{sheet_of, same_sheet}
+
+-- nothing is written yet
+pub none_yet : (r : MutBor (List ℕ)) → (written_on (lent r) ≡ []) × (room_on (lent r) ≡ length r.now) × (rest_on (lent r) ≡ r.now)
+unfolding lent
+none_yet r = (refl, omega arith, refl)
+
+-- nothing is written any more
+pub none_more : (s : Sheet) → (written_on (emptied s) ≡ []) × (room_on (emptied s) ≡ length (written_on s) + room_on s)
+    × (rest_on (emptied s) ≡ written_on s ++ rest_on s)
+unfolding emptied
+none_more s = (refl, omega (arith, length-take s.end s.bytes.now), sym (take-append-drop s.end s.bytes.now))
 
 -- as much of a text as there is room for
 as-far : (t : List ℕ) (room n : ℕ) → n ≡ min (length t) room → take n t ≡ take room t

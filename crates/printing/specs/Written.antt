@@ -1,6 +1,6 @@
 -- What is written into lent bytes.
 -- Assumes nothing.
-use Rattle.std.specs.Prelude.{ℕ, ◌+◌, ◌-◌, List, ◌++◌, length, take, drop, replicate}
+use Rattle.std.specs.Prelude.{ℕ, ◌+◌, ◌-◌, ◌≤◌, List, ◌++◌, length, take, drop, replicate}
 use Rattle.std.specs.Borrow.{MutBor}
 use Rattle.printing.specs.declared.lent.Out.{Out}
 
@@ -18,6 +18,10 @@ room_on s = length s.bytes.now - s.end
 
 abbrev pub rest_on : Sheet → List ℕ
 rest_on s = drop s.end s.bytes.now
+
+-- What is written ends within the bytes.
+abbrev pub EndsWithin : Sheet → Type 0
+EndsWithin s = s.end ≤ length s.bytes.now
 
 -- The same reference, behind which these bytes stand.
 abbrev pub with_bytes : MutBor (List ℕ) → List ℕ → MutBor (List ℕ)

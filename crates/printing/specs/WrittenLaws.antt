@@ -11,7 +11,7 @@ use lib.ListN.{length-replicate}
 use lib.Seq.{take-append-add, drop-append-add, take-append_seam, drop-append_seam}
 use Rattle.laws.specs.Cases.{split}
 use Rattle.printing.specs.Decimals.{numeral, decimal, spaced, joined}
-use Rattle.printing.specs.Written.{Sheet, written_on, room_on, rest_on, with_bytes, lent, followed, emptied, nameless, sized, blank}
+use Rattle.printing.specs.Written.{Sheet, written_on, room_on, rest_on, EndsWithin, with_bytes, lent, followed, emptied, nameless, sized, blank}
 
 -- Texts one behind the other.
 
@@ -98,6 +98,22 @@ module _ (s : Sheet) (t : List ℕ) where
   -- where there is room for all bytes, they stand behind what was written
   pub written_fits : length t ≤ room_on s → written_on (followed s t) ≡ written_on s ++ t
   written_fits h = written_more ∙ ap (λ (u : List ℕ). written_on s ++ u) (take_all (room_on s) t h)
+
+-- What is written ends within the bytes: in bytes just lent, behind a text where it did before, and where they are cleared.
+pub within_lent : (r : MutBor (List ℕ)) → EndsWithin (lent r)
+unfolding lent
+within_lent r = omega arith
+
+pub within_followed : (s : Sheet) (t : List ℕ) → EndsWithin s → EndsWithin (followed s t)
+unfolding followed
+within_followed s t h =
+    let put : List ℕ = take (room_on s) t in
+    let behind : List ℕ = drop (length t) (rest_on s) in
+    omega (arith, h, length-append (written_on s) (put ++ behind), length-append put behind, length-take s.end s.bytes.now)
+
+pub within_emptied : (s : Sheet) → EndsWithin (emptied s)
+unfolding emptied
+within_emptied s = omega arith
 
 -- nothing is written
 pub followed_none : (s : Sheet) → followed s [] ≡ s

@@ -1,7 +1,7 @@
 // Texts written into lent bytes, one behind the other. What has no room is not written.
 ghost use Rattle.std.specs.Prelude.{◌≡◌, ◌==◌, ℕ, List, [], ◌∷◌, ◌++◌, length, map, replicate};
 ghost use Rattle.printing.specs.Decimals.{spaced, joined};
-ghost use Rattle.printing.specs.Written.{written_on, room_on, lent, lent_behind, followed, emptied};
+ghost use Rattle.printing.specs.Written.{written_on, room_on, EndsWithin, lent, lent_behind, followed, emptied};
 
 // Lent bytes, of which those up to `end` are written; where it lies behind them, all are. A clause sees the reference to them too, so who lent
 // them knows what stands there once this is gone.
@@ -158,5 +158,33 @@ impl<'a> Puts for &'a [u8] {
 
     fn put_in(self, out: &mut Out) {
         out.text(self)
+    }
+}
+
+#[cfg(test)]
+mod tests {
+    use super::*;
+
+    // Lent bytes in which two texts are written one behind the other and, once these are cleared, the second again.
+    #[tactic(auto, using(crate::specs::WrittenLaws::within_lent, crate::specs::WrittenLaws::within_followed, crate::specs::WrittenLaws::within_emptied))]
+    fn written_again<'a>(bytes: &'a mut [u8], first: &[u8], second: &[u8]) -> Out<'a>
+        ensures { EndsWithin result }
+    {
+        let mut out = Out::new(bytes);
+        out.text(first);
+        out.text(second);
+        out.clear();
+        out.text(second);
+        out
+    }
+
+    #[test]
+    fn what_is_written_ends_within_the_bytes(rt: HostRuntime) {
+        let mut bytes = *b"......";
+        let out = written_again(&mut bytes, b"four", b"seventh");
+        assert!(rt; out.written() == b"sevent".as_slice() && out.room() == 0);
+        let mut bytes = *b"......";
+        let out = written_again(&mut bytes, b"four", b"one");
+        assert!(rt; out.written() == b"one".as_slice() && out.room() == 3);
     }
 }
